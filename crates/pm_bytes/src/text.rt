@@ -1,6 +1,6 @@
 //! A text that can name a file or a program.
-ghost use Rattle.std.specs.Prelude.{◌≡◌, IfOk, true, false};
-ghost use Rattle.pm_bytes.specs.Name.{is_usable};
+ghost use Rattle.std.specs.Prelude.{◌≡◌, IfOk, true, false, string_bytes};
+ghost use Rattle.pm_bytes.specs.Name.{is_usable, has_zero};
 
 use crate::{Memory, NameRefused};
 use std::alloc::Global;
@@ -13,17 +13,21 @@ pub struct Name {
 }
 
 impl Model for Name {
-    ghost use Rattle.std.specs.Prelude.{List, ℕ, string_bytes};
+    ghost use Rattle.std.specs.Prelude.{◌≡◌, List, ℕ, false, string_bytes};
+    ghost use Rattle.pm_bytes.specs.Name.{has_zero};
 
     ghost Value = { List ℕ };
 
     ghost view = { λ n. string_bytes n.text };
+
+    ghost invariant = { λ n. has_zero (string_bytes n.text) ≡ false };
 }
 
 impl Name {
     pub fn read(alloc: Global, bytes: &[u8]) -> Result<Name, NameRefused>
         ensures ok { IfOk result (λ name. (name ≡ bytes.now) × (is_usable bytes.now ≡ true)) }
         ensures unusable { result ≡ Err NameRefused.Unusable → is_usable bytes.now ≡ false }
+        ensures refused { is_usable bytes.now ≡ false → result ≡ Err NameRefused.Unusable }
     {
         let Ok(text) = std::str::from_utf8(bytes) else {
             return Err(NameRefused::Unusable);
@@ -37,8 +41,17 @@ impl Name {
         }
     }
 
+    /// The same text as a name. It takes no memory.
+    pub fn from_text(text: String) -> Name
+        requires { has_zero (string_bytes text) ≡ false }
+        ensures { result ≡ string_bytes text }
+    {
+        Name { text }
+    }
+
     pub fn as_str(&self) -> &str
-        ensures { result.now ≡ self.now }
+        ensures same { result.now ≡ self.now }
+        ensures usable { is_usable self.now ≡ true }
     {
         self.text.as_str()
     }
