@@ -6,3 +6,4 @@ pub mod Replies
 pub mod Entries
 pub mod Noted
 pub mod Held
+pub mod LogText

@@ -6,7 +6,9 @@ pub mod acts;
 pub mod appending;
 pub mod journal;
 pub mod laws;
+pub mod log_texts;
 
 pub use acts::{Act, Counts, Entry, Reply};
 pub use appending::{AppendEnd, AppendState, AppendStep};
 pub use journal::Journal;
+pub use log_texts::{bytes_left, couldnt_read, couldnt_write, no_delivery};
