@@ -80,7 +80,7 @@ accounts_none s = record {
   covered = tt;
 }
 
-AllRight-split : (cs ds : List Logged) (w : World) → AllRight (cs ++ ds) w → AllRight cs w × AllRight ds (after_calls cs w)
+pub AllRight-split : (cs ds : List Logged) (w : World) → AllRight (cs ++ ds) w → AllRight cs w × AllRight ds (after_calls cs w)
 AllRight-split [] ds w r = (tt, r)
 AllRight-split (c ∷ cs) ds w r = let s = AllRight-split cs ds (after_call c.call c.answer w) r.1 in ((r.0, s.0), s.1)
 
@@ -95,7 +95,7 @@ reading_same name [] at last w walk = refl
 reading_same name (c ∷ cs) at last w walk =
     ap (after_calls cs) (asked_same name at c.call c.answer w walk.0) ∙ reading_same name cs (read_heard at c.answer) last w walk.2
 
-same_end : (end : AppendEnd) → append_end_of (append_reply end) ≡ end
+pub same_end : (end : AppendEnd) → append_end_of (append_reply end) ≡ end
 same_end EndDone = refl
 same_end EndUndone = refl
 same_end (EndTorn n) = refl

@@ -6,3 +6,4 @@ pub mod OneAct
 pub mod ReadJoin
 pub mod KeepsJoin
 pub mod LocksLeft
+pub mod DeliveriesHold

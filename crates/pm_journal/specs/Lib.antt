@@ -7,3 +7,4 @@ pub mod Entries
 pub mod Noted
 pub mod Held
 pub mod LogText
+pub mod Deliveries

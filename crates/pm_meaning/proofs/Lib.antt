@@ -1,0 +1,5 @@
+pub mod PlanJoin
+pub mod OneAct
+pub mod WantsMemory
+pub mod WalkJoin
+pub mod Lines

@@ -1,0 +1,47 @@
+-- A plan, carried out and noted, to its end or to a want of memory.
+use Rattle.std.specs.Prelude.{◌≡◌, List, [], ◌++◌, ◌⊎◌}
+use Rattle.pm_journal.specs.JournalState.{JournalState}
+use Rattle.pm_journal.specs.Entries.{View, Accounts}
+use Rattle.pm_meaning.specs.Plan.{Plan, Plays, Wants}
+use Rattle.pm_host.specs.Runs.{Ran}
+use Rattle.pm_journal.specs.Reading.{ReadState, ReadPrefix}
+use Rattle.pm_host.specs.declared.calls.Logged.{Logged}
+use Rattle.pm_journal.specs.declared.acts.Act.TheVariants.{ReadFile}
+use Rattle.pm_journal.specs.declared.acts.Act.{Act}
+use Rattle.pm_journal.specs.declared.acts.Entry.{Entry}
+
+-- the plan was carried out to this end, and noted
+pub record Executes {R : Type 0} (plan : Plan R) (end : R) (old new : JournalState) (before after : View) : Type 0 where
+  pub more : List Entry
+  pub entries : new.entries ≡ old.entries ++ more
+  pub plays : Plays plan more end
+  pub accounts : Accounts more before after
+
+-- the calls of an act that was left off for want of memory
+abbrev pub UnfinishedCalls : Act → List Logged → Type 0
+UnfinishedCalls (ReadFile name) calls = (at : ReadState) × ReadPrefix name at calls
+UnfinishedCalls act calls = calls ≡ []
+
+-- an act was left off
+pub record WantsAct {R : Type 0} (plan : Plan R) (entries : List Entry) (calls : List Logged) : Type 0 where
+  pub wanted : Act
+  pub wants : Wants plan entries wanted
+  pub leaves : UnfinishedCalls wanted calls
+
+-- nothing was left off
+pub record HasEnded {R : Type 0} (plan : Plan R) (entries : List Entry) (calls : List Logged) : Type 0 where
+  pub end : R
+  pub plays : Plays plan entries end
+  pub none : calls ≡ []
+
+-- Memory was wanting in the middle of the plan or at its end: some of it was carried out and noted, and the act that it wants next, if any, was left off.
+pub record OutOfMemory {R : Type 0} (plan : Plan R) (old new : JournalState) (before after : View) : Type 0 where
+  pub more : List Entry
+  pub entries : new.entries ≡ old.entries ++ more
+  pub middle : View
+  pub accounts : Accounts more before middle
+  pub left_off : List Logged
+  pub where_off : WantsAct plan more left_off ⊎ HasEnded plan more left_off
+  pub ran : Ran left_off middle.host after.host
+  pub out_same : after.out ≡ middle.out
+  pub err_same : after.err ≡ middle.err

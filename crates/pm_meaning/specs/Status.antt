@@ -1,0 +1,24 @@
+-- The exit status of a run.
+use Rattle.std.specs.Prelude.{ℕ}
+use Rattle.pm_meaning.specs.declared.process.End.{End}
+use Rattle.pm_meaning.specs.declared.process.End.TheVariants.{Delivered, FellOff, NoRc, NotBuilt as EndNotBuilt}
+use Rattle.pm_meaning.specs.declared.status.Status.{Status}
+use Rattle.pm_meaning.specs.declared.status.Status.TheVariants.{Success, Usage, DataError, NoInput, SystemError, CannotCreate, InputOutput, NotBuilt}
+
+-- the numbers of sysexits(3)
+abbrev pub status_number : Status → ℕ
+status_number Success = 0
+status_number Usage = 64
+status_number DataError = 65
+status_number NoInput = 66
+status_number SystemError = 71
+status_number CannotCreate = 73
+status_number InputOutput = 74
+status_number NotBuilt = 78
+
+-- the status of a process's end
+abbrev pub end_status : End → Status
+end_status Delivered = Success
+end_status FellOff = CannotCreate
+end_status NoRc = NoInput
+end_status EndNotBuilt = NotBuilt

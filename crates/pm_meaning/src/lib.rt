@@ -1,0 +1,11 @@
+//! What a run means: the plan that a process carries out, act by act as the replies decide, the command line, and the
+//! exit status.
+#![tactic(auto)]
+
+pub mod command_line;
+pub mod process;
+pub mod status;
+
+pub use command_line::CommandLine;
+pub use process::{End, Process};
+pub use status::{Status, status_of};

@@ -1,0 +1,4 @@
+pub mod Letters
+pub mod Keeps
+pub mod RunLemmas
+pub mod TopLemmas

@@ -1,0 +1,61 @@
+-- A source is read to its end.
+use Rattle.std.specs.Prelude.{◌≡◌, ◌≤◌, ℕ, List, [], ◌++◌, length}
+use Rattle.pm_host.specs.Told.{Tells, Rose}
+use Rattle.pm_host.specs.Streams.{StreamView}
+use Rattle.pm_top.specs.declared.drain.Part.{Part}
+use Rattle.pm_top.specs.declared.drain.Part.TheVariants.{More, End, Failed as PartFailed}
+use Rattle.pm_top.specs.declared.drain.Mail.{Mail}
+use Rattle.pm_top.specs.declared.drain.Mail.TheVariants.{Bytes, TooMany, Failed}
+
+-- these bytes came off the front
+abbrev pub TakesOff : List ℕ → List ℕ → List ℕ → Type 0
+TakesOff part old new = old ≡ part ++ new
+
+-- these bytes were left, and none is
+abbrev pub IsDrained : List ℕ → List ℕ → List ℕ → Type 0
+IsDrained bytes old new = (old ≡ bytes) × (new ≡ [])
+
+-- the first 67,108,865 bytes came off the front, one more than a message may have
+pub record IsTooMuch (old new : List ℕ) : Type 0 where
+  pub taken : List ℕ
+  pub off : old ≡ taken ++ new
+  pub past : length taken ≡ 67108865
+
+-- a source that tells counted no fault
+abbrev pub NoFault : StreamView → StreamView → Type 0
+NoFault before after = Tells (λ old new. after.faults ≡ before.faults) before.bytes after.bytes
+
+-- the source was read to its end, and these bytes came
+pub record Drained (bytes : List ℕ) (before after : StreamView) : Type 0 where
+  pub came : Tells (IsDrained bytes) before.bytes after.bytes
+  pub steady : NoFault before after
+
+-- the source was read past the limit
+pub record ReadPast (before after : StreamView) : Type 0 where
+  pub came : Tells IsTooMuch before.bytes after.bytes
+  pub steady : NoFault before after
+
+abbrev pub Drains : Mail → StreamView → StreamView → Type 0
+Drains (Bytes bytes) before after = Drained bytes before after
+Drains TooMany before after = ReadPast before after
+Drains Failed before after = Rose before.faults after.faults
+
+-- some bytes came and were added
+pub record ComesMore (most : ℕ) (old new : List ℕ) (before after : StreamView) : Type 0 where
+  pub part : List ℕ
+  pub added : new ≡ old ++ part
+  pub some : 1 ≤ length part
+  pub fits : length part ≤ most
+  pub off : Tells (TakesOff part) before.bytes after.bytes
+  pub later : before.faults ≤ after.faults
+  pub steady : NoFault before after
+
+pub record ComesEnd (old new : List ℕ) (before after : StreamView) : Type 0 where
+  pub same : new ≡ old
+  pub came : Tells (IsDrained []) before.bytes after.bytes
+  pub steady : NoFault before after
+
+abbrev pub Comes : Part → ℕ → List ℕ → List ℕ → StreamView → StreamView → Type 0
+Comes More most old new before after = ComesMore most old new before after
+Comes End most old new before after = ComesEnd old new before after
+Comes PartFailed most old new before after = Rose before.faults after.faults

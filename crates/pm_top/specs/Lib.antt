@@ -1,0 +1,3 @@
+pub mod Drain
+pub mod Steps
+pub mod Headline

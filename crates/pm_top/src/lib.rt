@@ -1,0 +1,14 @@
+//! The program procmail without its machine: the words and the message are read, the recipes are carried out through
+//! the host and the sinks that are handed in, and every act is noted.
+#![tactic(auto)]
+
+pub mod drain;
+pub mod rcform;
+pub mod run;
+pub mod top;
+pub mod words;
+
+pub use drain::{Mail, read_mail};
+pub use run::run_process;
+pub use top::procmail;
+pub use words::read_words;
