@@ -18,15 +18,15 @@ head_len fresh [] = 0
 head_len true (b ∷ bs) = cond (b == 10) 1 (suc (head_len false bs))
 head_len false (b ∷ bs) = cond (b == 10) (suc (head_len true bs)) (suc (head_len false bs))
 
-pub first : (b : ℕ) (bs : List ℕ) → b ≡ 10 → head_len true (b ∷ bs) ≡ 1
-first b bs e = subst (λ x. head_len true (x ∷ bs) ≡ 1) (sym e) refl
+pub head_len-first : (b : ℕ) (bs : List ℕ) → b ≡ 10 → head_len true (b ∷ bs) ≡ 1
+head_len-first b bs e = subst (λ x. head_len true (x ∷ bs) ≡ 1) (sym e) refl
 
-pub break : (b : ℕ) (bs : List ℕ) → b ≡ 10 → head_len false (b ∷ bs) ≡ suc (head_len true bs)
-break b bs e = subst (λ x. head_len false (x ∷ bs) ≡ suc (head_len true bs)) (sym e) refl
+pub head_len-break : (b : ℕ) (bs : List ℕ) → b ≡ 10 → head_len false (b ∷ bs) ≡ suc (head_len true bs)
+head_len-break b bs e = subst (λ x. head_len false (x ∷ bs) ≡ suc (head_len true bs)) (sym e) refl
 
-pub on : (fresh : Bool) (b : ℕ) (bs : List ℕ) → (b ≡ 10 → ⊥) → head_len fresh (b ∷ bs) ≡ suc (head_len false bs)
-on true b bs ne = rw (ne_eqb b 10 ne) refl
-on false b bs ne = rw (ne_eqb b 10 ne) refl
+pub head_len-on : (fresh : Bool) (b : ℕ) (bs : List ℕ) → (b ≡ 10 → ⊥) → head_len fresh (b ∷ bs) ≡ suc (head_len false bs)
+head_len-on true b bs ne = rw (ne_eqb b 10 ne) refl
+head_len-on false b bs ne = rw (ne_eqb b 10 ne) refl
 
 -- the head's lines and the body's, where the first line may be the rest of a line
 abbrev head_rest : Bool → List (List ℕ) → List (List ℕ)
@@ -58,31 +58,31 @@ pub head_rest-take : (fresh : Bool) (bs : List ℕ) → concat (head_rest fresh 
 head_rest-take true [] = refl
 head_rest-take false [] = refl
 head_rest-take true (b ∷ bs) = ⊎_elim
-    (λ e. rw (lines-break b bs e, first b bs e, e) refl)
-    (λ ne. rw (lines-on b bs ne, on true b bs ne) (head_rest-on true b (lines bs) ne ∙ ap (λ t. b ∷ t) (head_rest-take false bs)))
+    (λ e. rw (lines-break b bs e, head_len-first b bs e, e) refl)
+    (λ ne. rw (lines-on b bs ne, head_len-on true b bs ne) (head_rest-on true b (lines bs) ne ∙ ap (λ t. b ∷ t) (head_rest-take false bs)))
     (cases_eq b 10)
 head_rest-take false (b ∷ bs) = ⊎_elim
-    (λ e. rw (lines-break b bs e, break b bs e) (ap (λ t. b ∷ t) (head_rest-take true bs)))
-    (λ ne. rw (lines-on b bs ne, on false b bs ne) (head_rest-on false b (lines bs) ne ∙ ap (λ t. b ∷ t) (head_rest-take false bs)))
+    (λ e. rw (lines-break b bs e, head_len-break b bs e) (ap (λ t. b ∷ t) (head_rest-take true bs)))
+    (λ ne. rw (lines-on b bs ne, head_len-on false b bs ne) (head_rest-on false b (lines bs) ne ∙ ap (λ t. b ∷ t) (head_rest-take false bs)))
     (cases_eq b 10)
 
 pub body_rest-drop : (fresh : Bool) (bs : List ℕ) → concat (body_rest fresh (lines bs)) ≡ drop (head_len fresh bs) bs
 body_rest-drop true [] = refl
 body_rest-drop false [] = refl
 body_rest-drop true (b ∷ bs) = ⊎_elim
-    (λ e. rw (lines-break b bs e, first b bs e, e) (concat-lines bs))
-    (λ ne. rw (lines-on b bs ne, on true b bs ne) (ap concat (body_rest-on true b (lines bs) ne) ∙ body_rest-drop false bs))
+    (λ e. rw (lines-break b bs e, head_len-first b bs e, e) (concat-lines bs))
+    (λ ne. rw (lines-on b bs ne, head_len-on true b bs ne) (ap concat (body_rest-on true b (lines bs) ne) ∙ body_rest-drop false bs))
     (cases_eq b 10)
 body_rest-drop false (b ∷ bs) = ⊎_elim
-    (λ e. rw (lines-break b bs e, break b bs e) (body_rest-drop true bs))
-    (λ ne. rw (lines-on b bs ne, on false b bs ne) (ap concat (body_rest-on false b (lines bs) ne) ∙ body_rest-drop false bs))
+    (λ e. rw (lines-break b bs e, head_len-break b bs e) (body_rest-drop true bs))
+    (λ ne. rw (lines-on b bs ne, head_len-on false b bs ne) (ap concat (body_rest-on false b (lines bs) ne) ∙ body_rest-drop false bs))
     (cases_eq b 10)
 
 -- a text that begins with a newline
 pub newline_first : (bs : List ℕ) → starts_with nat_eq bs (codes "\n") ≡ true → head_len true bs ≡ 1
 newline_first [] e = absurd (false≢true e)
 newline_first (b ∷ bs) e = ⊎_elim
-    (λ is. first b bs is)
+    (λ is. head_len-first b bs is)
     (λ ne. absurd (false≢true (sym (rw (ne_eqb 10 b (λ t. ne (sym t))) refl) ∙ e)))
     (cases_eq b 10)
 
@@ -114,20 +114,20 @@ occurring bs k o = (
 
 head_len-newline : (bs : List ℕ) → get_or bs 0 0 ≡ 10 → head_len true bs ≡ 1
 head_len-newline [] e = absurd (omega (arith, e))
-head_len-newline (b ∷ bs) e = first b bs e
+head_len-newline (b ∷ bs) e = head_len-first b bs e
 
 -- the first two newlines in a row end the head
 found : (fresh : Bool) (bs : List ℕ) (k : ℕ) → (fresh ≡ true → get_or bs 0 0 ≡ 10 → ⊥) → get_or bs k 0 ≡ 10 → get_or bs (suc k) 0 ≡ 10 → ((j : ℕ) → j < k → get_or bs j 0 ≡ 10 → get_or bs (suc j) 0 ≡ 10 → ⊥) → head_len fresh bs ≡ suc (suc k)
 found fresh [] k start a e none = absurd (omega (arith, a))
 found true (b ∷ bs) zero start a e none = absurd (start refl a)
-found false (b ∷ bs) zero start a e none = break b bs a ∙ ap suc (head_len-newline bs e)
+found false (b ∷ bs) zero start a e none = head_len-break b bs a ∙ ap suc (head_len-newline bs e)
 found true (b ∷ bs) (suc k) start a e none = ⊎_elim
     (λ is. absurd (start refl is))
-    (λ ne. on true b bs ne ∙ ap suc (found false bs k (λ t _. false≢true t) a e (λ j lt. none (suc j) (omega (arith, lt)))))
+    (λ ne. head_len-on true b bs ne ∙ ap suc (found false bs k (λ t _. false≢true t) a e (λ j lt. none (suc j) (omega (arith, lt)))))
     (cases_eq b 10)
 found false (b ∷ bs) (suc k) start a e none = ⊎_elim
-    (λ is. break b bs is ∙ ap suc (found true bs k (λ _ next. none 0 (omega arith) is next) a e (λ j lt. none (suc j) (omega (arith, lt)))))
-    (λ ne. on false b bs ne ∙ ap suc (found false bs k (λ t _. false≢true t) a e (λ j lt. none (suc j) (omega (arith, lt)))))
+    (λ is. head_len-break b bs is ∙ ap suc (found true bs k (λ _ next. none 0 (omega arith) is next) a e (λ j lt. none (suc j) (omega (arith, lt)))))
+    (λ ne. head_len-on false b bs ne ∙ ap suc (found false bs k (λ t _. false≢true t) a e (λ j lt. none (suc j) (omega (arith, lt)))))
     (cases_eq b 10)
 
 -- and without them all is head
@@ -136,11 +136,11 @@ nowhere true [] start none = refl
 nowhere false [] start none = refl
 nowhere true (b ∷ bs) start none = ⊎_elim
     (λ is. absurd (start refl is))
-    (λ ne. on true b bs ne ∙ ap suc (nowhere false bs (λ t _. false≢true t) (λ j. none (suc j))))
+    (λ ne. head_len-on true b bs ne ∙ ap suc (nowhere false bs (λ t _. false≢true t) (λ j. none (suc j))))
     (cases_eq b 10)
 nowhere false (b ∷ bs) start none = ⊎_elim
-    (λ is. break b bs is ∙ ap suc (nowhere true bs (λ _ next. none 0 is next) (λ j. none (suc j))))
-    (λ ne. on false b bs ne ∙ ap suc (nowhere false bs (λ t _. false≢true t) (λ j. none (suc j))))
+    (λ is. head_len-break b bs is ∙ ap suc (nowhere true bs (λ _ next. none 0 is next) (λ j. none (suc j))))
+    (λ ne. head_len-on false b bs ne ∙ ap suc (nowhere false bs (λ t _. false≢true t) (λ j. none (suc j))))
     (cases_eq b 10)
 
 pub head_len-some : (bs : List ℕ) (k : ℕ) → (get_or bs 0 0 ≡ 10 → ⊥) → NoneBefore (OccursAt bs two) 0 (length bs + 1) k × OccursAt bs two k → head_len true bs ≡ k + 2

@@ -2,7 +2,7 @@
 use Rattle.std.proofs.Common.{◌≡◌, ◌⊎◌, ℕ, zero, suc, ◌≤◌, Bool, true, false, List, [], ◌∷◌, ◌++◌, take, drop, refl, ap, inl, inr, ⊎_elim, arith, codes, take-append-drop, length-take}
 use Rattle.std.proofs.lemmas.Bool.{cases_eq, false≢true}
 use Rattle.pm_message.specs.Split.{split_of, IsSplit}
-use Rattle.pm_message.proofs.HeadLemmas.{head_len, first, break, on, head_rest-take, body_rest-drop}
+use Rattle.pm_message.proofs.HeadLemmas.{head_len, head_len-first, head_len-break, head_len-on, head_rest-take, body_rest-drop}
 
 -- the text ends with two newlines
 abbrev EndsTwice : List ℕ → Type 0
@@ -38,12 +38,12 @@ shortest true [] n e = omega arith
 shortest false [] n e = omega arith
 shortest fresh (b ∷ bs) zero e = absurd (not_empty fresh e)
 shortest true (b ∷ bs) (suc n) e = ⊎_elim
-    (λ is. omega (arith, first b bs is))
-    (λ ne. (let h = shortest false bs n (after_other true b (take n bs) ne e) in omega (arith, on true b bs ne, h)))
+    (λ is. omega (arith, head_len-first b bs is))
+    (λ ne. (let h = shortest false bs n (after_other true b (take n bs) ne e) in omega (arith, head_len-on true b bs ne, h)))
     (cases_eq b 10)
 shortest false (b ∷ bs) (suc n) e = ⊎_elim
-    (λ is. (let h = shortest true bs n (after_break b (take n bs) e) in omega (arith, break b bs is, h)))
-    (λ ne. (let h = shortest false bs n (after_other false b (take n bs) ne e) in omega (arith, on false b bs ne, h)))
+    (λ is. (let h = shortest true bs n (after_break b (take n bs) e) in omega (arith, head_len-break b bs is, h)))
+    (λ ne. (let h = shortest false bs n (after_other false b (take n bs) ne e) in omega (arith, head_len-on false b bs ne, h)))
     (cases_eq b 10)
 
 -- one byte more in front
@@ -63,12 +63,12 @@ pub ends : (fresh : Bool) (bs : List ℕ) → EndsAt fresh (take (head_len fresh
 ends true [] = inr refl
 ends false [] = inr refl
 ends true (b ∷ bs) = ⊎_elim
-    (λ is. rw (first b bs is) (inl (inl (refl, ap (λ x. x ∷ []) is))))
-    (λ ne. rw (on true b bs ne) (in_front true b _ _ (ends false bs)))
+    (λ is. rw (head_len-first b bs is) (inl (inl (refl, ap (λ x. x ∷ []) is))))
+    (λ ne. rw (head_len-on true b bs ne) (in_front true b _ _ (ends false bs)))
     (cases_eq b 10)
 ends false (b ∷ bs) = ⊎_elim
-    (λ is. rw (break b bs is) (newline_in_front b _ _ is (ends true bs)))
-    (λ ne. rw (on false b bs ne) (in_front false b _ _ (ends false bs)))
+    (λ is. rw (head_len-break b bs is) (newline_in_front b _ _ is (ends true bs)))
+    (λ ne. rw (head_len-on false b bs ne) (in_front false b _ _ (ends false bs)))
     (cases_eq b 10)
 
 -- the lines up to the first empty one are the shortest prefix that ends with an empty line

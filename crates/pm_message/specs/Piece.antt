@@ -32,7 +32,9 @@ with_newline text = if ends_with nat_eq text (codes "\n") then text else text ++
 
 -- the text with a newline at its end, and then one more unless it ends with two
 abbrev pub ended : List ℕ → List ℕ
-ended text = if ends_with nat_eq (with_newline text) (codes "\n\n") then with_newline text else with_newline text ++ codes "\n"
+ended text =
+    if ends_with nat_eq (with_newline text) (codes "\n\n") then with_newline text
+    else with_newline text ++ codes "\n"
 
 -- an empty text stays so, and so does any text under the flag `r`
 abbrev pub ended_unless : Bool → List ℕ → List ℕ
