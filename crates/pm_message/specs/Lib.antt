@@ -1,0 +1,4 @@
+pub mod FromLine
+pub mod Lines
+pub mod Piece
+pub mod Split
