@@ -1,0 +1,5 @@
+pub mod Calls
+pub mod Counts
+pub mod Node
+pub mod Plan
+pub mod Tree

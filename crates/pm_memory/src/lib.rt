@@ -1,0 +1,7 @@
+//! The outside in memory: a tree of files, a source and a sink that are set up with contents and faults, tell all
+//! that they hold, and keep what was asked of them.
+#![tactic(auto)]
+
+mod calls;
+mod plan;
+mod tree;
