@@ -23,6 +23,7 @@ pub record IsNoneOf (reserved : ℕ) (c : Calls) : Type 0 where
 pub record Counts (failed lacked : Bool) (old new : Calls) : Type 0 where
   pub came : new.came ≡ risen old.came
   pub faults : new.faults ≡ cond failed (risen old.faults) old.faults
+  pub later : old.faults ≤ new.faults
   pub starved : new.starved ≡ cond lacked (risen old.starved) old.starved
   pub list : new.list ≡ old.list
   pub reserved_ : new.reserved ≡ old.reserved
@@ -36,6 +37,7 @@ Lists (Err e) old new = is_whole new ≡ true → ⊥
 pub record Settles (refused : Option Refused) (logged : Result Logged WantOfMemory) (old new : Calls) : Type 0 where
   pub came : new.came ≡ risen old.came
   pub faults : new.faults ≡ cond (is_some refused) (risen old.faults) old.faults
+  pub later : old.faults ≤ new.faults
   pub starved : (new.starved ≡ old.starved) ⊎ (new.starved ≡ risen old.starved)
   pub lacked : refused ≡ Some Memory → new.starved ≡ risen old.starved
   pub reserved_ : new.reserved ≡ old.reserved

@@ -1,5 +1,6 @@
 pub mod Calls
 pub mod Counts
+pub mod Host
 pub mod Node
 pub mod Plan
 pub mod Tree

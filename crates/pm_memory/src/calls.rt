@@ -86,7 +86,8 @@ impl Calls {
 
 // A count that rises in some cases, and stands still at its end.
 fn raised(count: u64, rises: bool) -> u64
-    ensures { result ≡ cond rises (risen count) count }
+    ensures risen { result ≡ cond rises (risen count) count }
+    ensures later { count ≤ result }
 {
     if rises { count.saturating_add(1) } else { count }
 }

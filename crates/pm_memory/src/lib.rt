@@ -3,5 +3,10 @@
 #![tactic(auto)]
 
 mod calls;
+mod entries;
+pub mod host;
+mod hosting;
 mod plan;
 mod tree;
+
+pub use host::MemoryHost;
