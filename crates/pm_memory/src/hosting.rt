@@ -87,3 +87,128 @@ impl MemoryHost {
         self.tree.remove(name)
     }
 }
+
+impl Host for MemoryHost {
+    ghost use Rattle.std.specs.Prelude.{true, false, cond, Some, None, IsSome};
+    ghost use Rattle.pm_memory.specs.Calls.{is_whole};
+    ghost use Rattle.pm_memory.specs.Host.{host_view, world_of, calls_of, Serves};
+
+    ghost told = { host_view };
+
+    ghost tells_calls = { λ h. elim (is_whole h.calls) as (λ b. IsSome (cond b (Some (world_of h)) None) → IsSome (cond b (Some (calls_of h)) None)) [ true ↦ λ told. told | false ↦ λ told. told ] };
+
+    fn faults(&self) -> u64 {
+        self.calls.faults()
+    }
+
+    fn look(&mut self, name: &str) -> Looked
+        ensures makes { Makes (Call.Look name.now) (Answer.Look result) (host_view self.old) (host_view self.new) }
+        ensures serves { Serves (Call.Look name.now) (Answer.Look result) self.old self.new }
+    {
+        match self.look_now(name) {
+            Ok(looked) => {
+                let entry = looked_entry(self.alloc, name, looked);
+                self.calls.settle(None, entry);
+                looked
+            }
+            Err(refused) => {
+                let entry = looked_entry(self.alloc, name, Looked::Failed);
+                self.calls.settle(Some(refused), entry);
+                Looked::Failed
+            }
+        }
+    }
+
+    fn read(&mut self, name: &str, at: u64, room: &mut [u8]) -> Got
+        requires { 0 < length room.old }
+        ensures made { Makes (Call.Read name.now at (length room.old)) (read_answer result room.new) (host_view self.old) (host_view self.new) }
+        ensures within { IsWithin result (length room.old) }
+        ensures serves { Serves (Call.Read name.now at (length room.old)) (read_answer result room.new) self.old self.new }
+    {
+        match self.read_now(name, at, room) {
+            Ok(count) => {
+                let entry = read_entry(self.alloc, name, at, room, Got::Got(count));
+                self.calls.settle(None, entry);
+                Got::Got(count)
+            }
+            Err(refused) => {
+                let entry = read_entry(self.alloc, name, at, room, Got::Failed);
+                self.calls.settle(Some(refused), entry);
+                Got::Failed
+            }
+        }
+    }
+
+    fn create(&mut self, name: &str) -> Made
+        ensures makes { Makes (Call.Create name.now) (Answer.Create result) (host_view self.old) (host_view self.new) }
+        ensures serves { Serves (Call.Create name.now) (Answer.Create result) self.old self.new }
+    {
+        match self.create_now(name) {
+            Ok(made) => {
+                let entry = created_entry(self.alloc, name, made);
+                self.calls.settle(None, entry);
+                made
+            }
+            Err(refused) => {
+                let entry = created_entry(self.alloc, name, Made::Failed);
+                self.calls.settle(Some(refused), entry);
+                Made::Failed
+            }
+        }
+    }
+
+    fn append(&mut self, name: &str, piece: &[u8]) -> Took
+        requires { 0 < length piece.now }
+        ensures makes { Makes (Call.Append name.now piece.now) (Answer.Append result) (host_view self.old) (host_view self.new) }
+        ensures serves { Serves (Call.Append name.now piece.now) (Answer.Append result) self.old self.new }
+    {
+        match self.append_now(name, piece) {
+            Ok(count) => {
+                let entry = appended_entry(self.alloc, name, piece, Took::Took(count));
+                self.calls.settle(None, entry);
+                Took::Took(count)
+            }
+            Err(refused) => {
+                let entry = appended_entry(self.alloc, name, piece, Took::Failed);
+                self.calls.settle(Some(refused), entry);
+                Took::Failed
+            }
+        }
+    }
+
+    fn cut(&mut self, name: &str, len: u64) -> Cut
+        ensures makes { Makes (Call.Cut name.now len) (Answer.Cut result) (host_view self.old) (host_view self.new) }
+        ensures serves { Serves (Call.Cut name.now len) (Answer.Cut result) self.old self.new }
+    {
+        match self.cut_now(name, len) {
+            Ok(()) => {
+                let entry = cut_entry(self.alloc, name, len, Cut::Cut);
+                self.calls.settle(None, entry);
+                Cut::Cut
+            }
+            Err(refused) => {
+                let entry = cut_entry(self.alloc, name, len, Cut::Failed);
+                self.calls.settle(Some(refused), entry);
+                Cut::Failed
+            }
+        }
+    }
+
+    fn remove(&mut self, name: &str) -> Removed
+        ensures makes { Makes (Call.Remove name.now) (Answer.Remove result) (host_view self.old) (host_view self.new) }
+        ensures serves { Serves (Call.Remove name.now) (Answer.Remove result) self.old self.new }
+    {
+        match self.remove_now(name) {
+            Ok(removed) => {
+                let entry = removed_entry(self.alloc, name, removed);
+                self.calls.settle(None, entry);
+                removed
+            }
+            Err(refused) => {
+                let entry = removed_entry(self.alloc, name, Removed::Failed);
+                self.calls.settle(Some(refused), entry);
+                Removed::Failed
+            }
+        }
+    }
+}
