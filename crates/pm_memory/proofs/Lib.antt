@@ -1,2 +1,1 @@
-mod Serving
 mod Updates

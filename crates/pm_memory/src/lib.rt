@@ -6,7 +6,12 @@ mod calls;
 mod entries;
 pub mod host;
 mod hosting;
+mod part;
 mod plan;
+pub mod sink;
+pub mod source;
 mod tree;
 
 pub use host::MemoryHost;
+pub use sink::MemorySink;
+pub use source::MemorySource;

@@ -4,6 +4,7 @@ ghost use Rattle.pm_host.specs.World.{Step, IsFile, world_with, grown, kept};
 
 ghost use Rattle.pm_memory.specs.Node.{file_bytes, part_of, Explains, NoFile, IsFolder};
 
+use crate::part::copy_part;
 use pm_bytes::{Blob, Memory};
 use pm_host::{Answer, Call, Cut, File, Looked, Made, Node, Removed, Took};
 use std::alloc::Global;
@@ -145,20 +146,6 @@ impl Tree {
         let _ = self.nodes.remove(name);
         Ok(Removed::Removed)
     }
-}
-
-// Copies what the room holds of the bytes from the offset on, and says how many.
-fn copy_part(bytes: &[u8], at: u64, room: &mut [u8]) -> usize
-    ensures copied { take result room.new ≡ take (length room.old) (drop at bytes.now) }
-    ensures within { result ≤ length room.old }
-{
-    if at >= bytes.len() as u64 {
-        return 0;
-    }
-    let left = &bytes[at as usize..];
-    let count = left.len().min(room.len());
-    room[..count].copy_from_slice(&left[..count]);
-    count
 }
 
 // Adds the piece to a file.
