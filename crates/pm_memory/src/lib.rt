@@ -15,3 +15,6 @@ mod tree;
 pub use host::MemoryHost;
 pub use sink::MemorySink;
 pub use source::MemorySource;
+
+#[cfg(test)]
+mod tests;
