@@ -1,5 +1,5 @@
 -- What a change at one name of a map makes of the world that it holds.
-use Rattle.std.proofs.Common.{◌≡◌, ℕ, ℤ, cond, List, [], Option, Some, None, Result, Ok, Err, OnOk, OnErr, refl, sym, ap, ◌∙◌, subst, bytes_eq, take, String, Global, string_cmp, nat_cmp, string_bytes}
+use Rattle.std.proofs.Common.{◌≡◌, ℕ, ℤ, List, [], Option, Some, Result, Ok, Err, OnOk, OnErr, sym, ap, ◌∙◌, subst, take, String, Global, string_cmp, nat_cmp, string_bytes}
 use Rattle.std.specs.BTreeMap.{BTreeMap, get_by_text}
 use Rattle.std.specs.BTreeMap as tree
 use Rattle.std.specs.Cmp.Lexicographic.{slice_cmp}

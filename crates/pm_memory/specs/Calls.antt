@@ -1,5 +1,5 @@
 -- The calls that came, and the counts of them.
-use Rattle.std.specs.Prelude.{◌≡◌, ◌≤◌, ℕ, ◌⊎◌, Bool, true, ◌&&◌, ◌==◌, leb, cond, List, [], ◌∷◌, ◌++◌, Option, Some, is_some, Result, Ok, Err}
+use Rattle.std.specs.Prelude.{◌≡◌, ◌≤◌, ℕ, ◌⊎◌, Bool, true, ◌&&◌, ◌==◌, leb, cond, [], ◌∷◌, ◌++◌, Option, Some, is_some, Result, Ok, Err}
 use Rattle.pm_memory.specs.Counts.{risen}
 use Rattle.pm_bytes.specs.declared.error.Memory.{Memory as WantOfMemory}
 use Rattle.pm_host.specs.declared.calls.Logged.{Logged}

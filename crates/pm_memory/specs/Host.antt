@@ -1,5 +1,5 @@
 -- What a host in memory has, what it tells, and what each of its calls does.
-use Rattle.std.specs.Prelude.{◌≡◌, ℕ, ℤ, ◌⊎◌, Bool, true, false, cond, List, [], length, Option, Some, None}
+use Rattle.std.specs.Prelude.{◌≡◌, ℕ, ℤ, ◌⊎◌, Bool, true, false, cond, List, [], length, Some, None}
 use Rattle.pm_host.specs.World.{World, Step, IsFailed}
 use Rattle.pm_host.specs.Told.{HostView, Rose}
 use Rattle.pm_host.specs.declared.answers.Child.TheVariants.{NoChild}

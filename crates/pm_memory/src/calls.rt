@@ -89,5 +89,9 @@ fn raised(count: u64, rises: bool) -> u64
     ensures risen { result ≡ cond rises (risen count) count }
     ensures later { count ≤ result }
 {
-    if rises { count.saturating_add(1) } else { count }
+    if rises {
+        count.saturating_add(1)
+    } else {
+        count
+    }
 }

@@ -18,7 +18,13 @@ pub(crate) fn looked_entry(alloc: Global, name: &str, looked: Looked) -> Result<
 }
 
 /// The bytes that came stand at the front of the room.
-pub(crate) fn read_entry(alloc: Global, name: &str, at: u64, room: &[u8], got: Got) -> Result<Logged, Memory>
+pub(crate) fn read_entry(
+    alloc: Global,
+    name: &str,
+    at: u64,
+    room: &[u8],
+    got: Got,
+) -> Result<Logged, Memory>
     requires { IsWithin got (length room.now) }
     ensures { IfOk result (λ entry. entry ≡ logged (Call.Read name.now at (length room.now)) (read_answer got room.now)) }
 {
@@ -28,7 +34,11 @@ pub(crate) fn read_entry(alloc: Global, name: &str, at: u64, room: &[u8], got: G
     };
     let name = Blob::from_slice(alloc, name.as_bytes())?;
     Ok(Logged {
-        call: Call::Read { name, at, room: room.len() as u64 },
+        call: Call::Read {
+            name,
+            at,
+            room: room.len() as u64,
+        },
         answer,
     })
 }
@@ -43,7 +53,12 @@ pub(crate) fn created_entry(alloc: Global, name: &str, made: Made) -> Result<Log
     })
 }
 
-pub(crate) fn appended_entry(alloc: Global, name: &str, piece: &[u8], took: Took) -> Result<Logged, Memory>
+pub(crate) fn appended_entry(
+    alloc: Global,
+    name: &str,
+    piece: &[u8],
+    took: Took,
+) -> Result<Logged, Memory>
     ensures { IfOk result (λ entry. entry ≡ logged (Call.Append name.now piece.now) (Answer.Append took)) }
 {
     let name = Blob::from_slice(alloc, name.as_bytes())?;

@@ -1,7 +1,6 @@
 //! A tree of files, by the whole name of each node: a name's parents aren't looked at.
 ghost use Rattle.std.specs.Prelude.{◌≡◌, ◌≢◌, ◌≤◌, ◌<◌, IfOk, IfErr, OnOk, OnErr, Some, None, length, take, drop, option_copied};
 ghost use Rattle.pm_host.specs.World.{Step, IsFile, world_with, grown, kept};
-
 ghost use Rattle.pm_memory.specs.Node.{file_bytes, part_of, Explains, NoFile, IsFolder};
 
 use crate::part::copy_part;
