@@ -1,7 +1,7 @@
 -- What a host in memory has, what it tells, and what each of its calls does.
-use Rattle.std.specs.Prelude.{◌≡◌, ℕ, ℤ, ◌⊎◌, Bool, true, false, cond, List, [], length, Some, None}
+use Rattle.std.specs.Prelude.{◌≡◌, ℕ, ℤ, ◌⊎◌, Bool, true, false, ◌&&◌, ◌==◌, leb, cond, List, [], length, Some, None, IsSome}
 use Rattle.pm_host.specs.World.{World, Step, IsFailed}
-use Rattle.pm_host.specs.Told.{HostView, Rose}
+use Rattle.pm_host.specs.Told.{HostView, Makes, Rose}
 use Rattle.pm_host.specs.declared.answers.Child.TheVariants.{NoChild}
 use Rattle.pm_host.specs.declared.answers.Took.TheVariants.{Took as TookSome}
 use Rattle.pm_host.specs.declared.calls.Call.{Call}
@@ -9,7 +9,6 @@ use Rattle.pm_host.specs.declared.calls.Call.TheVariants.{Look, Read, Create, Ap
 use Rattle.pm_host.specs.declared.calls.Answer.{Answer}
 use Rattle.pm_host.specs.declared.calls.Answer.TheVariants.{Read as AnswerRead, Append as AnswerAppend}
 use Rattle.pm_host.specs.declared.calls.Logged.{Logged}
-use Rattle.pm_memory.specs.Calls.{is_whole}
 use Rattle.pm_memory.specs.Counts.{risen}
 use Rattle.pm_memory.specs.Node.{NoFile, IsFolder, part_of, Explains}
 use Rattle.pm_memory.specs.Plan.{failing_in, limits_in, is_among, least}
@@ -65,20 +64,29 @@ number_of h = risen (came_of h)
 abbrev pub is_to_fail : MemoryHost → Bool
 is_to_fail h = is_among (number_of h) (failing_of h)
 
--- It tells its files and its calls as long as no more calls came than were reserved, and none lacked memory.
+-- no more calls came than were reserved, and none lacked memory
+abbrev pub is_telling : MemoryHost → Bool
+is_telling h = leb (came_of h) (reserved_of h) && (starved_of h == 0)
+
+-- what it tells
 abbrev pub host_view : MemoryHost → HostView
 host_view h = record {
-  world = cond (is_whole h.calls) (Some (world_of h)) None;
-  calls = cond (is_whole h.calls) (Some (calls_of h)) None;
+  world = cond (is_telling h) (Some (world_of h)) None;
+  calls = cond (is_telling h) (Some (calls_of h)) None;
   faults = faults_of h;
   child = NoChild;
 }
 
--- a host as it is made
-pub record IsFresh (moment : ℤ) (reserved : ℕ) (h : MemoryHost) : Type 0 where
-  pub world : world_of h ≡ no_files moment
+-- of two things that are told at the same time, both are told where one is
+pub both_told : {A B : Type 0} (b : Bool) (x : A) (y : B) → IsSome (cond b (Some x) None) → IsSome (cond b (Some y) None)
+both_told true x y told = told
+both_told false x y told = told
+
+-- a host as it is made, with room for so many calls
+pub record IsFresh (start : ℤ) (count : ℕ) (h : MemoryHost) : Type 0 where
+  pub world : world_of h ≡ no_files start
   pub calls : calls_of h ≡ []
-  pub reserved_ : reserved_of h ≡ reserved
+  pub reserved : reserved_of h ≡ count
   pub came : came_of h ≡ 0
   pub faults : faults_of h ≡ 0
   pub starved : starved_of h ≡ 0
@@ -111,13 +119,15 @@ pub record Counted (answer : Answer) (old new : MemoryHost) : Type 0 where
   pub steady : (IsFailed answer → ⊥) → faults_of new ≡ faults_of old
   pub starved : (starved_of new ≡ starved_of old) ⊎ (starved_of new ≡ risen (starved_of old))
 
--- one call of a host in memory; this holds where it tells no more, too
+-- one call of a host in memory: what every host does, and more, which holds where it tells no more, too
 pub record Serves (call : Call) (answer : Answer) (old new : MemoryHost) : Type 0 where
+  pub makes : Makes call answer (host_view old) (host_view new)
   pub step : Step call answer (world_of old) (world_of new)
   pub most : IsMost call answer old
   pub to_fail : is_to_fail old ≡ true → IsFailed answer
   pub cause : IsFailed answer → MayFail call old new
   pub counted : Counted answer old new
+  pub quiet : is_telling new ≡ false → calls_of new ≡ calls_of old
   pub reserved : reserved_of new ≡ reserved_of old
   pub plan : plan_of new ≡ plan_of old
 
@@ -131,8 +141,8 @@ pub record Does (call : Call) (answer : Answer) (old new : MemoryHost) : Type 0 
   pub calls : record_of new ≡ record_of old
 
 -- a call was refused, and isn't counted yet
-pub record Refuses (call : Call) (refused : Refused) (old new : MemoryHost) : Type 0 where
+pub record Refuses (call : Call) (old new : MemoryHost) (refused : Refused) : Type 0 where
   pub world : world_of new ≡ world_of old
-  pub cause : Explains refused (is_to_fail old ≡ true) (IsWrongKind call (world_of old))
+  pub cause : Explains (is_to_fail old ≡ true) (IsWrongKind call (world_of old)) refused
   pub plan : plan_of new ≡ plan_of old
   pub calls : record_of new ≡ record_of old

@@ -35,9 +35,9 @@ abbrev pub sink_view : MemorySink → StreamView
 sink_view s = record { bytes = Some (written_of s); faults = faults_of s }
 
 -- a sink as it is made
-pub record IsFresh (fail_at : Option ℕ) (s : MemorySink) : Type 0 where
+pub record IsFresh (number : Option ℕ) (s : MemorySink) : Type 0 where
   pub written : written_of s ≡ []
-  pub fail_at_ : fail_at_of s ≡ fail_at
+  pub fail_at : fail_at_of s ≡ number
   pub came : came_of s ≡ 0
   pub faults : faults_of s ≡ 0
   pub starved : starved_of s ≡ 0

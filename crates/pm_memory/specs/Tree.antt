@@ -1,7 +1,10 @@
 -- What a tree of files in memory holds.
-use Rattle.std.specs.Prelude.{ℤ, [], None}
+use Rattle.std.specs.Prelude.{ℕ, ℤ, List, [], Option, None}
 use Rattle.std.specs.BTreeMap.{get_by_text}
-use Rattle.pm_host.specs.World.{World}
+use Rattle.pm_host.specs.World.{World, Step}
+use Rattle.pm_host.specs.declared.calls.Answer.{Answer}
+use Rattle.pm_host.specs.declared.calls.Call.{Call}
+use Rattle.pm_host.specs.declared.nodes.Node.{Node}
 use Rattle.pm_memory.specs.declared.tree.Tree.{Tree}
 
 -- what the tree has at each name, at its moment; nobody else changes it
@@ -11,3 +14,10 @@ world_in t = record { nodes = λ name. get_by_text t.nodes name; moment = t.mome
 -- nothing at any name
 abbrev pub no_files : ℤ → World
 no_files moment = record { nodes = λ name. None; moment = moment; others = [] }
+
+abbrev pub node_at : Tree → List ℕ → Option Node
+node_at t name = (world_in t).nodes name
+
+-- one call with its answer, from the old tree to the new
+abbrev pub IsStep : Call → Answer → Tree → Tree → Type 0
+IsStep call answer old new = Step call answer (world_in old) (world_in new)

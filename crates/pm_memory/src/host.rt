@@ -2,7 +2,7 @@
 //! each call with its answer.
 ghost use Rattle.std.specs.Prelude.{◌≡◌, ◌≤◌, ◌++◌, ◌∷◌, [], IfOk, OnOk, OnErr, Some, option_copied};
 ghost use Rattle.pm_host.specs.World.{world_with};
-ghost use Rattle.pm_memory.specs.Node.{file_bytes};
+ghost use Rattle.pm_memory.specs.Node.{a_file, file_bytes};
 
 use crate::calls::Calls;
 use crate::plan::Plan;
@@ -38,7 +38,7 @@ impl MemoryHost {
 
     /// Puts a file that was made at a moment, whatever stands at the name.
     pub fn put_file(&mut self, name: &str, bytes: &[u8], made: i64) -> Result<(), Memory>
-        ensures ok { OnOk result (let file = Node.File (record { bytes = bytes.now; made = made }) in world_of self.new ≡ world_with (world_of self.old) name.now (Some file)) }
+        ensures ok { OnOk result (world_of self.new ≡ world_with (world_of self.old) name.now (a_file bytes.now made)) }
         ensures err { OnErr result (world_of self.new ≡ world_of self.old) }
         ensures plan { plan_of self.new ≡ plan_of self.old }
         ensures calls { record_of self.new ≡ record_of self.old }

@@ -1,7 +1,6 @@
 //! The calls of a host in memory: each is done or refused in the tree, and then counted and listed.
 ghost use Rattle.std.specs.Prelude.{◌≡◌, ◌≤◌, ◌<◌, IfOk, IfErr, length, take};
 ghost use Rattle.pm_host.specs.Answers.{read_answer, IsWithin};
-ghost use Rattle.pm_host.specs.Told.{Makes};
 
 use crate::MemoryHost;
 use crate::entries::{
@@ -21,7 +20,7 @@ impl MemoryHost {
 
     fn look_now(&self, name: &str) -> Result<Looked, Refused>
         ensures ok { IfOk result (λ looked. Does (Call.Look name.now) (Answer.Look looked) self.now self.now) }
-        ensures err { IfErr result (λ refused. Refuses (Call.Look name.now) refused self.now self.now) }
+        ensures err { IfErr result (Refuses (Call.Look name.now) self.now self.now) }
     {
         if self.fails_now() {
             return Err(Refused::ToFail);
@@ -33,7 +32,7 @@ impl MemoryHost {
         requires { 0 < length room.old }
         ensures ok { IfOk result (λ count. Does (Call.Read name.now at (length room.old)) (Answer.Read (take count room.new)) self.now self.now) }
         ensures within { IfOk result (λ count. count ≤ length room.old) }
-        ensures err { IfErr result (λ refused. Refuses (Call.Read name.now at (length room.old)) refused self.now self.now) }
+        ensures err { IfErr result (Refuses (Call.Read name.now at (length room.old)) self.now self.now) }
     {
         if self.fails_now() {
             return Err(Refused::ToFail);
@@ -43,7 +42,7 @@ impl MemoryHost {
 
     fn create_now(&mut self, name: &str) -> Result<Made, Refused>
         ensures ok { IfOk result (λ made. Does (Call.Create name.now) (Answer.Create made) self.old self.new) }
-        ensures err { IfErr result (λ refused. Refuses (Call.Create name.now) refused self.old self.new) }
+        ensures err { IfErr result (Refuses (Call.Create name.now) self.old self.new) }
     {
         if self.fails_now() {
             return Err(Refused::ToFail);
@@ -55,7 +54,7 @@ impl MemoryHost {
         requires { 0 < length piece.now }
         ensures ok { IfOk result (λ count. Does (Call.Append name.now piece.now) (Answer.Append (Took.Took count)) self.old self.new) }
         ensures some { IfOk result (λ count. (1 ≤ count) × (count ≤ length piece.now)) }
-        ensures err { IfErr result (λ refused. Refuses (Call.Append name.now piece.now) refused self.old self.new) }
+        ensures err { IfErr result (Refuses (Call.Append name.now piece.now) self.old self.new) }
     {
         if self.fails_now() {
             return Err(Refused::ToFail);
@@ -69,7 +68,7 @@ impl MemoryHost {
 
     fn cut_now(&mut self, name: &str, len: u64) -> Result<(), Refused>
         ensures ok { IfOk result (λ _. Does (Call.Cut name.now len) (Answer.Cut Cut.Cut) self.old self.new) }
-        ensures err { IfErr result (λ refused. Refuses (Call.Cut name.now len) refused self.old self.new) }
+        ensures err { IfErr result (Refuses (Call.Cut name.now len) self.old self.new) }
     {
         if self.fails_now() {
             return Err(Refused::ToFail);
@@ -79,7 +78,7 @@ impl MemoryHost {
 
     fn remove_now(&mut self, name: &str) -> Result<Removed, Refused>
         ensures ok { IfOk result (λ removed. Does (Call.Remove name.now) (Answer.Remove removed) self.old self.new) }
-        ensures err { IfErr result (λ refused. Refuses (Call.Remove name.now) refused self.old self.new) }
+        ensures err { IfErr result (Refuses (Call.Remove name.now) self.old self.new) }
     {
         if self.fails_now() {
             return Err(Refused::ToFail);
@@ -89,21 +88,18 @@ impl MemoryHost {
 }
 
 impl Host for MemoryHost {
-    ghost use Rattle.std.specs.Prelude.{true, false, cond, Some, None, IsSome};
-    ghost use Rattle.pm_memory.specs.Calls.{is_whole};
-    ghost use Rattle.pm_memory.specs.Host.{host_view, world_of, calls_of, Serves};
+    ghost use Rattle.pm_memory.specs.Host.{host_view, is_telling, world_of, calls_of, both_told, Serves};
 
     ghost told = { host_view };
 
-    ghost tells_calls = { λ h. elim (is_whole h.calls) as (λ b. IsSome (cond b (Some (world_of h)) None) → IsSome (cond b (Some (calls_of h)) None)) [ true ↦ λ told. told | false ↦ λ told. told ] };
+    ghost tells_calls = { λ h. both_told (is_telling h) (world_of h) (calls_of h) };
 
     fn faults(&self) -> u64 {
         self.calls.faults()
     }
 
     fn look(&mut self, name: &str) -> Looked
-        ensures makes { Makes (Call.Look name.now) (Answer.Look result) (host_view self.old) (host_view self.new) }
-        ensures serves { Serves (Call.Look name.now) (Answer.Look result) self.old self.new }
+        ensures { Serves (Call.Look name.now) (Answer.Look result) self.old self.new }
     {
         match self.look_now(name) {
             Ok(looked) => {
@@ -121,7 +117,6 @@ impl Host for MemoryHost {
 
     fn read(&mut self, name: &str, at: u64, room: &mut [u8]) -> Got
         requires { 0 < length room.old }
-        ensures made { Makes (Call.Read name.now at (length room.old)) (read_answer result room.new) (host_view self.old) (host_view self.new) }
         ensures within { IsWithin result (length room.old) }
         ensures serves { Serves (Call.Read name.now at (length room.old)) (read_answer result room.new) self.old self.new }
     {
@@ -140,8 +135,7 @@ impl Host for MemoryHost {
     }
 
     fn create(&mut self, name: &str) -> Made
-        ensures makes { Makes (Call.Create name.now) (Answer.Create result) (host_view self.old) (host_view self.new) }
-        ensures serves { Serves (Call.Create name.now) (Answer.Create result) self.old self.new }
+        ensures { Serves (Call.Create name.now) (Answer.Create result) self.old self.new }
     {
         match self.create_now(name) {
             Ok(made) => {
@@ -159,8 +153,7 @@ impl Host for MemoryHost {
 
     fn append(&mut self, name: &str, piece: &[u8]) -> Took
         requires { 0 < length piece.now }
-        ensures makes { Makes (Call.Append name.now piece.now) (Answer.Append result) (host_view self.old) (host_view self.new) }
-        ensures serves { Serves (Call.Append name.now piece.now) (Answer.Append result) self.old self.new }
+        ensures { Serves (Call.Append name.now piece.now) (Answer.Append result) self.old self.new }
     {
         match self.append_now(name, piece) {
             Ok(count) => {
@@ -177,8 +170,7 @@ impl Host for MemoryHost {
     }
 
     fn cut(&mut self, name: &str, len: u64) -> Cut
-        ensures makes { Makes (Call.Cut name.now len) (Answer.Cut result) (host_view self.old) (host_view self.new) }
-        ensures serves { Serves (Call.Cut name.now len) (Answer.Cut result) self.old self.new }
+        ensures { Serves (Call.Cut name.now len) (Answer.Cut result) self.old self.new }
     {
         match self.cut_now(name, len) {
             Ok(()) => {
@@ -195,8 +187,7 @@ impl Host for MemoryHost {
     }
 
     fn remove(&mut self, name: &str) -> Removed
-        ensures makes { Makes (Call.Remove name.now) (Answer.Remove result) (host_view self.old) (host_view self.new) }
-        ensures serves { Serves (Call.Remove name.now) (Answer.Remove result) self.old self.new }
+        ensures { Serves (Call.Remove name.now) (Answer.Remove result) self.old self.new }
     {
         match self.remove_now(name) {
             Ok(removed) => {

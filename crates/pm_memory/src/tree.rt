@@ -1,6 +1,6 @@
 //! A tree of files, by the whole name of each node: a name's parents aren't looked at.
 ghost use Rattle.std.specs.Prelude.{◌≡◌, ◌≢◌, ◌≤◌, ◌<◌, IfOk, IfErr, OnOk, OnErr, Some, None, length, take, drop, option_copied};
-ghost use Rattle.pm_host.specs.World.{Step, IsFile, world_with, grown, kept};
+ghost use Rattle.pm_host.specs.World.{IsFile, world_with, grown, kept};
 ghost use Rattle.pm_memory.specs.Node.{file_bytes, part_of, Explains, NoFile, IsFolder};
 
 use crate::part::copy_part;
@@ -28,7 +28,7 @@ pub(crate) struct Tree {
 }
 
 impl Tree {
-    ghost use Rattle.pm_memory.specs.Tree.{world_in, no_files};
+    ghost use Rattle.pm_memory.specs.Tree.{world_in, no_files, node_at, IsStep};
 
     pub(crate) fn new(alloc: Global, moment: i64) -> Tree
         ensures { world_in result ≡ no_files moment }
@@ -51,7 +51,7 @@ impl Tree {
     }
 
     pub(crate) fn file(&self, name: &str) -> Option<&[u8]>
-        ensures { option_copied result ≡ file_bytes ((world_in self.now).nodes name.now) }
+        ensures { option_copied result ≡ file_bytes (node_at self.now name.now) }
     {
         match self.nodes.get(name) {
             Some(Node::File(file)) => Some(file.bytes.as_slice()),
@@ -60,7 +60,7 @@ impl Tree {
     }
 
     pub(crate) fn look(&self, name: &str) -> Looked
-        ensures right { Step (Call.Look name.now) (Answer.Look result) (world_in self.now) (world_in self.now) }
+        ensures right { IsStep (Call.Look name.now) (Answer.Look result) self.now self.now }
         ensures found { result ≢ Looked.Failed }
     {
         match self.nodes.get(name) {
@@ -73,10 +73,10 @@ impl Tree {
     /// How many bytes of the file from the offset on came into the front of the room: as many as are there and as
     /// it holds.
     pub(crate) fn read(&self, name: &str, at: u64, room: &mut [u8]) -> Result<usize, Refused>
-        ensures ok { IfOk result (λ count. take count room.new ≡ part_of ((world_in self.now).nodes name.now) at (length room.old)) }
+        ensures ok { IfOk result (λ count. take count room.new ≡ part_of (node_at self.now name.now) at (length room.old)) }
         ensures within { IfOk result (λ count. count ≤ length room.old) }
-        ensures there { OnOk result (IsFile ((world_in self.now).nodes name.now)) }
-        ensures err { IfErr result (λ refused. Explains refused ⊥ (NoFile ((world_in self.now).nodes name.now))) }
+        ensures there { OnOk result (IsFile (node_at self.now name.now)) }
+        ensures err { IfErr result (Explains ⊥ (NoFile (node_at self.now name.now))) }
     {
         match self.file(name) {
             Some(bytes) => Ok(copy_part(bytes, at, room)),
@@ -86,9 +86,9 @@ impl Tree {
 
     /// Makes an empty file where nothing stands.
     pub(crate) fn create(&mut self, name: &str) -> Result<Made, Refused>
-        ensures ok { IfOk result (λ made. Step (Call.Create name.now) (Answer.Create made) (world_in self.old) (world_in self.new)) }
+        ensures ok { IfOk result (λ made. IsStep (Call.Create name.now) (Answer.Create made) self.old self.new) }
         ensures found { IfOk result (λ made. made ≢ Made.Failed) }
-        ensures err { IfErr result (λ refused. refused ≡ Refused.Memory) }
+        ensures err { IfErr result (Explains ⊥ ⊥) }
         ensures same { OnErr result (world_in self.new ≡ world_in self.old) }
     {
         if self.nodes.contains_key(name) {
@@ -107,8 +107,8 @@ impl Tree {
     /// Adds the first bytes of the piece, so many, at the end of the file.
     pub(crate) fn append(&mut self, name: &str, piece: &[u8], count: usize) -> Result<(), Refused>
         requires { count ≤ length piece.now }
-        ensures ok { OnOk result (Step (Call.Append name.now piece.now) (Answer.Append (Took.Took count)) (world_in self.old) (world_in self.new)) }
-        ensures err { IfErr result (λ refused. Explains refused ⊥ (NoFile ((world_in self.old).nodes name.now))) }
+        ensures ok { OnOk result (IsStep (Call.Append name.now piece.now) (Answer.Append (Took.Took count)) self.old self.new) }
+        ensures err { IfErr result (Explains ⊥ (NoFile (node_at self.old name.now))) }
         ensures same { OnErr result (world_in self.new ≡ world_in self.old) }
     {
         match self.nodes.get_mut(name) {
@@ -119,8 +119,8 @@ impl Tree {
 
     /// Keeps the first bytes of the file.
     pub(crate) fn cut(&mut self, name: &str, len: u64) -> Result<(), Refused>
-        ensures ok { OnOk result (Step (Call.Cut name.now len) (Answer.Cut Cut.Cut) (world_in self.old) (world_in self.new)) }
-        ensures err { IfErr result (λ refused. Explains refused ⊥ (NoFile ((world_in self.old).nodes name.now))) }
+        ensures ok { OnOk result (IsStep (Call.Cut name.now len) (Answer.Cut Cut.Cut) self.old self.new) }
+        ensures err { IfErr result (Explains ⊥ (NoFile (node_at self.old name.now))) }
         ensures same { OnErr result (world_in self.new ≡ world_in self.old) }
     {
         let alloc = self.alloc;
@@ -132,9 +132,9 @@ impl Tree {
 
     /// Removes the file.
     pub(crate) fn remove(&mut self, name: &str) -> Result<Removed, Refused>
-        ensures ok { IfOk result (λ removed. Step (Call.Remove name.now) (Answer.Remove removed) (world_in self.old) (world_in self.new)) }
+        ensures ok { IfOk result (λ removed. IsStep (Call.Remove name.now) (Answer.Remove removed) self.old self.new) }
         ensures found { IfOk result (λ removed. removed ≢ Removed.Failed) }
-        ensures err { IfErr result (λ refused. Explains refused ⊥ (IsFolder ((world_in self.old).nodes name.now))) }
+        ensures err { IfErr result (Explains ⊥ (IsFolder (node_at self.old name.now))) }
         ensures same { OnErr result (world_in self.new ≡ world_in self.old) }
     {
         match self.nodes.get(name) {
@@ -151,7 +151,7 @@ impl Tree {
 fn grow(node: &mut Node, piece: &[u8]) -> Result<(), Refused>
     ensures ok { OnOk result (Some node.new ≡ grown (Some node.old) piece.now) }
     ensures there { OnOk result (IsFile (Some node.old)) }
-    ensures err { IfErr result (λ refused. Explains refused ⊥ (NoFile (Some node.old))) }
+    ensures err { IfErr result (Explains ⊥ (NoFile (Some node.old))) }
     ensures same { OnErr result (node.new ≡ node.old) }
 {
     match node {
@@ -167,7 +167,7 @@ fn grow(node: &mut Node, piece: &[u8]) -> Result<(), Refused>
 fn shorten(alloc: Global, node: &mut Node, len: u64) -> Result<(), Refused>
     ensures ok { OnOk result (Some node.new ≡ kept (Some node.old) len) }
     ensures there { OnOk result (IsFile (Some node.old)) }
-    ensures err { IfErr result (λ refused. Explains refused ⊥ (NoFile (Some node.old))) }
+    ensures err { IfErr result (Explains ⊥ (NoFile (Some node.old))) }
     ensures same { OnErr result (node.new ≡ node.old) }
 {
     match node {
