@@ -12,34 +12,35 @@ use Rattle.pm_host.specs.declared.calls.Answer.TheVariants.{Append as AnswerAppe
 use Rattle.pm_host.specs.declared.answers.Took.TheVariants.{Took as TookSome}
 use Rattle.pm_host.specs.declared.answers.Cut.TheVariants.{Cut as CutDone}
 
-abbrev Nodes : Type 0
-Nodes = BTreeMap (String Global) Node
+-- what stands at each name that has something
+abbrev pub NodeMap : Type 0
+NodeMap = BTreeMap (String Global) Node
 
 -- the world that a map holds at a moment
-abbrev pub world_at : BTreeMap (String Global) Node → ℤ → World
+abbrev pub world_at : NodeMap → ℤ → World
 world_at m moment = record { nodes = λ name. get_by_text m name; moment = moment; others = [] }
 
 -- one name has another node
-abbrev pub UpdatesAt : List ℕ → BTreeMap (String Global) Node → BTreeMap (String Global) Node → Option Node → Type 0
+abbrev pub UpdatesAt : List ℕ → NodeMap → NodeMap → Option Node → Type 0
 UpdatesAt name m n this = tree.UpdatesBy string_cmp (λ k. slice_cmp nat_cmp name (string_bytes k)) m n this
 
-pub updated : (m n : BTreeMap (String Global) Node) (moment : ℤ) (name : List ℕ) (this : Option Node) → UpdatesAt name m n this → world_at n moment ≡ world_with (world_at m moment) name this
+pub updated : (m n : NodeMap) (moment : ℤ) (name : List ℕ) (this : Option Node) → UpdatesAt name m n this → world_at n moment ≡ world_with (world_at m moment) name this
 updated m n moment name this u =
     let same = btree_map_updates_text name m n this u in
     λ i. record { nodes = λ q. same q i; moment = moment; others = [] }
 
 -- a node that was written back as it was
-pub rewritten : (m n : BTreeMap (String Global) Node) (moment : ℤ) (name : List ℕ) (this : Node) → Some this ≡ get_by_text m name → UpdatesAt name m n (Some this) → world_at n moment ≡ world_at m moment
+pub rewritten : (m n : NodeMap) (moment : ℤ) (name : List ℕ) (this : Node) → Some this ≡ get_by_text m name → UpdatesAt name m n (Some this) → world_at n moment ≡ world_at m moment
 rewritten m n moment name this e u = updated m n moment name (Some this) u ∙ put_same (world_at m moment) name (Some this) (sym e)
 
-pub file_grew : (m n : BTreeMap (String Global) Node) (moment : ℤ) (name piece : List ℕ) (count : ℕ) (old new : Node) → Some old ≡ get_by_text m name → UpdatesAt name m n (Some new)
+pub file_grew : (m n : NodeMap) (moment : ℤ) (name piece : List ℕ) (count : ℕ) (old new : Node) → Some old ≡ get_by_text m name → UpdatesAt name m n (Some new)
     → IsFile (Some old) → Some new ≡ grown (Some old) (take count piece) → Step (Append name piece) (AnswerAppend (TookSome count)) (world_at m moment) (world_at n moment)
 file_grew m n moment name piece count old new e u file g = record {
   right = subst IsFile e file;
   made = updated m n moment name (Some new) u ∙ ap (world_with (world_at m moment) name) (g ∙ ap (λ here. grown here (take count piece)) e);
 }
 
-pub file_cut : (m n : BTreeMap (String Global) Node) (moment : ℤ) (name : List ℕ) (len : ℕ) (old new : Node) → Some old ≡ get_by_text m name → UpdatesAt name m n (Some new)
+pub file_cut : (m n : NodeMap) (moment : ℤ) (name : List ℕ) (len : ℕ) (old new : Node) → Some old ≡ get_by_text m name → UpdatesAt name m n (Some new)
     → IsFile (Some old) → Some new ≡ kept (Some old) len → Step (CutTo name len) (AnswerCut CutDone) (world_at m moment) (world_at n moment)
 file_cut m n moment name len old new e u file g = record {
   right = subst IsFile e file;

@@ -1,6 +1,6 @@
 -- What a host in memory has, what it tells, and what each of its calls does.
-use Rattle.std.specs.Prelude.{◌≡◌, ℕ, ℤ, ◌⊎◌, Bool, true, false, ◌&&◌, ◌==◌, leb, cond, List, [], length, Some, None, IsSome}
-use Rattle.pm_host.specs.World.{World, Step, IsFailed}
+use Rattle.std.specs.Prelude.{◌≡◌, ℕ, ℤ, ◌⊎◌, Bool, true, false, ◌&&◌, ◌==◌, leb, cond, List, [], length, take, Option, Some, None, IsSome}
+use Rattle.pm_host.specs.World.{World, Step, IsFailed, world_with}
 use Rattle.pm_host.specs.Told.{HostView, Makes, Rose}
 use Rattle.pm_host.specs.declared.answers.Child.TheVariants.{NoChild}
 use Rattle.pm_host.specs.declared.answers.Took.TheVariants.{Took as TookSome}
@@ -9,6 +9,7 @@ use Rattle.pm_host.specs.declared.calls.Call.TheVariants.{Look, Read, Create, Ap
 use Rattle.pm_host.specs.declared.calls.Answer.{Answer}
 use Rattle.pm_host.specs.declared.calls.Answer.TheVariants.{Read as AnswerRead, Append as AnswerAppend}
 use Rattle.pm_host.specs.declared.calls.Logged.{Logged}
+use Rattle.pm_host.specs.declared.nodes.Node.{Node}
 use Rattle.pm_memory.specs.Counts.{risen}
 use Rattle.pm_memory.specs.Node.{NoFile, IsFolder, part_of, Explains}
 use Rattle.pm_memory.specs.Plan.{failing_in, limits_in, is_among, least}
@@ -78,7 +79,8 @@ host_view h = record {
 }
 
 -- of two things that are told at the same time, both are told where one is
-pub both_told : {A B : Type 0} (b : Bool) (x : A) (y : B) → IsSome (cond b (Some x) None) → IsSome (cond b (Some y) None)
+pub both_told : {A B : Type 0} (b : Bool) (x : A) (y : B)
+    → IsSome (cond b (Some x) None) → IsSome (cond b (Some y) None)
 both_told true x y told = told
 both_told false x y told = told
 
@@ -93,6 +95,10 @@ pub record IsFresh (start : ℤ) (count : ℕ) (h : MemoryHost) : Type 0 where
   pub failing : failing_of h ≡ []
   pub limits : limits_of h ≡ []
 
+-- the node was put at the name, whatever stood there
+abbrev pub IsPut : List ℕ → Option Node → MemoryHost → MemoryHost → Type 0
+IsPut name this old new = world_of new ≡ world_with (world_of old) name this
+
 -- no node of the kind that the call works on stands at its name
 abbrev pub IsWrongKind : Call → World → Type 0
 IsWrongKind (Look name) w = ⊥
@@ -105,12 +111,13 @@ IsWrongKind (Remove name) w = IsFolder (w.nodes name)
 -- the answer gives as much as room and content allow, or takes as much as piece and limit allow
 abbrev pub IsMost : Call → Answer → MemoryHost → Type 0
 IsMost (Read name at room) (AnswerRead bytes) h = bytes ≡ part_of ((world_of h).nodes name) at room
-IsMost (Append name piece) (AnswerAppend (TookSome n)) h = n ≡ least (number_of h) (limits_of h) (length piece)
+IsMost (Append name piece) (AnswerAppend (TookSome count)) h = count ≡ least (number_of h) (limits_of h) (length piece)
 IsMost call answer h = Unit {0}
 
--- why a call may fail: its number was given to fail, or no node of its kind stands there, or memory was wanting
+-- why a call may fail: its number was given to fail, no node of its kind stands there, or memory was wanting
 abbrev pub MayFail : Call → MemoryHost → MemoryHost → Type 0
-MayFail call old new = (is_to_fail old ≡ true) ⊎ (IsWrongKind call (world_of old) ⊎ Rose (starved_of old) (starved_of new))
+MayFail call old new =
+    (is_to_fail old ≡ true) ⊎ (IsWrongKind call (world_of old) ⊎ Rose (starved_of old) (starved_of new))
 
 -- the counts after a call
 pub record Counted (answer : Answer) (old new : MemoryHost) : Type 0 where
@@ -139,6 +146,14 @@ pub record Does (call : Call) (answer : Answer) (old new : MemoryHost) : Type 0 
   pub success : IsFailed answer → ⊥
   pub plan : plan_of new ≡ plan_of old
   pub calls : record_of new ≡ record_of old
+
+-- a read was done, and so many bytes came to the front of the room
+abbrev pub DoesRead : List ℕ → ℕ → List ℕ → List ℕ → MemoryHost → ℕ → Type 0
+DoesRead name at before room h count = Does (Read name at (length before)) (AnswerRead (take count room)) h h
+
+-- an append was done, and so many bytes were added
+abbrev pub DoesAppend : List ℕ → List ℕ → MemoryHost → MemoryHost → ℕ → Type 0
+DoesAppend name piece old new count = Does (Append name piece) (AnswerAppend (TookSome count)) old new
 
 -- a call was refused, and isn't counted yet
 pub record Refuses (call : Call) (old new : MemoryHost) (refused : Refused) : Type 0 where

@@ -1,7 +1,6 @@
 //! A tree of files in memory that takes the calls of a host, fails and limits those that it is told to, and lists
 //! each call with its answer.
 ghost use Rattle.std.specs.Prelude.{◌≡◌, ◌≤◌, ◌++◌, ◌∷◌, [], IfOk, OnOk, OnErr, Some, option_copied};
-ghost use Rattle.pm_host.specs.World.{world_with};
 ghost use Rattle.pm_memory.specs.Node.{a_file, file_bytes};
 
 use crate::calls::Calls;
@@ -21,7 +20,8 @@ pub struct MemoryHost {
 }
 
 impl MemoryHost {
-    ghost use Rattle.pm_memory.specs.Host.{IsFresh, world_of, plan_of, record_of, failing_of, limits_of, calls_of, starved_of};
+    ghost use Rattle.pm_memory.specs.Host.{IsFresh, IsPut, world_of, plan_of, record_of};
+    ghost use Rattle.pm_memory.specs.Host.{failing_of, limits_of, calls_of, starved_of};
 
     /// No files, at a moment in seconds since 1970, with a list that is reserved for so many calls: past them the
     /// host tells nothing.
@@ -38,7 +38,7 @@ impl MemoryHost {
 
     /// Puts a file that was made at a moment, whatever stands at the name.
     pub fn put_file(&mut self, name: &str, bytes: &[u8], made: i64) -> Result<(), Memory>
-        ensures ok { OnOk result (world_of self.new ≡ world_with (world_of self.old) name.now (a_file bytes.now made)) }
+        ensures ok { OnOk result (IsPut name.now (a_file bytes.now made) self.old self.new) }
         ensures err { OnErr result (world_of self.new ≡ world_of self.old) }
         ensures plan { plan_of self.new ≡ plan_of self.old }
         ensures calls { record_of self.new ≡ record_of self.old }
@@ -49,7 +49,7 @@ impl MemoryHost {
 
     /// Puts a folder, whatever stands at the name.
     pub fn put_folder(&mut self, name: &str) -> Result<(), Memory>
-        ensures ok { OnOk result (world_of self.new ≡ world_with (world_of self.old) name.now (Some Node.Folder)) }
+        ensures ok { OnOk result (IsPut name.now (Some Node.Folder) self.old self.new) }
         ensures err { OnErr result (world_of self.new ≡ world_of self.old) }
         ensures plan { plan_of self.new ≡ plan_of self.old }
         ensures calls { record_of self.new ≡ record_of self.old }

@@ -1,5 +1,5 @@
 //! The calls of a host in memory: each is done or refused in the tree, and then counted and listed.
-ghost use Rattle.std.specs.Prelude.{◌≡◌, ◌≤◌, ◌<◌, IfOk, IfErr, length, take};
+ghost use Rattle.std.specs.Prelude.{◌≡◌, ◌≤◌, ◌<◌, IfOk, IfErr, length};
 ghost use Rattle.pm_host.specs.Answers.{read_answer, IsWithin};
 
 use crate::MemoryHost;
@@ -10,7 +10,7 @@ use crate::tree::Refused;
 use pm_host::{Answer, Call, Cut, Got, Host, Looked, Made, Removed, Took};
 
 impl MemoryHost {
-    ghost use Rattle.pm_memory.specs.Host.{is_to_fail, Does, Refuses};
+    ghost use Rattle.pm_memory.specs.Host.{is_to_fail, Does, DoesRead, DoesAppend, Refuses};
 
     fn fails_now(&self) -> bool
         ensures { result ≡ is_to_fail self.now }
@@ -30,7 +30,7 @@ impl MemoryHost {
 
     fn read_now(&self, name: &str, at: u64, room: &mut [u8]) -> Result<usize, Refused>
         requires { 0 < length room.old }
-        ensures ok { IfOk result (λ count. Does (Call.Read name.now at (length room.old)) (Answer.Read (take count room.new)) self.now self.now) }
+        ensures ok { IfOk result (DoesRead name.now at room.old room.new self.now) }
         ensures within { IfOk result (λ count. count ≤ length room.old) }
         ensures err { IfErr result (Refuses (Call.Read name.now at (length room.old)) self.now self.now) }
     {
@@ -52,7 +52,7 @@ impl MemoryHost {
 
     fn append_now(&mut self, name: &str, piece: &[u8]) -> Result<usize, Refused>
         requires { 0 < length piece.now }
-        ensures ok { IfOk result (λ count. Does (Call.Append name.now piece.now) (Answer.Append (Took.Took count)) self.old self.new) }
+        ensures ok { IfOk result (DoesAppend name.now piece.now self.old self.new) }
         ensures some { IfOk result (λ count. (1 ≤ count) × (count ≤ length piece.now)) }
         ensures err { IfErr result (Refuses (Call.Append name.now piece.now) self.old self.new) }
     {

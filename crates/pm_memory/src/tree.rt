@@ -1,7 +1,7 @@
 //! A tree of files, by the whole name of each node: a name's parents aren't looked at.
 ghost use Rattle.std.specs.Prelude.{◌≡◌, ◌≢◌, ◌≤◌, ◌<◌, IfOk, IfErr, OnOk, OnErr, Some, None, length, take, drop, option_copied};
 ghost use Rattle.pm_host.specs.World.{IsFile, world_with, grown, kept};
-ghost use Rattle.pm_memory.specs.Node.{file_bytes, part_of, Explains, NoFile, IsFolder};
+ghost use Rattle.pm_memory.specs.Node.{file_bytes, Explains, NoFile, IsFolder};
 
 use crate::part::copy_part;
 use pm_bytes::{Blob, Memory};
@@ -10,8 +10,7 @@ use std::alloc::Global;
 use std::collections::BTreeMap;
 use std::mem;
 
-/// Why a call is refused: its number was given to `fail`, no node of its kind stands at the name, or memory was
-/// wanting.
+/// Why a call is refused: its number was given to `fail`, no node of its kind stands at the name, or memory was wanting.
 #[derive(Clone, Copy, Debug, PartialEq, Eq)]
 pub(crate) enum Refused {
     ToFail,
@@ -28,7 +27,7 @@ pub(crate) struct Tree {
 }
 
 impl Tree {
-    ghost use Rattle.pm_memory.specs.Tree.{world_in, no_files, node_at, IsStep};
+    ghost use Rattle.pm_memory.specs.Tree.{world_in, no_files, node_at, part_at, IsStep};
 
     pub(crate) fn new(alloc: Global, moment: i64) -> Tree
         ensures { world_in result ≡ no_files moment }
@@ -73,7 +72,7 @@ impl Tree {
     /// How many bytes of the file from the offset on came into the front of the room: as many as are there and as
     /// it holds.
     pub(crate) fn read(&self, name: &str, at: u64, room: &mut [u8]) -> Result<usize, Refused>
-        ensures ok { IfOk result (λ count. take count room.new ≡ part_of (node_at self.now name.now) at (length room.old)) }
+        ensures ok { IfOk result (λ count. take count room.new ≡ part_at self.now name.now at (length room.old)) }
         ensures within { IfOk result (λ count. count ≤ length room.old) }
         ensures there { OnOk result (IsFile (node_at self.now name.now)) }
         ensures err { IfErr result (Explains ⊥ (NoFile (node_at self.now name.now))) }
