@@ -1,0 +1,23 @@
+# Each target works on a fresh checkout with nothing built.
+
+.PHONY: build demo check clean
+
+# bin/procmail, built once its crates are proved. The build ends by starting the program without words, which is a
+# usage error (64).
+build:
+	@mkdir -p bin
+	@cd crates/procmail_cli && { rt run > ../../bin/build.log 2>&1 < /dev/null; status=$$?; \
+	    if [ $$status -ne 64 ]; then tail -n 40 ../../bin/build.log; exit 1; fi; }
+	@cp crates/procmail_cli/out/procmail_cli bin/procmail
+
+# The example message goes where the example rcfile says, in a fresh folder.
+demo: build
+	@folder=$$(mktemp -d) && cp examples/one-mailbox.rc $$folder/rc && cd $$folder && \
+	    $(CURDIR)/bin/procmail ./rc < $(CURDIR)/examples/message && cat mbox; \
+	    status=$$?; rm -rf $$folder; exit $$status
+
+check:
+	@bash .ci/run
+
+clean:
+	rm -rf bin crates/*/out
