@@ -7,3 +7,4 @@ pub mod ReadJoin
 pub mod KeepsJoin
 pub mod LocksLeft
 pub mod DeliveriesHold
+pub mod Causes

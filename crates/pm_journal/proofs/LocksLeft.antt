@@ -1,7 +1,7 @@
--- The locks that are left, in the paper's words.
+-- A lock that is left has an unlock that failed.
 use Rattle.std.proofs.Common.{◌≡◌, ℕ, true, false, cond, List, [], ◌∷◌, Option, Some, None, refl}
 use Rattle.pm_journal.specs.Replies.{IsReplyTo}
-use Rattle.pm_journal.specs.Held.{lock_name_is, IsUnlock, GivenBack}
+use Rattle.pm_journal.specs.Held.{lock_name_is, IsUnlock, GivenBack, next_about, IsRemoval, GivesBack, FailsToGive}
 use Rattle.pm_journal.specs.declared.acts.Act.{Act}
 use Rattle.pm_journal.specs.declared.acts.Act.TheVariants.{Unlock}
 use Rattle.pm_journal.specs.declared.acts.Reply.{Reply}
@@ -10,26 +10,6 @@ use Rattle.pm_journal.specs.declared.acts.Entry.{Entry}
 use Rattle.pm_host.specs.declared.calls.Logged.{Logged}
 use Rattle.pm_journal.specs.Entries.{Honest}
 use Rattle.pm_journal.proofs.ReplyOf.{protocol_reply}
-
--- the next entry about this lock
-abbrev pub next_about : List ℕ → List Entry → Option Entry
-next_about name [] = None
-next_about name (e ∷ es) = cond (lock_name_is e.act name) (Some e) (next_about name es)
-
-abbrev pub IsRemoval : Reply → Type 0
-IsRemoval Removed = Unit {0}
-IsRemoval Gone = Unit {0}
-IsRemoval other = ⊥
-
--- it gave the lock back
-abbrev pub GivesBack : Option Entry → Type 0
-GivesBack None = ⊥
-GivesBack (Some e) = IsUnlock e.act × IsRemoval e.reply
-
--- it is an unlock that failed
-abbrev pub FailsToGive : Option Entry → Type 0
-FailsToGive None = ⊥
-FailsToGive (Some e) = IsUnlock e.act × (e.reply ≡ Faulted)
 
 either_way : (act : Act) (reply : Reply) → IsUnlock act → IsReplyTo act reply → (IsRemoval reply → ⊥) → reply ≡ Faulted
 either_way (Unlock name) Removed u r h = absurd (h tt)

@@ -14,7 +14,7 @@ use Rattle.pm_journal.specs.declared.acts.Act.TheVariants.{Append, SayFile}
 use Rattle.pm_journal.specs.declared.appending.AppendEnd.{AppendEnd}
 use Rattle.pm_journal.specs.declared.appending.AppendEnd.TheVariants.{Done as EndDone, Undone as EndUndone, Torn as EndTorn, IsFolder as EndFolder, Raced as EndRaced}
 
-faulty_end : (end : AppendEnd) → IsFaulty (append_reply end) → IsFaultEnd end
+pub faulty_end : (end : AppendEnd) → IsFaulty (append_reply end) → IsFaultEnd end
 faulty_end EndDone f = f
 faulty_end EndUndone f = tt
 faulty_end (EndTorn n) f = tt

@@ -3,3 +3,4 @@ pub mod OneAct
 pub mod WantsMemory
 pub mod WalkJoin
 pub mod Lines
+pub mod OneOutcome

@@ -5,3 +5,4 @@ pub mod CommandLine
 pub mod RcForm
 pub mod Running
 pub mod Status
+pub mod Laws

@@ -3,6 +3,7 @@
 #![tactic(auto)]
 
 pub mod command_line;
+pub mod laws;
 pub mod process;
 pub mod status;
 
