@@ -62,7 +62,7 @@ pub say_err_notes : (text : List ℕ) (end : WriteEnd) (x y : JournalState) (hos
 say_err_notes text end x y host n out a b same h e r =
     noted (SayErr text) (say_reply end) x y host host n out a b same (record {
       groups = [] ∷ [];
-      honest = ((say_reply_is end, refl), tt);
+      honest = (record { reply_fits = say_reply_is end; short = h.short; none = refl }, tt);
       ran = ran_none host;
       said = subst (λ l. Tells (Adds l) a.bytes b.bytes) (sym (append-nil (said_by (SayErr text) (say_reply end)))) h.bytes;
       written = tells_at (Adds []) (λ l. sym (append-nil l)) out.bytes;

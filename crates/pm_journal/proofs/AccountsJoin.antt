@@ -121,8 +121,8 @@ act_effect (Lock name sleep limit suspend tries) reply calls w g right = absurd 
 act_effect (Unlock name) reply calls w g right =
     ap (λ c. after_calls c w) g.call ∙ unlock_effect name g.removed w ∙ ap (λ r. after_unlock r name w) (sym g.reply_is)
 act_effect (SayFile name text) reply calls w g right = file_effect name text reply calls w g right
-act_effect (SayErr text) reply calls w g right = ap (λ c. after_calls c w) g.1
-act_effect (WriteOut piece) reply calls w g right = ap (λ c. after_calls c w) g.1
+act_effect (SayErr text) reply calls w g right = ap (λ c. after_calls c w) g.none
+act_effect (WriteOut piece) reply calls w g right = ap (λ c. after_calls c w) g.none
 act_effect Moment reply calls w g right = absurd g
 
 entries_effect : (es : List Entry) (gs : List (List Logged)) (w : World) → Honest es gs → AllRight (joined gs) w → after_calls (joined gs) w ≡ after_entries es gs w

@@ -1,5 +1,5 @@
 -- What a list of entries says of the outside.
-use Rattle.std.specs.Prelude.{◌≡◌, ℕ, List, [], ◌∷◌, ◌++◌, take, None}
+use Rattle.std.specs.Prelude.{◌≡◌, ◌<◌, length, ℕ, List, [], ◌∷◌, ◌++◌, take, None}
 use Rattle.pm_host.specs.World.{World, world_with}
 use Rattle.pm_host.specs.Told.{HostView, Tells, Adds, Rose}
 use Rattle.pm_host.specs.Runs.{logged, Ran}
@@ -59,6 +59,17 @@ pub record FileGroup (name piece : List ℕ) (reply : Reply) (calls : List Logge
   pub reply_is : reply ≡ append_reply end
   pub group : AppendGroup name piece end calls
 
+-- fewer bytes were taken than there are, where a write failed
+abbrev pub IsShortOf : List ℕ → Reply → Type 0
+IsShortOf text (Short n) = n < length text
+IsShortOf text other = Unit {0}
+
+-- a text for a sink, which takes no call of the host
+pub record WriteGroup (text : List ℕ) (reply : Reply) (calls : List Logged) : Type 0 where
+  pub reply_fits : IsWriteReply reply
+  pub short : IsShortOf text reply
+  pub none : calls ≡ []
+
 -- The calls of the host that belong to an act with its reply: a text for `err` and a piece for `out` have none. Taking a
 -- lock file and asking the moment need calls that hosts don't have yet, so no calls belong to these.
 abbrev pub Protocol : Act → Reply → List Logged → Type 0
@@ -68,8 +79,8 @@ Protocol (Append name piece) reply calls = FileGroup name piece reply calls
 Protocol (Lock name sleep limit suspend tries) reply calls = ⊥
 Protocol (Unlock name) reply calls = UnlockGroup name reply calls
 Protocol (SayFile name text) reply calls = FileGroup name text reply calls
-Protocol (SayErr text) reply calls = IsWriteReply reply × (calls ≡ [])
-Protocol (WriteOut piece) reply calls = IsWriteReply reply × (calls ≡ [])
+Protocol (SayErr text) reply calls = WriteGroup text reply calls
+Protocol (WriteOut piece) reply calls = WriteGroup piece reply calls
 Protocol Moment reply calls = ⊥
 
 -- a group of calls for each entry, in order
