@@ -12,7 +12,7 @@ use Rattle.pm_meaning.specs.Running.{State, say_then}
 use Rattle.pm_meaning.specs.Walking.{Next}
 use Rattle.pm_meaning.specs.declared.process.End.{End}
 use Rattle.pm_meaning.proofs.OneAct.{act_executes, executes_then}
-use Rattle.pm_meaning.proofs.WantsMemory.{executes_nothing, out_then, out_anywhere}
+use Rattle.pm_meaning.proofs.WantsMemory.{executes_nothing, out_then}
 
 -- the same from a journal that had these entries too
 pub later_start : {R : Type 0} (p : Plan R) (end : R) (x w y : JournalState) (a b : View) → Executes p end w y a b → w.entries ≡ x.entries → Executes p end x y a b

@@ -1,18 +1,18 @@
 -- A process has one end over the same entries, and is delivered only by an append that was done.
-use Rattle.std.proofs.Common.{◌≡◌, ◌≢◌, ◌⊎◌, inl, inr, ℕ, zero, suc, Bool, true, false, List, [], ◌∷◌, ◌++◌, Option, Some, None, refl, sym, ap, ◌∙◌, subst}
+use Rattle.std.proofs.Common.{◌≡◌, ◌≢◌, ◌⊎◌, inl, inr, ℕ, zero, suc, Bool, true, false, List, [], ◌∷◌, Option, Some, None, refl, sym, subst}
 use Rattle.std.specs.Prelude.{if◌then◌else◌}
 use Rattle.pm_journal.specs.LogText.{couldnt_read_line, no_delivery_line}
 use Rattle.pm_message.specs.FromLine.{makes_line}
 use Rattle.pm_message.specs.Split.{split_of}
 use Rattle.pm_journal.specs.declared.acts.Act.{Act}
-use Rattle.pm_journal.specs.declared.acts.Act.TheVariants.{ReadFile, Append, SayErr}
+use Rattle.pm_journal.specs.declared.acts.Act.TheVariants.{Append}
 use Rattle.pm_journal.specs.declared.acts.Reply.{Reply}
-use Rattle.pm_journal.specs.declared.acts.Reply.TheVariants.{Content, Done, IsFolder, Torn, Undone, Raced}
+use Rattle.pm_journal.specs.declared.acts.Reply.TheVariants.{Content, Done, IsFolder}
 use Rattle.pm_journal.specs.declared.acts.Entry.{Entry}
-use Rattle.pm_meaning.specs.Plan.{Plan, Ends, Asks, and_then, ask, Plays, Wants}
+use Rattle.pm_meaning.specs.Plan.{Plan, Ends, Asks, and_then, Plays, Wants}
 use Rattle.pm_meaning.specs.Walking.{Next, Stop, Go, walk, Means}
 use Rattle.pm_meaning.specs.RcForm.{mailbox_of}
-use Rattle.pm_meaning.specs.Running.{State, Arrived, Running, Item, Open, Deliver, step, say_then, renewal, prepare, unread, opened, after_read, mailbox_piece, after_append, fall_off, running}
+use Rattle.pm_meaning.specs.Running.{State, Arrived, Running, Item, Open, Deliver, step, say_then, renewal, unread, opened, after_read, mailbox_piece, after_append}
 use Rattle.pm_meaning.specs.Laws.{IsDone, EndsDone}
 use Rattle.pm_meaning.specs.declared.command_line.CommandLine.{CommandLine}
 use Rattle.pm_meaning.specs.declared.process.Process.{Process}

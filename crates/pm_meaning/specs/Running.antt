@@ -1,5 +1,5 @@
 -- The meaning of a run: a process as a machine whose steps are plans.
-use Rattle.std.specs.Prelude.{ℕ, Bool, true, false, List, [], ◌∷◌, Option, Some, None, if◌then◌else◌}
+use Rattle.std.specs.Prelude.{ℕ, Bool, false, List, [], ◌∷◌, Option, Some, None, if◌then◌else◌}
 use Rattle.pm_message.specs.FromLine.{makes_line}
 use Rattle.pm_message.specs.Split.{split_of}
 use Rattle.pm_message.specs.Piece.{piece_of}

@@ -1,11 +1,10 @@
 -- The cases of a run.
-use Rattle.std.proofs.Common.{◌≡◌, List, ℕ, [], ◌++◌, refl, sym, ap, ◌∙◌, subst}
-use Rattle.pm_host.specs.World.{World}
+use Rattle.std.proofs.Common.{◌≡◌, List, ℕ, [], ◌++◌, sym, ap, ◌∙◌, subst}
 use Rattle.pm_host.specs.Told.{Tells}
 use Rattle.pm_host.specs.Runs.{Steps, after_calls}
 use Rattle.pm_host.proofs.RunsJoin.{tells_then, tells_map}
 use Rattle.pm_journal.specs.JournalState.{JournalState}
-use Rattle.pm_journal.specs.Entries.{View, view_of, Accounts, after_entries}
+use Rattle.pm_journal.specs.Entries.{View, Accounts, after_entries}
 use Rattle.pm_journal.specs.Deliveries.{AllDelivered}
 use Rattle.pm_journal.specs.Held.{Keeping, AllGivenBack}
 use Rattle.pm_journal.proofs.AccountsJoin.{accounts_effect}
@@ -54,13 +53,13 @@ interrupted_state line mail old journal before middle h =
     let first = accounts_effect h.more before h.middle h.accounts in
     let next = tells_map (Steps h.left_off) (λ w v. v ≡ after_calls h.left_off w) (λ w v s. s.made) h.middle.host.world middle.host.world h.ran.world in
     tells_then (λ w v. v ≡ after_entries h.more h.accounts.groups w) (λ w v. v ≡ after_calls h.left_off w) (λ w v. v ≡ after_calls h.left_off (after_entries h.more h.accounts.groups w))
-      (λ u v w e f. f ∙ ap (after_calls h.left_off) e) before.host.world h.middle.host.world middle.host.world first next
+    (λ u v w e f. f ∙ ap (after_calls h.left_off) e) before.host.world h.middle.host.world middle.host.world first next
 
 interrupted_deliveries : (line : CommandLine) (mail : List ℕ) (old journal : JournalState) (before middle : View) (h : Interrupted {X = End} step (Arrived line mail) old journal before middle)
     → Tells (λ w v. AllDelivered h.more h.accounts.groups w) before.host.world middle.host.world
 interrupted_deliveries line mail old journal before middle h =
     tells_then (λ w v. AllDelivered h.more h.accounts.groups w) (Steps h.left_off) (λ w v. AllDelivered h.more h.accounts.groups w)
-      (λ u v w d s. d) before.host.world h.middle.host.world middle.host.world (accounts_deliver h.more before h.middle h.accounts) h.ran.world
+    (λ u v w d s. d) before.host.world h.middle.host.world middle.host.world (accounts_deliver h.more before h.middle h.accounts) h.ran.world
 
 -- a process for which memory was wanting
 pub left_by : (line : CommandLine) (mail : List ℕ) (status : Status) (old journal : JournalState) (before middle after : View) → Interrupted {X = End} step (Arrived line mail) old journal before middle

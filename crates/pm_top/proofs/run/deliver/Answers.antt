@@ -1,4 +1,4 @@
-use Rattle.std.proofs.Common.{refl, sym}
+use Rattle.std.proofs.Common.{sym}
 use Rattle.pm_meaning.proofs.WantsMemory.{on_err, out_anywhere}
 use Rattle.pm_top.proofs.Keeps.{keep_append}
 use Rattle.pm_top.proofs.RunLemmas.{delivered, delivered_out}

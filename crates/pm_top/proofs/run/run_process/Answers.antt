@@ -15,7 +15,7 @@ returns-in_err-message-clause-memory g c = on_err _ _ (interrupted_at_once step 
 pub returns-in_err-end-clause-memory : goal.returns-in_err-end-clause-memory
 returns-in_err-end-clause-memory g c =
     on_err _ _ (interrupted_after step _ _ c.args.journal.now c.args.journal.now c.run_rcfile.new.journal _ _ _
-      (prepared c.args.line c.args.bytes _ _ _ (rw c.as_slice.ensures at (sym c.wants_line.ensures ∙ c.if-wants_line.false)) (rw c.as_slice-2.ensures at c.in_ok-message.ensures.parts)) c.in_err-end.ensures.memory)
+    (prepared c.args.line c.args.bytes _ _ _ (rw c.as_slice.ensures at (sym c.wants_line.ensures ∙ c.if-wants_line.false)) (rw c.as_slice-2.ensures at c.in_ok-message.ensures.parts)) c.in_err-end.ensures.memory)
 
 pub returns-clause-ok : goal.returns-clause-ok
 returns-clause-ok g c =
