@@ -1,0 +1,4 @@
+pub mod Re
+pub mod Tokens
+pub mod Grammar
+pub mod Machine

@@ -1,0 +1,9 @@
+//! Regular expressions of recipes: the macros, the grammar and its reader.
+#![tactic(auto)]
+
+mod error;
+mod op;
+mod sign;
+
+pub use error::ReadRefused;
+pub use op::{Atom, Op, Times};
