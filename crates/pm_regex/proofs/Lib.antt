@@ -1,2 +1,5 @@
 pub mod Runs
 pub mod Partial
+pub mod ExpandLemmas
+pub mod SetLemmas
+pub mod TokenLemmas

@@ -52,12 +52,20 @@ joined (Some e) b = either e b
 abbrev pub expr_of : Frame → Re
 expr_of f = joined f.bars (closed_branch f.before f.last)
 
+-- the frame behind a bar
+abbrev pub barred : Frame → Frame
+barred f = record { cut = f.cut; bars = Some (expr_of f); before = nothing; last = None }
+
 abbrev pub with_inner : State → Frame → State
 with_inner st f = record st { inner = f }
 
+-- a repeat behind the last piece; at the front of a branch it is a byte
+abbrev pub repeated_frame : Frame → Times → Option Re → Frame
+repeated_frame f t None = with_piece f (one (Byte (times_byte t)))
+repeated_frame f t (Some e) = record f { last = Some (times t e) }
+
 abbrev pub repeat_last : State → Times → Option Re → State
-repeat_last st t None = with_inner st (with_piece st.inner (one (Byte (times_byte t))))
-repeat_last st t (Some e) = with_inner st (record st.inner { last = Some (times t e) })
+repeat_last st t l = with_inner st (repeated_frame st.inner t l)
 
 abbrev pub close_group : State → List Frame → Option State
 close_group st [] = None
@@ -73,7 +81,7 @@ step st (sign (One a)) = Some (with_inner st (with_piece st.inner (one a)))
 step st (bracket n rs) = Some (with_inner st (with_piece st.inner (set n rs)))
 step st (sign Edge) = Some (with_inner st (with_piece st.inner (one (edge_atom (next_stand st.inner)))))
 step st (sign (Repeat t)) = Some (repeat_last st t st.inner.last)
-step st (sign Bar) = Some (with_inner st (record { cut = st.inner.cut; bars = Some (expr_of st.inner); before = nothing; last = None }))
+step st (sign Bar) = Some (with_inner st (barred st.inner))
 step st (sign Open) = if nat_lt (length st.outer) 200 then Some (record { left = st.left; inner = fresh false; outer = st.inner ∷ st.outer }) else None
 step st (sign Close) = close_group st st.outer
 step st (sign Cut) = cut_here st st.left st.outer

@@ -2,7 +2,9 @@
 #![tactic(auto)]
 
 mod error;
+mod macros;
 mod op;
+mod set;
 mod sign;
 
 pub use error::ReadRefused;

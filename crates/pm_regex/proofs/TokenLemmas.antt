@@ -1,0 +1,101 @@
+-- A text has one first token.
+use Rattle.std.proofs.Common.{◌≡◌, ◌≢◌, ◌==◌, ℕ, ◌+◌, ◌<◌, ◌≤◌, Bool, true, false, cond, List, [], ◌∷◌, ◌++◌, length, get_or, take, drop, Option, Some, None, refl, sym, ◌∙◌, subst, ap, arith, length-drop}
+use Rattle.std.proofs.lemmas.Bool.{ne_eqb, eqb-true, eqb-false}
+use Rattle.std.proofs.lemmas.List.{drop-drop}
+use Rattle.pm_regex.specs.declared.op.Op.{Op}
+use Rattle.pm_regex.specs.declared.op.Op.TheVariants as op
+use Rattle.pm_regex.specs.declared.op.Atom.TheVariants.{LineStart}
+use Rattle.pm_regex.specs.declared.sign.Sign.{Sign}
+use Rattle.pm_regex.specs.declared.sign.Sign.TheVariants.{Edge, One}
+use Rattle.pm_regex.specs.Tokens.{Token, sign, bracket, sign_of, escaped_sign, begins_with, Member, Members, Body, First, plain, escape, edge, line_start, members, others}
+use Rattle.pm_regex.specs.Sets.{range_ops, ReadsMembers, ReadsSet, HasNoBody}
+use Rattle.pm_regex.specs.Signs.{HasNoToken}
+
+-- where the members of a bracket expression begin
+abbrev pub behind : Bool → List ℕ → List ℕ
+behind true text = drop 2 text
+behind false text = drop 1 text
+
+abbrev pub Bracketed : List ℕ → Token → List ℕ → Type 0
+Bracketed text t rest = (rs : List (ℕ × ℕ)) × (t ≡ bracket (begins_with 94 (drop 1 text)) rs) × Body (behind (begins_with 94 (drop 1 text)) text) rs rest
+
+none_there : (b : ℕ) (s : Sign) → sign_of b ≡ Some s → (b == 91) ≡ true → ⊥
+none_there b s is there = let e = subst (λ z. sign_of z ≡ Some s) (eqb-true b 91 there) is in cc
+
+-- a token that begins with `[`
+pub bracketed : (text : List ℕ) (t : Token) (rest : List ℕ) → First text t rest → begins_with 91 text ≡ true → Bracketed text t rest
+bracketed text t rest (plain b s _ is) there = absurd (none_there b s is there)
+bracketed text t rest (escape b _) there = cc
+bracketed text t rest (edge _) there = cc
+bracketed text t rest (line_start _ is) there = cc
+bracketed text t rest (members u _ rs is b) there =
+    (rs, ap (λ n. bracket n rs) (sym is), subst (λ n. Body (behind n (91 ∷ u)) rs rest) (sym is) b)
+bracketed text t rest (others u _ rs b) there = (rs, refl, b)
+
+bracket_begins : (text : List ℕ) → begins_with 91 text ≡ true → text ≡ 91 ∷ drop 1 text
+bracket_begins [] is = cc
+bracket_begins (a ∷ u) is = ap (λ z. z ∷ u) (eqb-true a 91 is)
+
+negated_there : (u : List ℕ) (rs : List (ℕ × ℕ)) (rest : List ℕ) → begins_with 94 u ≡ true → Body (drop 1 u) rs rest → First (91 ∷ u) (bracket true rs) rest
+negated_there [] rs rest is b = cc
+negated_there (a ∷ u) rs rest is b = subst (λ z. First (91 ∷ z ∷ u) (bracket true rs) rest) (sym (eqb-true a 94 is)) (others u rest rs b)
+
+set_token : (text : List ℕ) (n : Bool) (rs : List (ℕ × ℕ)) (rest : List ℕ) → begins_with 91 text ≡ true → begins_with 94 (drop 1 text) ≡ n →
+    Body (behind n text) rs rest → First text (bracket n rs) rest
+set_token text true rs rest there is b =
+    subst (λ z. First z (bracket true rs) rest) (sym (bracket_begins text there))
+    (negated_there (drop 1 text) rs rest is (subst (λ z. Body z rs rest) (sym (drop-drop 1 1 text)) b))
+set_token text false rs rest there is b =
+    subst (λ z. First z (bracket false rs) rest) (sym (bracket_begins text there)) (members (drop 1 text) rest rs is b)
+
+pub begins_some : (b : ℕ) (text : List ℕ) → begins_with b text ≡ true → 0 < length text
+begins_some b [] is = cc
+begins_some b (a ∷ u) is = omega arith
+
+-- no members, no bracket expression
+pub no_bracket : (text : List ℕ) → begins_with 91 text ≡ true → HasNoBody (behind (begins_with 94 (drop 1 text)) text) → HasNoToken text
+no_bracket text there none t rest first =
+    let p = bracketed text t rest first there in
+    none p.0 rest p.2
+
+-- the members behind the first two bytes, or behind the first
+pub negated_set : (text : List ℕ) (before mid after : List Op) (n : ℕ) → begins_with 91 text ≡ true → begins_with 94 (drop 1 text) ≡ true →
+    2 ≤ length text → mid ≡ before ++ op.Set true ∷ [] → ReadsMembers (drop 2 text) mid after n → ReadsSet text before after (2 + n)
+negated_set text before mid after n there is two new r = record {
+  negated = true;
+  ranges = r.ranges;
+  some = omega arith;
+  within = omega (arith, r.within, length-drop 2 text);
+  token = set_token text true r.ranges (drop (2 + n) text) there is (subst (λ z. Body (drop 2 text) r.ranges z) (drop-drop n 2 text) r.body);
+  ops = r.ops ∙ ap (λ z. z ++ range_ops r.ranges) new;
+}
+
+pub plain_set : (text : List ℕ) (before mid after : List Op) (n : ℕ) → begins_with 91 text ≡ true → begins_with 94 (drop 1 text) ≡ false →
+    1 ≤ length text → mid ≡ before ++ op.Set false ∷ [] → ReadsMembers (drop 1 text) mid after n → ReadsSet text before after (1 + n)
+plain_set text before mid after n there is one new r = record {
+  negated = false;
+  ranges = r.ranges;
+  some = omega arith;
+  within = omega (arith, r.within, length-drop 1 text);
+  token = set_token text false r.ranges (drop (1 + n) text) there is (subst (λ z. Body (drop 1 text) r.ranges z) (drop-drop n 1 text) r.body);
+  ops = r.ops ∙ ap (λ z. z ++ range_ops r.ranges) new;
+}
+
+pub escaped_there : (text : List ℕ) → begins_with 92 text ≡ true → 2 ≤ length text → First text (sign (escaped_sign (get_or text 1 0))) (drop 2 text)
+escaped_there [] is two = cc
+escaped_there (a ∷ []) is two = absurd (omega (arith, two))
+escaped_there (a ∷ b ∷ u) is two = subst (λ z. First (z ∷ b ∷ u) (sign (escaped_sign b)) u) (sym (eqb-true a 92 is)) (escape b u)
+
+pub edge_there : (text : List ℕ) → begins_with 94 text ≡ true → begins_with 94 (drop 1 text) ≡ true → First text (sign Edge) (drop 2 text)
+edge_there [] is also = cc
+edge_there (a ∷ []) is also = cc
+edge_there (a ∷ b ∷ u) is also =
+    subst (λ z. First (z ∷ b ∷ u) (sign Edge) u) (sym (eqb-true a 94 is)) (subst (λ z. First (94 ∷ z ∷ u) (sign Edge) u) (sym (eqb-true b 94 also)) (edge u))
+
+pub line_start_there : (text : List ℕ) → begins_with 94 text ≡ true → begins_with 94 (drop 1 text) ≡ false → First text (sign (One LineStart)) (drop 1 text)
+line_start_there [] is other = cc
+line_start_there (a ∷ u) is other = subst (λ z. First (z ∷ u) (sign (One LineStart)) u) (sym (eqb-true a 94 is)) (line_start u other)
+
+pub plain_there : (text : List ℕ) (s : Sign) → 0 < length text → sign_of (get_or text 0 0) ≡ Some s → First text (sign s) (drop 1 text)
+plain_there [] s some is = absurd (omega (arith, some))
+plain_there (a ∷ u) s some is = plain a s u is
