@@ -3,3 +3,5 @@ pub mod Partial
 pub mod ExpandLemmas
 pub mod SetLemmas
 pub mod TokenLemmas
+pub mod ExprLemmas
+pub mod GroupLemmas

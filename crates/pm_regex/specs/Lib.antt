@@ -4,5 +4,9 @@ pub mod Expansion
 pub mod Tokens
 pub mod Signs
 pub mod Sets
+pub mod Postfix
+pub mod Code
 pub mod Grammar
 pub mod Machine
+pub mod Groups
+pub mod Reader

@@ -2,10 +2,14 @@
 #![tactic(auto)]
 
 mod error;
+mod expr;
+mod group;
 mod macros;
 mod op;
+mod reader;
 mod set;
 mod sign;
 
 pub use error::ReadRefused;
+pub use expr::Expr;
 pub use op::{Atom, Op, Times};
