@@ -5,3 +5,4 @@ pub mod SetLemmas
 pub mod TokenLemmas
 pub mod ExprLemmas
 pub mod GroupLemmas
+pub mod ReaderLemmas

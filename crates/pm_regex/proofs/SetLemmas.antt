@@ -69,7 +69,7 @@ dash_there (a ∷ c ∷ b ∷ u) is le = let d = is_dash c b u is in range_there
 abbrev pub Opened : List ℕ → List (ℕ × ℕ) → List ℕ → Type 0
 Opened t rs rest = (a : ℕ) × (b : ℕ) × (u : List ℕ) × (qs : List (ℕ × ℕ)) × Member t a b u × Members u qs rest × (rs ≡ (a, b) ∷ qs)
 
-opened : (t : List ℕ) (rs : List (ℕ × ℕ)) (rest : List ℕ) → Members t rs rest → begins_with 93 t ≡ false → Opened t rs rest
+pub opened : (t : List ℕ) (rs : List (ℕ × ℕ)) (rest : List ℕ) → Members t rs rest → begins_with 93 t ≡ false → Opened t rs rest
 opened t rs rest (closed _) is = cc
 opened t rs rest (more _ u _ a b qs _ m ms) is = (a, b, u, qs, m, ms, refl)
 
@@ -77,7 +77,7 @@ pub closed_there : (t : List ℕ) (rs : List (ℕ × ℕ)) (rest : List ℕ) →
 closed_there t rs rest (closed _) is = (refl, refl)
 closed_there t rs rest (more _ u _ a b qs other m ms) is = cc
 
-parts : (t : List ℕ) (rs : List (ℕ × ℕ)) (rest : List ℕ) → Body t rs rest → Opened t rs rest
+pub parts : (t : List ℕ) (rs : List (ℕ × ℕ)) (rest : List ℕ) → Body t rs rest → Opened t rs rest
 parts t rs rest (body _ u _ a b qs m ms) = (a, b, u, qs, m, ms, refl)
 
 no_members : (rs : List (ℕ × ℕ)) (rest : List ℕ) → Members [] rs rest → ⊥

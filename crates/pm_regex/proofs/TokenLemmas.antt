@@ -1,15 +1,16 @@
 -- A text has one first token.
-use Rattle.std.proofs.Common.{◌≡◌, ◌≢◌, ◌==◌, ℕ, ◌+◌, ◌<◌, ◌≤◌, Bool, true, false, cond, List, [], ◌∷◌, ◌++◌, length, get_or, take, drop, Option, Some, None, refl, sym, ◌∙◌, subst, ap, arith, length-drop}
-use Rattle.std.proofs.lemmas.Bool.{ne_eqb, eqb-true, eqb-false}
+use Rattle.std.proofs.Common.{◌≡◌, ◌≢◌, ◌==◌, ℕ, ◌+◌, ◌<◌, ◌≤◌, Bool, true, false, cond, List, [], ◌∷◌, ◌++◌, length, get_or, take, drop, Option, Some, None, refl, sym, ◌∙◌, subst, ap, arith, length-drop, ◌⊎◌, inl, inr}
+use Rattle.std.proofs.lemmas.Bool.{eqb-true, cases_Bool}
 use Rattle.std.proofs.lemmas.List.{drop-drop}
 use Rattle.pm_regex.specs.declared.op.Op.{Op}
 use Rattle.pm_regex.specs.declared.op.Op.TheVariants as op
 use Rattle.pm_regex.specs.declared.op.Atom.TheVariants.{LineStart}
 use Rattle.pm_regex.specs.declared.sign.Sign.{Sign}
 use Rattle.pm_regex.specs.declared.sign.Sign.TheVariants.{Edge, One}
-use Rattle.pm_regex.specs.Tokens.{Token, sign, bracket, sign_of, escaped_sign, begins_with, Member, Members, Body, First, plain, escape, edge, line_start, members, others}
+use Rattle.pm_regex.specs.Tokens.{Token, sign, bracket, sign_of, escaped_sign, begins_with, Member, Members, closed, more, Body, body, First, plain, escape, edge, line_start, members, others}
 use Rattle.pm_regex.specs.Sets.{range_ops, ReadsMembers, ReadsSet, HasNoBody}
 use Rattle.pm_regex.specs.Signs.{HasNoToken}
+use Rattle.pm_regex.proofs.SetLemmas.{one_member, opened, closed_there, parts}
 
 -- where the members of a bracket expression begin
 abbrev pub behind : Bool → List ℕ → List ℕ
@@ -99,3 +100,63 @@ line_start_there (a ∷ u) is other = subst (λ z. First (z ∷ u) (sign (One Li
 pub plain_there : (text : List ℕ) (s : Sign) → 0 < length text → sign_of (get_or text 0 0) ≡ Some s → First text (sign s) (drop 1 text)
 plain_there [] s some is = absurd (omega (arith, some))
 plain_there (a ∷ u) s some is = plain a s u is
+
+-- what a sign at the front makes of a text
+abbrev caret_front : Bool → List ℕ → Option (Token × List ℕ)
+caret_front true u = Some (sign Edge, drop 1 u)
+caret_front false u = Some (sign (One LineStart), u)
+
+abbrev escaped_front : List ℕ → Option (Token × List ℕ)
+escaped_front [] = None
+escaped_front (b ∷ u) = Some (sign (escaped_sign b), u)
+
+abbrev front_of : ℕ → List ℕ → Option Sign → Option (Token × List ℕ)
+front_of b u (Some s) = Some (sign s, u)
+front_of b u None = cond (b == 92) (escaped_front u) (caret_front (begins_with 94 u) u)
+
+abbrev front : List ℕ → Option (Token × List ℕ)
+front [] = None
+front (b ∷ u) = front_of b u (sign_of b)
+
+sign_front : (text : List ℕ) (t : Token) (rest : List ℕ) → First text t rest → begins_with 91 text ≡ false → front text ≡ Some (t, rest)
+sign_front text t rest (plain b s _ is) other = ap (front_of b rest) is
+sign_front text t rest (escape b _) other = refl
+sign_front text t rest (edge _) other = refl
+sign_front text t rest (line_start _ is) other = ap (λ z. caret_front z rest) is
+sign_front text t rest (members u _ rs is b) other = cc
+sign_front text t rest (others u _ rs b) other = cc
+
+-- members are read in one way
+one_members : (t : List ℕ) (rs qs : List (ℕ × ℕ)) (u v : List ℕ) → Members t rs u → Members t qs v → (rs ≡ qs) × (u ≡ v)
+one_members t rs qs u v (closed _) y =
+    let p = closed_there t qs v y refl in
+    (sym p.0, let e : 93 ∷ u ≡ 93 ∷ v = p.1 in cc)
+one_members t rs qs u v (more _ w _ a b ps other m ms) y =
+    let p = opened t qs v y other in
+    let one = one_member t a b p.0 p.1 w p.2 m p.4 in
+    let rest = one_members w ps p.3 u v ms (subst (λ z. Members z p.3 v) (sym one.2) p.5) in
+    (ap (λ z. (z, b) ∷ ps) one.0 ∙ ap (λ z. (p.0, z) ∷ ps) one.1 ∙ ap (λ z. (p.0, p.1) ∷ z) rest.0 ∙ sym p.6, rest.1)
+
+one_body : (t : List ℕ) (rs qs : List (ℕ × ℕ)) (u v : List ℕ) → Body t rs u → Body t qs v → (rs ≡ qs) × (u ≡ v)
+one_body t rs qs u v (body _ w _ a b ps m ms) y =
+    let p = parts t qs v y in
+    let one = one_member t a b p.0 p.1 w p.2 m p.4 in
+    let rest = one_members w ps p.3 u v ms (subst (λ z. Members z p.3 v) (sym one.2) p.5) in
+    (ap (λ z. (z, b) ∷ ps) one.0 ∙ ap (λ z. (p.0, z) ∷ ps) one.1 ∙ ap (λ z. (p.0, p.1) ∷ z) rest.0 ∙ sym p.6, rest.1)
+
+some_pair : {x y : Token × List ℕ} → Some x ≡ Some y → x ≡ y
+some_pair e = cc
+
+first_by : (text : List ℕ) (t s : Token) (u v : List ℕ) → First text t u → First text s v → (begins_with 91 text ≡ true) ⊎ (begins_with 91 text ≡ false) → (t ≡ s) × (u ≡ v)
+first_by text t s u v x y (inl is) =
+    let p = bracketed text t u x is in
+    let q = bracketed text s v y is in
+    let one = one_body (behind (begins_with 94 (drop 1 text)) text) p.0 q.0 u v p.2 q.2 in
+    (p.1 ∙ ap (λ z. bracket (begins_with 94 (drop 1 text)) z) one.0 ∙ sym q.1, one.1)
+first_by text t s u v x y (inr other) =
+    let same = some_pair (sym (sign_front text t u x other) ∙ sign_front text s v y other) in
+    (ap (λ z. z.0) same, ap (λ z. z.1) same)
+
+-- a text has one first token
+pub one_first : (text : List ℕ) (t s : Token) (u v : List ℕ) → First text t u → First text s v → (t ≡ s) × (u ≡ v)
+one_first text t s u v x y = first_by text t s u v x y (cases_Bool (begins_with 91 text))

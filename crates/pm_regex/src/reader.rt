@@ -27,8 +27,7 @@ pub struct Reader {
 
 impl Reader {
     ghost use Rattle.std.specs.Prelude.{true, Some, None};
-    ghost use Rattle.pm_regex.specs.declared.sign.Sign.TheVariants as sign_;
-    ghost use Rattle.pm_regex.specs.Tokens.{sign, begins_with};
+    ghost use Rattle.pm_regex.specs.Tokens as token;
     ghost use Rattle.pm_regex.specs.Machine.{State, opening, finished};
 
     /// Nothing is read.
@@ -46,14 +45,14 @@ impl Reader {
     }
 
     fn atom(&mut self, atom: Atom) -> Result<(), Memory>
-        ensures { OnOk result (Takes (sign (sign_.One atom)) self.old self.new) }
+        ensures { OnOk result (Takes (token.sign (Sign.One atom)) self.old self.new) }
     {
         self.group = group::piece(&mut self.ops, self.group, atom)?;
         Ok(())
     }
 
     fn edge(&mut self) -> Result<(), Memory>
-        ensures { OnOk result (Takes (sign sign_.Edge) self.old self.new) }
+        ensures { OnOk result (Takes (token.sign Sign.Edge) self.old self.new) }
     {
         let atom = group::edge(self.group);
         self.group = group::piece(&mut self.ops, self.group, atom)?;
@@ -61,22 +60,22 @@ impl Reader {
     }
 
     fn repeat(&mut self, times: Times) -> Result<(), Memory>
-        ensures { OnOk result (Takes (sign (sign_.Repeat times)) self.old self.new) }
+        ensures { OnOk result (Takes (token.sign (Sign.Repeat times)) self.old self.new) }
     {
         self.group = group::repeat(&mut self.ops, self.group, times)?;
         Ok(())
     }
 
     fn bar(&mut self) -> Result<(), Memory>
-        ensures { OnOk result (Takes (sign sign_.Bar) self.old self.new) }
+        ensures { OnOk result (Takes (token.sign Sign.Bar) self.old self.new) }
     {
         self.group = group::bar(&mut self.ops, self.group)?;
         Ok(())
     }
 
     fn open(&mut self) -> Result<(), ReadRefused>
-        ensures ok { OnOk result (Takes (sign sign_.Open) self.old self.new) }
-        ensures defect { result ≡ Err ReadRefused.Defect → Refuses (sign sign_.Open) self.old }
+        ensures ok { OnOk result (Takes (token.sign Sign.Open) self.old self.new) }
+        ensures defect { result ≡ Err ReadRefused.Defect → Refuses (token.sign Sign.Open) self.old }
     {
         if self.around.len() >= MAX_DEPTH {
             return Err(ReadRefused::Defect);
@@ -88,8 +87,8 @@ impl Reader {
     }
 
     fn close(&mut self) -> Result<(), ReadRefused>
-        ensures ok { OnOk result (Takes (sign sign_.Close) self.old self.new) }
-        ensures defect { result ≡ Err ReadRefused.Defect → Refuses (sign sign_.Close) self.old }
+        ensures ok { OnOk result (Takes (token.sign Sign.Close) self.old self.new) }
+        ensures defect { result ≡ Err ReadRefused.Defect → Refuses (token.sign Sign.Close) self.old }
     {
         let Some(around) = self.around.pop() else {
             return Err(ReadRefused::Defect);
@@ -99,8 +98,8 @@ impl Reader {
     }
 
     fn cut(&mut self, alloc: Global) -> Result<(), ReadRefused>
-        ensures ok { OnOk result (Takes (sign sign_.Cut) self.old self.new) }
-        ensures defect { result ≡ Err ReadRefused.Defect → Refuses (sign sign_.Cut) self.old }
+        ensures ok { OnOk result (Takes (token.sign Sign.Cut) self.old self.new) }
+        ensures defect { result ≡ Err ReadRefused.Defect → Refuses (token.sign Sign.Cut) self.old }
     {
         if self.left.is_some() {
             return Err(ReadRefused::Defect);
@@ -117,9 +116,9 @@ impl Reader {
         Ok(())
     }
 
-    fn sign(&mut self, alloc: Global, sign: Sign) -> Result<(), ReadRefused>
-        ensures ok { OnOk result (Takes (sign sign) self.old self.new) }
-        ensures defect { result ≡ Err ReadRefused.Defect → Refuses (sign sign) self.old }
+    fn put(&mut self, alloc: Global, sign: Sign) -> Result<(), ReadRefused>
+        ensures ok { OnOk result (Takes (token.sign sign) self.old self.new) }
+        ensures defect { result ≡ Err ReadRefused.Defect → Refuses (token.sign sign) self.old }
     {
         match sign {
             Sign::Open => self.open(),
@@ -133,7 +132,7 @@ impl Reader {
     }
 
     fn set(&mut self, text: &[u8]) -> Result<usize, ReadRefused>
-        requires { begins_with 91 text.now ≡ true }
+        requires { token.begins_with 91 text.now ≡ true }
         ensures ok { IfOk result (TakesFirst text.now self.old self.new) }
         ensures defect { result ≡ Err ReadRefused.Defect → RefusesFirst text.now self.old }
     {
@@ -154,12 +153,13 @@ impl Reader {
         let Some(spelling) = sign_at(text) else {
             return Err(ReadRefused::Defect);
         };
-        self.sign(alloc, spelling.sign)?;
+        self.put(alloc, spelling.sign)?;
         Ok(spelling.length)
     }
 
     /// The expression, where no group is open.
     pub fn finish(self) -> Result<Expr, ReadRefused>
+        requires { (st : State) × ReaderIs self st }
         ensures ok { IfOk result (λ e. (st : State) → ReaderIs self st → finished st st.outer ≡ Some e) }
         ensures defect { result ≡ Err ReadRefused.Defect → (st : State) → ReaderIs self st → finished st st.outer ≡ None }
     {
