@@ -3,7 +3,7 @@ use Rattle.std.proofs.Common.{◌≡◌, ◌≢◌, ℕ, ◌+◌, ◌<◌, ◌�
 use Rattle.std.proofs.lemmas.List.{drop_more, take_more, drop-drop, drop_all, take_all}
 use Rattle.std.proofs.lemmas.Bool.{ne_eqb}
 use Rattle.pm_regex.specs.Macros.{to_bracket, macro_at, span_of, put_for, Expands, done, part}
-use Rattle.pm_regex.specs.Expansion.{Puts, PutsPart}
+use Rattle.pm_regex.specs.Expansion.{PutsPart}
 
 pub at_bracket : (text : List ℕ) (i : ℕ) → i < length text → get_or text i 0 ≡ 93 → take i text ++ to_bracket (drop i text) ≡ take (i + 1) text
 at_bracket text i h e = rw (drop_more text i 0 h, take_more text i 0 h, e) refl
@@ -55,9 +55,11 @@ part_further text place before after n p x =
           subst (λ t. Expands text t) (sym (append_assoc before (put_for (macro_at rest) rest) u) ∙ ap (λ t. t ++ u) (sym new)) w;
       forth = λ t h.
           let w = x.forth t h in
-          let v = parted rest w.0 w.1 (nonempty text place n p.some p.within) in
-          (v.0, subst (λ z. Expands z v.0) there v.1,
-            w.2 ∙ ap (λ z. before ++ z) v.2 ∙ sym (append_assoc before (put_for (macro_at rest) rest) v.0) ∙ ap (λ z. z ++ v.0) (sym new));
+          let v = parted rest w.0 w.1 (nonempty text place n p.some p.within) in (
+            v.0,
+            subst (λ z. Expands z v.0) there v.1,
+            w.2 ∙ ap (λ z. before ++ z) v.2 ∙ sym (append_assoc before (put_for (macro_at rest) rest) v.0) ∙ ap (λ z. z ++ v.0) (sym new),
+          );
     }
 
 -- a part that is too long makes the whole too long
@@ -68,7 +70,7 @@ too_long text place before some long x t h =
     let w = x.forth t h in
     let v = parted (drop place text) w.0 w.1 (nonempty text place (length (drop place text)) some (omega arith)) in
     let e : t ≡ before ++ put_for (macro_at (drop place text)) (drop place text) ++ v.0 =
-        w.2 ∙ ap (λ z. before ++ z) v.2 ∙ sym (append_assoc before (put_for (macro_at (drop place text)) (drop place text)) v.0) in
+    w.2 ∙ ap (λ z. before ++ z) v.2 ∙ sym (append_assoc before (put_for (macro_at (drop place text)) (drop place text)) v.0) in
     rw e (rw length-append (omega arith))
 
 -- nothing is left

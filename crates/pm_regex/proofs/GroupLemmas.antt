@@ -1,13 +1,12 @@
 -- One operator more of a group.
-use Rattle.std.proofs.Common.{◌≡◌, Bool, true, false, List, [], ◌∷◌, ◌++◌, Option, Some, None, refl, sym, ◌∙◌, subst, ap}
+use Rattle.std.proofs.Common.{◌≡◌, true, false, List, [], ◌∷◌, ◌++◌, Option, Some, None, refl, sym, ◌∙◌, ap}
 use Rattle.std.specs.Prelude.{is_some}
-use Rattle.pm_regex.specs.declared.op.Atom.{Atom}
 use Rattle.pm_regex.specs.declared.op.Times.{Times}
 use Rattle.pm_regex.specs.declared.op.Op.{Op}
 use Rattle.pm_regex.specs.declared.op.Op.TheVariants as op
 use Rattle.pm_regex.specs.declared.group.Group.{Group}
-use Rattle.pm_regex.specs.Re.{Re, nothing, one, seq, either, times}
-use Rattle.pm_regex.specs.Machine.{Frame, closed_branch, with_piece, joined, expr_of, fresh, repeated_frame}
+use Rattle.pm_regex.specs.Re.{Re}
+use Rattle.pm_regex.specs.Machine.{Frame, closed_branch, joined, expr_of, repeated_frame}
 use Rattle.pm_regex.specs.Postfix.{push_op, stack_next, stack_after}
 use Rattle.pm_regex.specs.Groups.{put, outer_stack, GroupIs, Shows, Ends, Joined}
 

@@ -6,3 +6,4 @@ pub mod TokenLemmas
 pub mod ExprLemmas
 pub mod GroupLemmas
 pub mod ReaderLemmas
+pub mod ReadLemmas

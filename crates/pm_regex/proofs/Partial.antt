@@ -1,15 +1,13 @@
 -- What is read is spelled by the grammar.
-use Rattle.std.proofs.Common.{◌≡◌, ◌⊎◌, ℕ, suc, ◌+◌, ◌<◌, Bool, true, false, List, [], ◌∷◌, ◌++◌, length, Option, Some, None, refl, sym, ◌∙◌, subst, ap, arith, inl, inr, ⊎_elim, append_assoc, append-nil, add-one}
+use Rattle.std.proofs.Common.{◌≡◌, ℕ, ◌+◌, ◌<◌, Bool, true, false, List, [], ◌∷◌, ◌++◌, length, Option, Some, None, refl, sym, ◌∙◌, subst, ap, arith, append_assoc, append-nil, add-one}
 use Rattle.std.specs.Prelude.{nat_lt}
-use Rattle.pm_regex.specs.declared.op.Atom.{Atom}
-use Rattle.pm_regex.specs.declared.op.Atom.TheVariants.{Byte, AreaStart, AreaEnd}
+use Rattle.pm_regex.specs.declared.op.Atom.TheVariants.{Byte}
 use Rattle.pm_regex.specs.declared.op.Times.{Times}
-use Rattle.pm_regex.specs.declared.op.Times.TheVariants.{Star, Plus, Maybe}
 use Rattle.pm_regex.specs.declared.sign.Sign.TheVariants.{Open, Close, Bar, Cut, Edge, Repeat, One}
 use Rattle.pm_regex.specs.Tokens.{Token, sign, bracket}
 use Rattle.pm_regex.specs.Re.{Re, nothing, one, set, seq, either, times, Whole}
-use Rattle.pm_regex.specs.Grammar.{Stand, front, cut_front, behind, start_of, edge_atom, times_byte, IsPiece, atom, members, edge, front_times, cut_times, group, repeated, IsBranch, empty, first, more, IsExpr, branch, bar, IsWhole, plain, with_cut}
-use Rattle.pm_regex.specs.Machine.{Frame, State, fresh, branch_cut, stand_of, next_stand, closed_branch, with_piece, joined, expr_of, with_inner, step, run_next, run, finish, finished, opening, reading, repeat_last, close_group, cut_here}
+use Rattle.pm_regex.specs.Grammar.{behind, start_of, edge_atom, times_byte, IsPiece, atom, members, edge, front_times, cut_times, group, repeated, IsBranch, empty, first, more, IsExpr, branch, bar, IsWhole, plain, with_cut}
+use Rattle.pm_regex.specs.Machine.{Frame, State, fresh, branch_cut, stand_of, next_stand, closed_branch, with_piece, joined, expr_of, step, run, finish, finished, opening, reading, repeat_last, close_group, cut_here}
 
 -- the text of the finished branches, each with its bar
 abbrev pub BarsAre : ℕ → Bool → Option Re → List Token → Type 0
@@ -117,15 +115,15 @@ held_open f fs lt c t h = (t, [], refl, frame_fresh (length (f ∷ fs)) false, r
 held_close : (f g : Frame) (gs : List Frame) (c : Bool) (t : List Token) → Held f (g ∷ gs) c t → Held (with_piece g (expr_of f)) gs c (t ++ sign Close ∷ [])
 held_close f g gs c t h =
     let e : IsExpr (length gs + 1) false h.1 (expr_of f) = subst (λ d. IsExpr d false h.1 (expr_of f)) (sym (add-one (length gs)))
-        (subst (λ x. IsExpr (length (g ∷ gs)) x h.1 (expr_of f)) h.4 (frame_expr (length (g ∷ gs)) f h.1 h.3)) in
+    (subst (λ x. IsExpr (length (g ∷ gs)) x h.1 (expr_of f)) h.4 (frame_expr (length (g ∷ gs)) f h.1 h.3)) in
     let v = sign Open ∷ h.1 ++ sign Close ∷ [] in
     subst (λ x. Held (with_piece g (expr_of f)) gs c x) (sym (regroup t h.0 (sign Open ∷ h.1) (sign Close ∷ []) h.2))
     (held_piece g (expr_of f) gs c h.0 v (λ d is. subst (λ n. IsPiece n (next_stand g) v (expr_of f)) (sym is) (group (length gs) (next_stand g) h.1 (expr_of f) h.5 e)) h.6)
   where
-  held_piece : (g : Frame) (e : Re) (gs : List Frame) (c : Bool) (a v : List Token) → ((d : ℕ) → d ≡ length gs → IsPiece d (next_stand g) v e) → Held g gs c a → Held (with_piece g e) gs c (a ++ v)
-  held_piece g e [] c a v p h = (frame_piece 0 g a v e h.0 (p 0 refl), h.1)
-  held_piece g e (k ∷ ks) c a v p h =
-      (h.0, h.1 ++ v, regroup a h.0 (sign Open ∷ h.1) v h.2, frame_piece (length (k ∷ ks)) g h.1 v e h.3 (p (length (k ∷ ks)) refl), h.4, h.5, h.6)
+    held_piece : (g : Frame) (e : Re) (gs : List Frame) (c : Bool) (a v : List Token) → ((d : ℕ) → d ≡ length gs → IsPiece d (next_stand g) v e) → Held g gs c a → Held (with_piece g e) gs c (a ++ v)
+    held_piece g e [] c a v p h = (frame_piece 0 g a v e h.0 (p 0 refl), h.1)
+    held_piece g e (k ∷ ks) c a v p h =
+        (h.0, h.1 ++ v, regroup a h.0 (sign Open ∷ h.1) v h.2, frame_piece (length (k ∷ ks)) g h.1 v e h.3 (p (length (k ∷ ks)) refl), h.4, h.5, h.6)
 
 -- `*` at the front of a branch
 front_byte : (d : ℕ) (c : Bool) (t : Times) → IsPiece d (start_of c) (sign (Repeat t) ∷ []) (one (Byte (times_byte t)))
@@ -137,13 +135,13 @@ times_more : (left : Option Re) (f : Frame) (fs : List Frame) (u : List Token) (
 times_more left f fs u t None e h st' is =
     subst (λ s. StateIs s.left s.inner s.outer (u ++ sign (Repeat t) ∷ [])) is
     (state_more left f (with_piece f (one (Byte (times_byte t)))) fs fs u (sign (Repeat t) ∷ [])
-      (λ c w. held_more f (with_piece f (one (Byte (times_byte t)))) fs c w (sign (Repeat t) ∷ [])
-        (λ d x g. frame_piece d f x (sign (Repeat t) ∷ []) (one (Byte (times_byte t))) g
-          (subst (λ z. IsPiece d (stand_of (branch_cut f.cut f.bars) z) (sign (Repeat t) ∷ []) (one (Byte (times_byte t)))) (sym e) (front_byte d (branch_cut f.cut f.bars) t))) refl) h)
+    (λ c w. held_more f (with_piece f (one (Byte (times_byte t)))) fs c w (sign (Repeat t) ∷ [])
+    (λ d x g. frame_piece d f x (sign (Repeat t) ∷ []) (one (Byte (times_byte t))) g
+    (subst (λ z. IsPiece d (stand_of (branch_cut f.cut f.bars) z) (sign (Repeat t) ∷ []) (one (Byte (times_byte t)))) (sym e) (front_byte d (branch_cut f.cut f.bars) t))) refl) h)
 times_more left f fs u t (Some p) e h st' is =
     subst (λ s. StateIs s.left s.inner s.outer (u ++ sign (Repeat t) ∷ [])) is
     (state_more left f (record f { last = Some (times t p) }) fs fs u (sign (Repeat t) ∷ [])
-      (λ c w. held_more f (record f { last = Some (times t p) }) fs c w (sign (Repeat t) ∷ []) (λ d x g. frame_repeat d f x t p e g) refl) h)
+    (λ c w. held_more f (record f { last = Some (times t p) }) fs c w (sign (Repeat t) ∷ []) (λ d x g. frame_repeat d f x t p e g) refl) h)
 
 some_state : {a b : State} → Some a ≡ Some b → a ≡ b
 some_state e = cc
@@ -195,7 +193,7 @@ step_more left f fs u (sign Open) h st' is = open_more left f fs u h st' (nat_lt
 step_more left f fs u (sign Close) h st' is = close_more left f fs u h st' is
 step_more left f fs u (sign Cut) h st' is = cut_more left f fs u h st' is
 
-run_none : (ts : List Token) → run None ts ≡ None
+pub run_none : (ts : List Token) → run None ts ≡ None
 run_none [] = refl
 run_none (t ∷ ts) = run_none ts
 
@@ -213,16 +211,16 @@ finish_more None f [] u w h is =
     let e : record { left = None; right = expr_of f } ≡ w = same_whole is in
     subst (λ x. IsWhole u x) e (plain u (expr_of f) (subst (λ c. IsExpr 0 c u (expr_of f)) h.1 (frame_expr 0 f u h.0)))
   where
-  same_whole : {a b : Whole} → Some a ≡ Some b → a ≡ b
-  same_whole e = cc
+    same_whole : {a b : Whole} → Some a ≡ Some b → a ≡ b
+    same_whole e = cc
 finish_more None f (g ∷ gs) u w h is = cc
 finish_more (Some l) f [] u w h is =
     let e : record { left = Some l; right = expr_of f } ≡ w = same_whole is in
     subst (λ x. IsWhole u x) e (subst (λ x. IsWhole x (record { left = Some l; right = expr_of f })) (sym h.2)
-      (with_cut h.0 h.1 l (expr_of f) h.3 (subst (λ c. IsExpr 0 c h.1 (expr_of f)) (h.4).1 (frame_expr 0 f h.1 (h.4).0))))
+    (with_cut h.0 h.1 l (expr_of f) h.3 (subst (λ c. IsExpr 0 c h.1 (expr_of f)) (h.4).1 (frame_expr 0 f h.1 (h.4).0))))
   where
-  same_whole : {a b : Whole} → Some a ≡ Some b → a ≡ b
-  same_whole e = cc
+    same_whole : {a b : Whole} → Some a ≡ Some b → a ≡ b
+    same_whole e = cc
 finish_more (Some l) f (g ∷ gs) u w h is = cc
 
 read_more : (ts : List Token) (w : Whole) (st : Option State) → run (Some opening) ts ≡ st → finish st ≡ Some w → IsWhole ts w

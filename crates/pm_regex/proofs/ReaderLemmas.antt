@@ -1,17 +1,17 @@
 -- One token more of the reader.
-use Rattle.std.proofs.Common.{◌≡◌, ℕ, suc, ◌+◌, ◌<◌, ◌≤◌, Bool, true, false, List, [], ◌∷◌, ◌++◌, length, drop, Option, Some, None, refl, sym, ◌∙◌, subst, ap, arith, append_assoc, append-nil, length-append}
-use Rattle.std.specs.Prelude.{nat_lt, is_some, option_map}
+use Rattle.std.proofs.Common.{◌≡◌, ℕ, ◌<◌, ◌≤◌, Bool, false, List, [], ◌∷◌, ◌++◌, length, Option, Some, None, refl, sym, ◌∙◌, subst, ap, arith, append_assoc, append-nil, length-append}
+use Rattle.std.specs.Prelude.{is_some, option_map}
 use Rattle.std.proofs.lemmas.List.{same_from_push}
 use Rattle.pm_regex.specs.declared.op.Op.{Op}
 use Rattle.pm_regex.specs.declared.op.Op.TheVariants as op
 use Rattle.pm_regex.specs.declared.group.Group.{Group}
-use Rattle.pm_regex.specs.declared.sign.Sign.TheVariants.{Open, Close, Bar, Cut, Edge, Repeat, One}
-use Rattle.pm_regex.specs.Re.{Re, nothing, set, Whole}
-use Rattle.pm_regex.specs.Tokens.{Token, sign, bracket}
+use Rattle.pm_regex.specs.declared.sign.Sign.TheVariants.{Open}
+use Rattle.pm_regex.specs.Re.{Re, set}
+use Rattle.pm_regex.specs.Tokens.{sign}
 use Rattle.pm_regex.specs.Sets.{range_ops}
-use Rattle.pm_regex.specs.Machine.{Frame, State, fresh, with_piece, expr_of, closed_branch, step, finished}
-use Rattle.pm_regex.specs.Postfix.{stack_after, stack_next, push_op, is_single, is_spelling}
-use Rattle.pm_regex.specs.Groups.{put, outer_stack, GroupIs, GroupsAre, Shows, Joined, Ends}
+use Rattle.pm_regex.specs.Machine.{Frame, State, fresh, step}
+use Rattle.pm_regex.specs.Postfix.{stack_after, stack_next}
+use Rattle.pm_regex.specs.Groups.{GroupIs, GroupsAre, Ends}
 use Rattle.pm_regex.specs.Reader.{LeftIs}
 
 -- as many groups are noted as are open

@@ -1,15 +1,12 @@
 -- What the grammar spells is read.
-use Rattle.std.proofs.Common.{◌≡◌, ℕ, suc, ◌+◌, ◌<◌, Bool, true, false, List, [], ◌∷◌, ◌++◌, length, cond, Option, Some, None, refl, sym, ◌∙◌, subst, ap, arith, add-one}
-use Rattle.std.specs.Prelude.{nat_lt}
-use Rattle.pm_regex.specs.declared.op.Atom.{Atom}
-use Rattle.pm_regex.specs.declared.op.Atom.TheVariants.{Byte, AreaStart, AreaEnd}
+use Rattle.std.proofs.Common.{◌≡◌, ℕ, ◌+◌, ◌<◌, Bool, true, false, List, [], ◌∷◌, ◌++◌, length, Option, Some, None, refl, sym, ◌∙◌, ap, arith}
+use Rattle.pm_regex.specs.declared.op.Atom.TheVariants.{Byte}
 use Rattle.pm_regex.specs.declared.op.Times.{Times}
-use Rattle.pm_regex.specs.declared.op.Times.TheVariants.{Star, Plus, Maybe}
-use Rattle.pm_regex.specs.declared.sign.Sign.TheVariants.{Open, Close, Bar, Cut, Edge, Repeat, One}
-use Rattle.pm_regex.specs.Tokens.{Token, sign, bracket}
-use Rattle.pm_regex.specs.Re.{Re, nothing, one, set, seq, either, times, Whole}
+use Rattle.pm_regex.specs.declared.sign.Sign.TheVariants.{Open, Close, Bar, Cut, Repeat}
+use Rattle.pm_regex.specs.Tokens.{Token, sign}
+use Rattle.pm_regex.specs.Re.{Re, nothing, one, seq, either, Whole}
 use Rattle.pm_regex.specs.Grammar.{Stand, front, cut_front, behind, start_of, edge_atom, times_byte, IsPiece, atom, members, edge, front_times, cut_times, group, repeated, IsBranch, empty, first, more, IsExpr, branch, bar, IsWhole, plain, with_cut}
-use Rattle.pm_regex.specs.Machine.{Frame, State, fresh, branch_cut, stand_of, next_stand, closed_branch, with_piece, joined, expr_of, with_inner, step, run_next, run, finish, opening, reading, repeat_last}
+use Rattle.pm_regex.specs.Machine.{Frame, State, fresh, branch_cut, stand_of, next_stand, closed_branch, with_piece, expr_of, with_inner, run_next, run, finish, opening, reading, repeat_last}
 
 pub run-append : (st : Option State) (u v : List Token) → run st (u ++ v) ≡ run (run st u) v
 run-append st [] v = refl
@@ -64,7 +61,7 @@ mutual
       let r = expr_runs (d + 1) false v x g st.left (st.inner ∷ st.outer) (omega (arith, deep)) in
       ap (λ z. run z (v ++ sign Close ∷ [])) o
       ∙ then (Some st2) (Some (with_inner st2 r.0)) (Some (with_inner st (with_piece st.inner e))) v (sign Close ∷ []) r.1
-        (ap (λ z. Some (with_inner st (with_piece st.inner z))) r.2)
+      (ap (λ z. Some (with_inner st (with_piece st.inner z))) r.2)
   piece_runs d s u e (repeated _ _ t v x p) st deep stands =
       then (Some st) (Some (with_inner st (with_piece st.inner x))) (Some (with_inner st (with_piece st.inner e))) v (sign (Repeat t) ∷ []) (piece_runs d s v x p st deep stands) refl
 
@@ -86,10 +83,11 @@ mutual
   expr_runs d c u e (bar _ _ v w x y g b) left outer deep =
       let r = expr_runs d c v x g left outer deep in
       let f = r.0 in
-      let st = at left f.cut (Some (expr_of f)) outer in
-      (after st.inner y,
+      let st = at left f.cut (Some (expr_of f)) outer in (
+        after st.inner y,
         then (Some (at left c None outer)) (Some (record { left = left; inner = f; outer = outer })) _ v (sign Bar ∷ w) r.1 (branch_runs d false w y b left f.cut (Some (expr_of f)) outer deep refl),
-        ap (λ z. either z (closed_branch (after st.inner y).before (after st.inner y).last)) r.2 ∙ ap (λ z. either x z) (closed_after d false w y st.inner b))
+        ap (λ z. either z (closed_branch (after st.inner y).before (after st.inner y).last)) r.2 ∙ ap (λ z. either x z) (closed_after d false w y st.inner b),
+      )
 
 -- D3 and the reading: what is spelled is read
 pub whole_reads : (ts : List Token) (w : Whole) → IsWhole ts w → reading ts ≡ Some w

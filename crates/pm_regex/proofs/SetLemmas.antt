@@ -1,11 +1,10 @@
 -- A text has one member, and one bracket expression, at its front.
-use Rattle.std.proofs.Common.{◌≡◌, ◌≢◌, ◌==◌, ◌&&◌, not, ℕ, ◌+◌, ◌<◌, ◌≤◌, Bool, true, false, cond, List, [], ◌∷◌, ◌++◌, length, get_or, take, drop, Option, Some, None, refl, sym, ◌∙◌, subst, ap, arith, append_assoc, append-nil, length-append}
+use Rattle.std.proofs.Common.{◌≡◌, ◌≢◌, ◌==◌, not, ℕ, ◌+◌, ◌<◌, ◌≤◌, Bool, true, false, List, [], ◌∷◌, ◌++◌, length, get_or, drop, Option, Some, None, refl, sym, ◌∙◌, subst, ap, arith, append_assoc, append-nil}
 use Rattle.std.proofs.lemmas.Bool.{ne_eqb, eqb-true, eqb-false, not-true, and_parts}
 use Rattle.std.proofs.lemmas.List.{drop_more, drop-drop, drop_all}
 use Rattle.pm_regex.specs.declared.op.Op.{Op}
 use Rattle.pm_regex.specs.declared.op.Op.TheVariants as op
-use Rattle.pm_regex.specs.declared.sign.Sign.{Sign}
-use Rattle.pm_regex.specs.Tokens.{Token, sign, bracket, sign_of, escaped_sign, begins_with, ends_range, Member, range, byte, Members, closed, more, Body, body, First, plain, escape, edge, line_start, members, others}
+use Rattle.pm_regex.specs.Tokens.{begins_with, ends_range, Member, range, byte, Members, closed, more, Body, body}
 use Rattle.pm_regex.specs.Sets.{range_ops, ReadsMember, ReadsMembers, HasNoMember, HasNoBody}
 
 -- a member: its first byte, its last, and what follows
@@ -83,8 +82,8 @@ parts t rs rest (body _ u _ a b qs m ms) = (a, b, u, qs, m, ms, refl)
 no_members : (rs : List (ℕ × ℕ)) (rest : List ℕ) → Members [] rs rest → ⊥
 no_members rs rest (more _ u _ a b qs _ m ms) = absurd (no_member u a b m)
   where
-  no_member : (u : List ℕ) (a b : ℕ) → Member [] a b u → ⊥
-  no_member u a b m = let e = member_found [] a b u m in cc
+    no_member : (u : List ℕ) (a b : ℕ) → Member [] a b u → ⊥
+    no_member u a b m = let e = member_found [] a b u m in cc
 
 range_ops-append : (rs qs : List (ℕ × ℕ)) → range_ops (rs ++ qs) ≡ range_ops rs ++ range_ops qs
 range_ops-append [] qs = refl
@@ -125,10 +124,12 @@ next_read text before mid after place n other r x =
       forth = λ all rest b.
           let w = x.forth all rest b in
           let p = opened (drop place text) w.0 rest w.1 other in
-          let one = one_member (drop place text) p.0 p.1 r.first r.last p.2 (drop n (drop place text)) p.4 r.member in
-          (p.3, subst (λ u. Members u p.3 rest) (one.2 ∙ there) p.5,
+          let one = one_member (drop place text) p.0 p.1 r.first r.last p.2 (drop n (drop place text)) p.4 r.member in (
+            p.3,
+            subst (λ u. Members u p.3 rest) (one.2 ∙ there) p.5,
             w.2 ∙ ap (λ z. x.ranges ++ z) (p.6 ∙ ap (λ z. (z, p.1) ∷ p.3) one.0 ∙ ap (λ z. (r.first, z) ∷ p.3) one.1)
-            ∙ sym (append_assoc x.ranges ((r.first, r.last) ∷ []) p.3));
+                ∙ sym (append_assoc x.ranges ((r.first, r.last) ∷ []) p.3),
+          );
     }
 
 -- where no member follows, there are no members

@@ -1,5 +1,5 @@
 -- A text has one first token.
-use Rattle.std.proofs.Common.{◌≡◌, ◌≢◌, ◌==◌, ℕ, ◌+◌, ◌<◌, ◌≤◌, Bool, true, false, cond, List, [], ◌∷◌, ◌++◌, length, get_or, take, drop, Option, Some, None, refl, sym, ◌∙◌, subst, ap, arith, length-drop, ◌⊎◌, inl, inr}
+use Rattle.std.proofs.Common.{◌≡◌, ◌==◌, ℕ, ◌+◌, ◌<◌, ◌≤◌, Bool, true, false, cond, List, [], ◌∷◌, ◌++◌, length, get_or, drop, Option, Some, None, refl, sym, ◌∙◌, subst, ap, arith, length-drop, ◌⊎◌, inl, inr}
 use Rattle.std.proofs.lemmas.Bool.{eqb-true, cases_Bool}
 use Rattle.std.proofs.lemmas.List.{drop-drop}
 use Rattle.pm_regex.specs.declared.op.Op.{Op}
@@ -7,7 +7,7 @@ use Rattle.pm_regex.specs.declared.op.Op.TheVariants as op
 use Rattle.pm_regex.specs.declared.op.Atom.TheVariants.{LineStart}
 use Rattle.pm_regex.specs.declared.sign.Sign.{Sign}
 use Rattle.pm_regex.specs.declared.sign.Sign.TheVariants.{Edge, One}
-use Rattle.pm_regex.specs.Tokens.{Token, sign, bracket, sign_of, escaped_sign, begins_with, Member, Members, closed, more, Body, body, First, plain, escape, edge, line_start, members, others}
+use Rattle.pm_regex.specs.Tokens.{Token, sign, bracket, sign_of, escaped_sign, begins_with, Members, closed, more, Body, body, First, plain, escape, edge, line_start, members, others}
 use Rattle.pm_regex.specs.Sets.{range_ops, ReadsMembers, ReadsSet, HasNoBody}
 use Rattle.pm_regex.specs.Signs.{HasNoToken}
 use Rattle.pm_regex.proofs.SetLemmas.{one_member, opened, closed_there, parts}
@@ -160,3 +160,6 @@ first_by text t s u v x y (inr other) =
 -- a text has one first token
 pub one_first : (text : List ℕ) (t s : Token) (u v : List ℕ) → First text t u → First text s v → (t ≡ s) × (u ≡ v)
 one_first text t s u v x y = first_by text t s u v x y (cases_Bool (begins_with 91 text))
+
+pub none_first : (t : Token) (rest : List ℕ) → First [] t rest → ⊥
+none_first t rest f = let e = sign_front [] t rest f refl in cc

@@ -5,7 +5,7 @@ use Rattle.std.proofs.Common.{sym, ◌∙◌, ap, append_assoc}
 use Rattle.pm_regex.specs.declared.op.Op.{Op}
 use Rattle.pm_regex.specs.declared.op.Op.TheVariants as op
 use Rattle.pm_regex.specs.Re.{Re, nothing, one, set, seq, either, times, Whole}
-use Rattle.pm_regex.specs.Postfix.{push_op, stack_next, stack_after, top_of, tree_of, whole_of}
+use Rattle.pm_regex.specs.Postfix.{stack_after, top_of, tree_of, whole_of}
 
 abbrev pub with_ranges : List (ℕ × ℕ) → List Op → List Op
 with_ranges [] os = os
@@ -24,9 +24,9 @@ pub ranges_give : (negated : Bool) (qs rs : List (ℕ × ℕ)) (os : List Op) (e
     stack_after (with_ranges rs os) (Some (set negated qs ∷ es)) ≡ stack_after os (Some (set negated (qs ++ rs) ∷ es))
 ranges_give negated qs [] os es = ap (λ x. stack_after os (Some (set negated x ∷ es))) (sym (append_nil qs))
   where
-  append_nil : (xs : List (ℕ × ℕ)) → xs ++ [] ≡ xs
-  append_nil [] = refl
-  append_nil (x ∷ xs) = ap (λ z. x ∷ z) (append_nil xs)
+    append_nil : (xs : List (ℕ × ℕ)) → xs ++ [] ≡ xs
+    append_nil [] = refl
+    append_nil (x ∷ xs) = ap (λ z. x ∷ z) (append_nil xs)
 ranges_give negated qs (r ∷ rs) os es =
     ranges_give negated (qs ++ r ∷ []) rs os es ∙ ap (λ x. stack_after os (Some (set negated x ∷ es))) (append_assoc qs (r ∷ []) rs)
 

@@ -1,6 +1,6 @@
 -- How far a text is expanded.
 use Rattle.std.specs.Prelude.{◌≡◌, ℕ, ◌<◌, ◌≤◌, List, ◌++◌, length}
-use Rattle.pm_regex.specs.Macros.{macro_at, span_of, put_for, Expands}
+use Rattle.pm_regex.specs.Macros.{macro_at, span_of, put_for}
 
 -- the bytes are added, and the whole is within the limit
 pub record Puts (before bytes after : List ℕ) : Type 0 where

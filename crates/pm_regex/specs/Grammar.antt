@@ -1,5 +1,5 @@
 -- The grammar: which tokens spell which expression.
-use Rattle.std.specs.Prelude.{◌≡◌, ℕ, ◌+◌, ◌<◌, Bool, true, false, List, [], ◌∷◌, ◌++◌, Option, Some, None}
+use Rattle.std.specs.Prelude.{ℕ, ◌+◌, ◌<◌, Bool, true, false, List, [], ◌∷◌, ◌++◌, Some, None}
 use Rattle.pm_regex.specs.declared.op.Atom.{Atom}
 use Rattle.pm_regex.specs.declared.op.Atom.TheVariants.{Byte, AreaStart, AreaEnd}
 use Rattle.pm_regex.specs.declared.op.Times.{Times}

@@ -1,5 +1,5 @@
 -- What the operators written so far stand for, in the open groups.
-use Rattle.std.specs.Prelude.{◌≡◌, Bool, List, [], ◌∷◌, ◌++◌, Option, Some, None, is_some}
+use Rattle.std.specs.Prelude.{◌≡◌, List, [], ◌∷◌, ◌++◌, Option, Some, None, is_some}
 use Rattle.pm_regex.specs.declared.op.Op.{Op}
 use Rattle.pm_regex.specs.declared.group.Group.{Group}
 use Rattle.pm_regex.specs.Re.{Re}

@@ -10,3 +10,4 @@ pub mod Grammar
 pub mod Machine
 pub mod Groups
 pub mod Reader
+pub mod Reading

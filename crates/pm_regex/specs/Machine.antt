@@ -1,13 +1,11 @@
 -- Reading token by token.
-use Rattle.std.specs.Prelude.{◌≡◌, ℕ, ◌+◌, ◌<◌, Bool, true, false, List, [], ◌∷◌, ◌++◌, length, nat_lt, Option, Some, None, if◌then◌else◌}
-use Rattle.pm_regex.specs.declared.op.Atom.{Atom}
-use Rattle.pm_regex.specs.declared.op.Atom.TheVariants.{Byte, AreaStart, AreaEnd}
+use Rattle.std.specs.Prelude.{Bool, true, false, List, [], ◌∷◌, length, nat_lt, Option, Some, None, if◌then◌else◌}
+use Rattle.pm_regex.specs.declared.op.Atom.TheVariants.{Byte}
 use Rattle.pm_regex.specs.declared.op.Times.{Times}
-use Rattle.pm_regex.specs.declared.op.Times.TheVariants.{Star, Plus, Maybe}
 use Rattle.pm_regex.specs.declared.sign.Sign.TheVariants.{Open, Close, Bar, Cut, Edge, Repeat, One}
 use Rattle.pm_regex.specs.Tokens.{Token, sign, bracket}
 use Rattle.pm_regex.specs.Re.{Re, nothing, one, set, seq, either, times, Whole}
-use Rattle.pm_regex.specs.Grammar.{Stand, front, cut_front, behind, start_of, edge_atom, times_byte}
+use Rattle.pm_regex.specs.Grammar.{Stand, behind, start_of, edge_atom, times_byte}
 
 -- an open group: its finished branches, the pieces of this branch but the last, and the last
 pub record Frame : Type 0 where

@@ -7,9 +7,11 @@ mod group;
 mod macros;
 mod op;
 mod reader;
+mod reading;
 mod set;
 mod sign;
 
 pub use error::ReadRefused;
 pub use expr::Expr;
 pub use op::{Atom, Op, Times};
+pub use reading::read;

@@ -4,11 +4,10 @@ ghost use Rattle.pm_regex.specs.Reader.{ReaderIs, Takes, Refuses, TakesFirst, Re
 
 use crate::error::ReadRefused;
 use crate::expr::Expr;
-use crate::group;
 use crate::group::Group;
 use crate::op::{Atom, Op, Times};
-use crate::set;
 use crate::sign::{Sign, begins_with, sign_at};
+use crate::{group, set};
 use pm_bytes::Memory;
 use std::alloc::Global;
 use std::mem;

@@ -1,7 +1,7 @@
 use Rattle.std.proofs.Common.{◌≡◌, ◌<◌, ◌≤◌, true, false, length, drop, refl, sym, arith, length-drop}
 use Rattle.pm_regex.specs.Tokens.{begins_with}
 use Rattle.pm_regex.proofs.ExpandLemmas.{rest_is}
-use Rattle.pm_regex.proofs.TokenLemmas.{begins_some, negated_set, plain_set, no_bracket}
+use Rattle.pm_regex.proofs.TokenLemmas.{begins_some, negated_set, plain_set}
 use Rattle.pm_regex.proofs.set.set.Goals as goal
 
 pub returns-then-begins_with-clause-ok : goal.returns-then-begins_with-clause-ok

@@ -1,5 +1,4 @@
-use Rattle.std.proofs.Common.{◌≡◌, ◌<◌, ◌≤◌, true, false, length, drop, refl, sym, lit<, arith, length-drop}
-use Rattle.pm_regex.specs.Tokens.{begins_with}
+use Rattle.std.proofs.Common.{◌<◌, length, drop, refl, sym, lit<, arith, length-drop}
 use Rattle.pm_regex.proofs.ExpandLemmas.{rest_is}
 use Rattle.pm_regex.proofs.TokenLemmas.{begins_some, edge_there, line_start_there}
 use Rattle.pm_regex.proofs.sign.caret_at.Goals as goal

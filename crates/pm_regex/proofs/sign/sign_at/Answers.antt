@@ -1,4 +1,4 @@
-use Rattle.std.proofs.Common.{◌<◌, length, lit<, sym, ◌∙◌, arith}
+use Rattle.std.proofs.Common.{◌<◌, length, lit<, sym, arith}
 use Rattle.std.proofs.lemmas.Bool.{eqb-false}
 use Rattle.pm_regex.proofs.TokenLemmas.{plain_there}
 use Rattle.pm_regex.proofs.sign.sign_at.Goals as goal

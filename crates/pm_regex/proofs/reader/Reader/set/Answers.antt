@@ -10,12 +10,16 @@ returns-clause-ok c =
       some = r.some;
       within = r.within;
       first = r.token;
-      takes = λ st is. (_, refl, record {
-        left = is.left;
-        shows = record {
-          stack = stack_set _ _ r.negated r.ranges _ r.ops (c.in_ok-join_last.ensures st.inner st.outer is.shows);
-          group = (((is.shows).group).0, refl, ((is.shows).group).2);
-        };
-        around = is.around;
-      });
+      takes = λ st is. (
+        _,
+        refl,
+        record {
+          left = is.left;
+          shows = record {
+            stack = stack_set _ _ r.negated r.ranges _ r.ops (c.in_ok-join_last.ensures st.inner st.outer is.shows);
+            group = (((is.shows).group).0, refl, ((is.shows).group).2);
+          };
+          around = is.around;
+        },
+      );
     }
