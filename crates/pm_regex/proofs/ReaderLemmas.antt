@@ -10,7 +10,7 @@ use Rattle.pm_regex.specs.Re.{Re, set}
 use Rattle.pm_regex.specs.Tokens.{sign}
 use Rattle.pm_regex.specs.Sets.{range_ops}
 use Rattle.pm_regex.specs.Machine.{Frame, State, fresh, step}
-use Rattle.pm_regex.specs.Postfix.{stack_after, stack_next}
+use Rattle.pm_regex.specs.Postfix.{Stack, only, stack_after, stack_next}
 use Rattle.pm_regex.specs.Groups.{GroupIs, GroupsAre, Ends}
 use Rattle.pm_regex.specs.Reader.{LeftIs}
 
@@ -55,24 +55,24 @@ none_left None f None e h = refl
 none_left None f (Some x) e h = absurd h
 none_left (Some v) f o e h = cc
 
-stack_append : (os ps : List Op) (es : Option (List Re)) → stack_after (os ++ ps) es ≡ stack_after ps (stack_after os es)
+stack_append : (os ps : List Op) (es : Option Stack) → stack_after (os ++ ps) es ≡ stack_after ps (stack_after os es)
 stack_append [] ps es = refl
 stack_append (o ∷ os) ps es = stack_append os ps (stack_next es o)
 
-stack_ranges : (negated : Bool) (qs rs : List (ℕ × ℕ)) (es : List Re) →
-    stack_after (range_ops rs) (Some (set negated qs ∷ es)) ≡ Some (set negated (qs ++ rs) ∷ es)
-stack_ranges negated qs [] es = ap (λ z. Some (set negated z ∷ es)) (sym (append-nil qs))
-stack_ranges negated qs (r ∷ rs) es =
-    stack_ranges negated (qs ++ r ∷ []) rs es ∙ ap (λ z. Some (set negated z ∷ es)) (append_assoc qs (r ∷ []) rs)
+abbrev waiting : List Re → List (ℕ × ℕ) → Option Stack
+waiting es rs = Some (rs, es)
+
+stack_ranges : (qs rs : List (ℕ × ℕ)) (es : List Re) → stack_after (range_ops rs) (waiting es qs) ≡ waiting es (qs ++ rs)
+stack_ranges qs [] es = ap (waiting es) (sym (append-nil qs))
+stack_ranges qs (r ∷ rs) es = stack_ranges (qs ++ r ∷ []) rs es ∙ ap (waiting es) (append_assoc qs (r ∷ []) rs)
 
 -- the operators of a bracket expression put it on top
-pub stack_set : (old new : List Op) (negated : Bool) (rs : List (ℕ × ℕ)) (es : List Re) → new ≡ (old ++ op.Set negated ∷ []) ++ range_ops rs →
-    stack_after old (Some []) ≡ Some es → stack_after new (Some []) ≡ Some (set negated rs ∷ es)
+pub stack_set : (old new : List Op) (negated : Bool) (rs : List (ℕ × ℕ)) (es : List Re) → new ≡ (old ++ range_ops rs) ++ op.Set negated ∷ [] →
+    stack_after old (only []) ≡ only es → stack_after new (only []) ≡ only (set negated rs ∷ es)
 stack_set old new negated rs es e h =
-    ap (λ z. stack_after z (Some [])) e ∙ stack_append (old ++ op.Set negated ∷ []) (range_ops rs) (Some [])
-    ∙ ap (λ z. stack_after (range_ops rs) z) (stack_append old (op.Set negated ∷ []) (Some []) ∙ ap (λ z. stack_next z (op.Set negated)) h)
-    ∙ stack_ranges negated [] rs es
+    ap (λ z. stack_after z (only [])) e ∙ stack_append (old ++ range_ops rs) (op.Set negated ∷ []) (only [])
+    ∙ ap (λ z. stack_next z (op.Set negated)) (stack_append old (range_ops rs) (only []) ∙ ap (λ z. stack_after (range_ops rs) z) h ∙ stack_ranges [] rs es)
 
 -- with no group around, the operators spell the expression
-pub ends_alone : (ops : List Op) (e : Re) (outer : List Frame) → outer ≡ [] → Ends ops e outer → stack_after ops (Some []) ≡ Some (e ∷ [])
+pub ends_alone : (ops : List Op) (e : Re) (outer : List Frame) → outer ≡ [] → Ends ops e outer → stack_after ops (only []) ≡ only (e ∷ [])
 ends_alone ops e outer none h = subst (λ fs. Ends ops e fs) none h

@@ -8,7 +8,7 @@ use Rattle.pm_regex.specs.declared.op.Atom.TheVariants.{LineStart}
 use Rattle.pm_regex.specs.declared.sign.Sign.{Sign}
 use Rattle.pm_regex.specs.declared.sign.Sign.TheVariants.{Edge, One}
 use Rattle.pm_regex.specs.Tokens.{Token, sign, bracket, sign_of, escaped_sign, begins_with, Members, closed, more, Body, body, First, plain, escape, edge, line_start, members, others}
-use Rattle.pm_regex.specs.Sets.{range_ops, ReadsMembers, ReadsSet, HasNoBody}
+use Rattle.pm_regex.specs.Sets.{ReadsMembers, ReadsSet, HasNoBody}
 use Rattle.pm_regex.specs.Signs.{HasNoToken}
 use Rattle.pm_regex.proofs.SetLemmas.{one_member, opened, closed_there, parts}
 
@@ -61,25 +61,25 @@ no_bracket text there none t rest first =
 
 -- the members behind the first two bytes, or behind the first
 pub negated_set : (text : List ℕ) (before mid after : List Op) (n : ℕ) → begins_with 91 text ≡ true → begins_with 94 (drop 1 text) ≡ true →
-    2 ≤ length text → mid ≡ before ++ op.Set true ∷ [] → ReadsMembers (drop 2 text) mid after n → ReadsSet text before after (2 + n)
+    2 ≤ length text → after ≡ mid ++ op.Set true ∷ [] → ReadsMembers (drop 2 text) before mid n → ReadsSet text before after (2 + n)
 negated_set text before mid after n there is two new r = record {
   negated = true;
   ranges = r.ranges;
   some = omega arith;
   within = omega (arith, r.within, length-drop 2 text);
   token = set_token text true r.ranges (drop (2 + n) text) there is (subst (λ z. Body (drop 2 text) r.ranges z) (drop-drop n 2 text) r.body);
-  ops = r.ops ∙ ap (λ z. z ++ range_ops r.ranges) new;
+  ops = new ∙ ap (λ z. z ++ op.Set true ∷ []) r.ops;
 }
 
 pub plain_set : (text : List ℕ) (before mid after : List Op) (n : ℕ) → begins_with 91 text ≡ true → begins_with 94 (drop 1 text) ≡ false →
-    1 ≤ length text → mid ≡ before ++ op.Set false ∷ [] → ReadsMembers (drop 1 text) mid after n → ReadsSet text before after (1 + n)
+    1 ≤ length text → after ≡ mid ++ op.Set false ∷ [] → ReadsMembers (drop 1 text) before mid n → ReadsSet text before after (1 + n)
 plain_set text before mid after n there is one new r = record {
   negated = false;
   ranges = r.ranges;
   some = omega arith;
   within = omega (arith, r.within, length-drop 1 text);
   token = set_token text false r.ranges (drop (1 + n) text) there is (subst (λ z. Body (drop 1 text) r.ranges z) (drop-drop n 1 text) r.body);
-  ops = r.ops ∙ ap (λ z. z ++ range_ops r.ranges) new;
+  ops = new ∙ ap (λ z. z ++ op.Set false ∷ []) r.ops;
 }
 
 pub escaped_there : (text : List ℕ) → begins_with 92 text ≡ true → 2 ≤ length text → First text (sign (escaped_sign (get_or text 1 0))) (drop 2 text)

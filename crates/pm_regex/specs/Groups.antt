@@ -4,7 +4,7 @@ use Rattle.pm_regex.specs.declared.op.Op.{Op}
 use Rattle.pm_regex.specs.declared.group.Group.{Group}
 use Rattle.pm_regex.specs.Re.{Re}
 use Rattle.pm_regex.specs.Machine.{Frame, closed_branch}
-use Rattle.pm_regex.specs.Postfix.{stack_after}
+use Rattle.pm_regex.specs.Postfix.{only, stack_after}
 
 abbrev pub put : Option Re → List Re → List Re
 put None es = es
@@ -26,16 +26,16 @@ GroupsAre gs (f ∷ fs) = (rest : List Group) × (g : Group) × (gs ≡ rest ++ 
 
 -- the operators give the innermost group's parts, on top of the groups around it
 pub record Shows (ops : List Op) (g : Group) (f : Frame) (fs : List Frame) : Type 0 where
-  pub stack : stack_after ops (Some []) ≡ Some (put f.last (f.before ∷ put f.bars (outer_stack fs)))
+  pub stack : stack_after ops (only []) ≡ only (put f.last (f.before ∷ put f.bars (outer_stack fs)))
   pub group : GroupIs g f
 
 -- its last piece is joined to those before it
 abbrev pub Joined : List Op → Frame → List Frame → Type 0
-Joined ops f fs = stack_after ops (Some []) ≡ Some (outer_stack (f ∷ fs))
+Joined ops f fs = stack_after ops (only []) ≡ only (outer_stack (f ∷ fs))
 
 -- the operators give the expression, on top of the groups around it
 abbrev pub Ends : List Op → Re → List Frame → Type 0
-Ends ops e fs = stack_after ops (Some []) ≡ Some (e ∷ outer_stack fs)
+Ends ops e fs = stack_after ops (only []) ≡ only (e ∷ outer_stack fs)
 
 -- whatever the first operators show, the others show the same group with that change
 abbrev pub Changes : List Op → Group → List Op → Group → (Frame → Frame) → Type 0

@@ -4,53 +4,61 @@ use Rattle.pm_regex.specs.declared.op.Op.{Op}
 use Rattle.pm_regex.specs.declared.op.Op.TheVariants as op
 use Rattle.pm_regex.specs.Re.{Re, nothing, one, set, seq, either, times, Whole}
 
--- a range becomes the last of the bracket expression that stands on top
-abbrev pub push_range : ℕ → ℕ → List Re → Option (List Re)
-push_range a b (set negated rs ∷ es) = Some (set negated (rs ++ (a, b) ∷ []) ∷ es)
-push_range a b _ = None
+-- what operators leave: ranges that wait for their bracket expression, and the expressions so far, the newest first
+abbrev pub Stack : Type 0
+Stack = List (ℕ × ℕ) × List Re
 
--- the expressions so far, the newest first, after one more operator
-abbrev pub push_op : Op → List Re → Option (List Re)
-push_op op.Nothing es = Some (nothing ∷ es)
-push_op (op.One a) es = Some (one a ∷ es)
-push_op (op.Set negated) es = Some (set negated [] ∷ es)
-push_op (op.Range a b) es = push_range a b es
-push_op op.Seq (b ∷ a ∷ es) = Some (seq a b ∷ es)
-push_op op.Either (b ∷ a ∷ es) = Some (either a b ∷ es)
-push_op (op.Repeat t) (a ∷ es) = Some (times t a ∷ es)
-push_op _ _ = None
+-- no ranges wait
+abbrev pub only : List Re → Option Stack
+only es = Some ([], es)
 
-abbrev pub stack_next : Option (List Re) → Op → Option (List Re)
+-- one more operator
+abbrev pub push_op : Op → List (ℕ × ℕ) → List Re → Option Stack
+push_op op.Nothing rs es = Some (rs, nothing ∷ es)
+push_op (op.One a) rs es = Some (rs, one a ∷ es)
+push_op (op.Range a b) rs es = Some (rs ++ (a, b) ∷ [], es)
+push_op (op.Set negated) rs es = Some ([], set negated rs ∷ es)
+push_op op.Seq rs (b ∷ a ∷ es) = Some (rs, seq a b ∷ es)
+push_op op.Either rs (b ∷ a ∷ es) = Some (rs, either a b ∷ es)
+push_op (op.Repeat t) rs (a ∷ es) = Some (rs, times t a ∷ es)
+push_op _ _ _ = None
+
+abbrev pub stack_next : Option Stack → Op → Option Stack
 stack_next None o = None
-stack_next (Some es) o = push_op o es
+stack_next (Some s) o = push_op o s.0 s.1
 
--- the expressions after these operators
-abbrev pub stack_after : List Op → Option (List Re) → Option (List Re)
-stack_after [] es = es
-stack_after (o ∷ os) es = stack_after os (stack_next es o)
+-- what these operators leave
+abbrev pub stack_after : List Op → Option Stack → Option Stack
+stack_after [] s = s
+stack_after (o ∷ os) s = stack_after os (stack_next s o)
 
 -- the operators spell this expression
 abbrev pub Spells : List Op → Re → Type 0
-Spells os e = stack_after os (Some []) ≡ Some (e ∷ [])
+Spells os e = stack_after os (only []) ≡ only (e ∷ [])
 
-abbrev pub is_single : Option (List Re) → Bool
+abbrev pub is_one : List (ℕ × ℕ) → List Re → Bool
+is_one [] (e ∷ []) = true
+is_one _ _ = false
+
+abbrev pub is_single : Option Stack → Bool
 is_single None = false
-is_single (Some []) = false
-is_single (Some (e ∷ [])) = true
-is_single (Some (e ∷ f ∷ es)) = false
+is_single (Some s) = is_one s.0 s.1
 
 -- whether the operators spell an expression
 abbrev pub is_spelling : List Op → Bool
-is_spelling os = is_single (stack_after os (Some []))
+is_spelling os = is_single (stack_after os (only []))
 
-abbrev pub top_of : Option (List Re) → Re
+abbrev pub first_of : List Re → Re
+first_of [] = nothing
+first_of (e ∷ es) = e
+
+abbrev pub top_of : Option Stack → Re
 top_of None = nothing
-top_of (Some []) = nothing
-top_of (Some (e ∷ es)) = e
+top_of (Some s) = first_of s.1
 
 -- the expression that the operators spell
 abbrev pub tree_of : List Op → Re
-tree_of os = top_of (stack_after os (Some []))
+tree_of os = top_of (stack_after os (only []))
 
 -- the same left of the cut, where there is one
 abbrev pub is_left_spelling : Option (List Op) → Bool

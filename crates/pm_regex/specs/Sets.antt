@@ -32,7 +32,7 @@ pub record ReadsSet (text : List ℕ) (before after : List Op) (n : ℕ) : Type 
   pub some : 0 < n
   pub within : n ≤ length text
   pub token : First text (bracket negated ranges) (drop n text)
-  pub ops : after ≡ (before ++ op.Set negated ∷ []) ++ range_ops ranges
+  pub ops : after ≡ (before ++ range_ops ranges) ++ op.Set negated ∷ []
 
 abbrev pub HasNoMember : List ℕ → Type 0
 HasNoMember text = (a b : ℕ) (u : List ℕ) → Member text a b u → ⊥

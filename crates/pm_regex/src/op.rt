@@ -37,10 +37,10 @@ pub enum Op {
     /// The expression of no bytes.
     Nothing,
     One(Atom),
-    /// A bracket expression that has no members yet; true where it begins with `^`.
-    Set(bool),
-    /// The bytes from the first to the last become members of the bracket expression before it.
+    /// The bytes from the first to the last, for the bracket expression that follows.
     Range(u8, u8),
+    /// A bracket expression of the ranges before it; true where it begins with `^`.
+    Set(bool),
     /// Two expressions one behind the other.
     Seq,
     /// One of two expressions.

@@ -62,9 +62,11 @@ pub fn set(ops: &mut Vec<Op>, text: &[u8]) -> Result<usize, ReadRefused>
     ensures defect { result ≡ Err ReadRefused.Defect → HasNoToken text.now }
 {
     if begins_with(b'^', &text[1..]) {
+        let length = members(ops, &text[2..])?;
         ops.push(Op::Set(true))?;
-        return Ok(2 + members(ops, &text[2..])?);
+        return Ok(2 + length);
     }
+    let length = members(ops, &text[1..])?;
     ops.push(Op::Set(false))?;
-    Ok(1 + members(ops, &text[1..])?)
+    Ok(1 + length)
 }
