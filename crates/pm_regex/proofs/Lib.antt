@@ -1,5 +1,5 @@
-pub mod Runs
-pub mod Partial
+pub mod Complete
+pub mod Sound
 pub mod ExpandLemmas
 pub mod SetLemmas
 pub mod TokenLemmas

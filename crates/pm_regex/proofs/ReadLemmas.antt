@@ -9,8 +9,8 @@ use Rattle.pm_regex.specs.Grammar.{IsWhole}
 use Rattle.pm_regex.specs.Machine.{State, opening, step, run, finish, finished}
 use Rattle.pm_regex.specs.Reader.{ReaderIs, RefusesFirst}
 use Rattle.pm_regex.specs.Reading.{Reads, ReadsTokens}
-use Rattle.pm_regex.proofs.Runs.{whole_reads, one_reading}
-use Rattle.pm_regex.proofs.Partial.{reads_whole, run_none}
+use Rattle.pm_regex.proofs.Complete.{whole_reads, one_reading}
+use Rattle.pm_regex.proofs.Sound.{reads_whole, run_none}
 use Rattle.pm_regex.proofs.ExpandLemmas.{one_text}
 use Rattle.pm_regex.proofs.TokenLemmas.{one_first, none_first}
 

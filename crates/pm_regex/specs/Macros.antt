@@ -42,7 +42,7 @@ macro_at text =
     (if is_at FromMailer text then Some FromMailer else
     None)))
 
--- the bytes up to the first `]`, or all
+-- the bytes up to the first `]` (93), or all
 abbrev pub to_bracket : List ℕ → List ℕ
 to_bracket [] = []
 to_bracket (b ∷ u) = if b == 93 then b ∷ [] else b ∷ to_bracket u
@@ -52,12 +52,13 @@ abbrev pub members_text : List ℕ → List ℕ
 members_text [] = []
 members_text (b ∷ u) = b ∷ to_bracket u
 
--- behind a `[`
+-- a bracket expression behind its `[`, with its `^` (94) where it has one
 abbrev pub bracket_text : List ℕ → List ℕ
 bracket_text [] = []
 bracket_text (b ∷ u) = if b == 94 then b ∷ members_text u else members_text (b ∷ u)
 
--- where no macro stands: two bytes where the text begins with `\` or with two carets, a bracket expression, or one byte
+-- where no macro stands: two bytes where the text begins with `\` (92) or with two carets (94), a bracket expression
+-- (91), or one byte
 abbrev pub span_behind : ℕ → List ℕ → List ℕ
 span_behind b [] = b ∷ []
 span_behind b (c ∷ u) =

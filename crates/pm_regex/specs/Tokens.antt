@@ -10,7 +10,8 @@ pub data Token : Type 0 where
   sign : Sign → Token
   bracket : Bool → List (ℕ × ℕ) → Token
 
--- what a byte spells by itself; `[`, `\` and `^` depend on what follows
+-- What a byte spells by itself, in the order `(` `)` `|` `*` `+` `?` `.` `$`. The next three, `[` `\` `^`, depend on what
+-- follows, and any other byte is itself.
 abbrev pub sign_of : ℕ → Option Sign
 sign_of b =
     if b == 40 then Some Open else
@@ -26,7 +27,7 @@ sign_of b =
     (if b == 94 then None else
     Some (One (Byte b))))))))))))
 
--- what a `\` and the byte behind it spell: the cut, the edges of words, or that byte
+-- what a `\` and the byte behind it spell: the cut at `/`, the edges of words at `<` and `>`, and else that byte
 abbrev pub escaped_sign : ℕ → Sign
 escaped_sign b =
     if b == 47 then Cut else
@@ -45,7 +46,7 @@ ends_range [] = false
 ends_range (a ∷ []) = false
 ends_range (a ∷ b ∷ u) = (a == 45) && not (b == 93)
 
--- a member at the front of a text: its first byte, its last, and what follows it
+-- a member at the front of a text: its first byte, its last, and what follows it; 45 is `-` and 93 is `]`
 pub data Member : List ℕ → ℕ → ℕ → List ℕ → Type 0 where
   range : (a b : ℕ) (u : List ℕ) → b ≢ 93 → a ≤ b → Member (a ∷ 45 ∷ b ∷ u) a b u
   byte : (a : ℕ) (u : List ℕ) → ends_range u ≡ false → Member (a ∷ u) a a u
@@ -60,7 +61,7 @@ pub data Members : List ℕ → List (ℕ × ℕ) → List ℕ → Type 0 where
 pub data Body : List ℕ → List (ℕ × ℕ) → List ℕ → Type 0 where
   body : (t u rest : List ℕ) (a b : ℕ) (rs : List (ℕ × ℕ)) → Member t a b u → Members u rs rest → Body t ((a, b) ∷ rs) rest
 
--- the first token of a text, and what follows it
+-- the first token of a text, and what follows it; 91 is `[`, 92 is `\` and 94 is `^`
 pub data First : List ℕ → Token → List ℕ → Type 0 where
   plain : (b : ℕ) (s : Sign) (rest : List ℕ) → sign_of b ≡ Some s → First (b ∷ rest) (sign s) rest
   escape : (b : ℕ) (rest : List ℕ) → First (92 ∷ b ∷ rest) (sign (escaped_sign b)) rest

@@ -89,7 +89,7 @@ mutual
         ap (λ z. either z (closed_branch (after st.inner y).before (after st.inner y).last)) r.2 ∙ ap (λ z. either x z) (closed_after d false w y st.inner b),
       )
 
--- D3 and the reading: what is spelled is read
+-- what the grammar spells is read
 pub whole_reads : (ts : List Token) (w : Whole) → IsWhole ts w → reading ts ≡ Some w
 whole_reads ts w (plain u e g) =
     let r = expr_runs 0 false u e g None [] refl in
@@ -100,6 +100,6 @@ whole_reads ts w (with_cut u v l e g h) =
     let mid : run_next (Some (record { left = None; inner = r.0; outer = [] })) (sign Cut) ≡ Some (at (Some l) true None []) = ap (λ z. Some (at (Some z) true None [])) r.2 in
     ap finish (then (Some opening) _ _ u (sign Cut ∷ v) r.1 (ap (λ z. run z v) mid ∙ q.1)) ∙ ap (λ z. Some (record { left = Some l; right = z })) q.2
 
--- a text has at most one expression
+-- tokens have at most one expression
 pub one_reading : (ts : List Token) (w x : Whole) → IsWhole ts w → IsWhole ts x → w ≡ x
 one_reading ts w x g h = let e : Some w ≡ Some x = sym (whole_reads ts w g) ∙ whole_reads ts x h in cc
