@@ -6,6 +6,7 @@ use Rattle.pm_regex.specs.Re.{Re}
 use Rattle.pm_regex.specs.Machine.{Frame, closed_branch}
 use Rattle.pm_regex.specs.Postfix.{only, stack_after}
 
+-- this expression on top, where there is one
 abbrev pub put : Option Re → List Re → List Re
 put None es = es
 put (Some e) es = e ∷ es

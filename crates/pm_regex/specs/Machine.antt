@@ -35,6 +35,7 @@ abbrev pub stand_of : Bool → Option Re → Stand
 stand_of c (Some p) = behind
 stand_of c None = start_of c
 
+-- the same of a group
 abbrev pub next_stand : Frame → Stand
 next_stand f = stand_of (branch_cut f.cut f.bars) f.last
 
@@ -95,6 +96,7 @@ step st (sign Open) = if nat_lt (length st.outer) 200 then Some (record { left =
 step st (sign Close) = close_group st st.outer
 step st (sign Cut) = cut_here st st.left st.outer
 
+-- one token more, where the ones before could stand
 abbrev pub run_next : Option State → Token → Option State
 run_next None t = None
 run_next (Some st) t = step st t
@@ -109,6 +111,7 @@ abbrev pub finished : State → List Frame → Option Whole
 finished st [] = Some (record { left = st.left; right = expr_of st.inner })
 finished st (f ∷ fs) = None
 
+-- the same where all tokens could stand
 abbrev pub finish : Option State → Option Whole
 finish None = None
 finish (Some st) = finished st st.outer

@@ -67,6 +67,7 @@ span_behind b (c ∷ u) =
     (if (b == 94) && (c == 94) then b ∷ c ∷ [] else
     b ∷ []))
 
+-- the same of a whole text
 abbrev pub plain_span : List ℕ → List ℕ
 plain_span [] = []
 plain_span (b ∷ u) = span_behind b u

@@ -23,6 +23,7 @@ push_op op.Either rs (b ∷ a ∷ es) = Some (rs, either a b ∷ es)
 push_op (op.Repeat t) rs (a ∷ es) = Some (rs, times t a ∷ es)
 push_op _ _ _ = None
 
+-- the same where the operators before it have their operands
 abbrev pub stack_next : Option Stack → Op → Option Stack
 stack_next None o = None
 stack_next (Some s) o = push_op o s.0 s.1
@@ -36,10 +37,12 @@ stack_after (o ∷ os) s = stack_after os (stack_next s o)
 abbrev pub Spells : List Op → Re → Type 0
 Spells os e = stack_after os (only []) ≡ only (e ∷ [])
 
+-- one expression is left, and no ranges wait
 abbrev pub is_one : List (ℕ × ℕ) → List Re → Bool
 is_one [] (e ∷ []) = true
 is_one _ _ = false
 
+-- the same where all operators have their operands
 abbrev pub is_single : Option Stack → Bool
 is_single None = false
 is_single (Some s) = is_one s.0 s.1
@@ -48,10 +51,12 @@ is_single (Some s) = is_one s.0 s.1
 abbrev pub is_spelling : List Op → Bool
 is_spelling os = is_single (stack_after os (only []))
 
+-- the newest expression
 abbrev pub first_of : List Re → Re
 first_of [] = nothing
 first_of (e ∷ es) = e
 
+-- the same where all operators have their operands
 abbrev pub top_of : Option Stack → Re
 top_of None = nothing
 top_of (Some s) = first_of s.1
@@ -65,5 +70,6 @@ abbrev pub is_left_spelling : Option (List Op) → Bool
 is_left_spelling None = true
 is_left_spelling (Some os) = is_spelling os
 
+-- the expression that both lists of operators spell
 abbrev pub whole_of : Option (List Op) → List Op → Whole
 whole_of l r = record { left = option_map tree_of l; right = tree_of r }

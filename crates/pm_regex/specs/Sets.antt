@@ -34,8 +34,10 @@ pub record ReadsSet (text : List ℕ) (before after : List Op) (n : ℕ) : Type 
   pub token : First text (bracket negated ranges) (drop n text)
   pub ops : after ≡ (before ++ range_ops ranges) ++ op.Set negated ∷ []
 
+-- no member stands at the front of the text
 abbrev pub HasNoMember : List ℕ → Type 0
 HasNoMember text = (a b : ℕ) (u : List ℕ) → Member text a b u → ⊥
 
+-- no members with their `]` stand there
 abbrev pub HasNoBody : List ℕ → Type 0
 HasNoBody text = (rs : List (ℕ × ℕ)) (rest : List ℕ) → Body text rs rest → ⊥
