@@ -1,0 +1,9 @@
+pub mod Complete
+pub mod Sound
+pub mod ExpandLemmas
+pub mod SetLemmas
+pub mod TokenLemmas
+pub mod ExprLemmas
+pub mod GroupLemmas
+pub mod ReaderLemmas
+pub mod ReadLemmas

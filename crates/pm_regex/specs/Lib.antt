@@ -1,0 +1,13 @@
+pub mod Re
+pub mod Macros
+pub mod Expansion
+pub mod Tokens
+pub mod Signs
+pub mod Sets
+pub mod Postfix
+pub mod Code
+pub mod Grammar
+pub mod Machine
+pub mod Groups
+pub mod Reader
+pub mod Reading

@@ -1,0 +1,19 @@
+//! Regular expressions of recipes: the macros, the grammar and its reader.
+#![tactic(auto)]
+
+mod error;
+mod expr;
+mod group;
+mod macros;
+mod op;
+mod reader;
+mod reading;
+mod set;
+mod sign;
+#[cfg(test)]
+mod tests;
+
+pub use error::ReadRefused;
+pub use expr::Expr;
+pub use op::{Atom, Op, Times};
+pub use reading::read;
