@@ -1,5 +1,5 @@
 -- What a host in memory has, what it tells, and what each of its calls does.
-use Rattle.std.specs.Prelude.{◌≡◌, ℕ, ℤ, ◌⊎◌, Bool, true, false, ◌&&◌, ◌==◌, leb, cond, List, [], length, take, Option, Some, None, IsSome}
+use Rattle.std.specs.Prelude.{◌≡◌, ℕ, ℤ, ◌⊎◌, Bool, true, false, ◌&&◌, ◌==◌, leb, cond, List, [], length, Option, Some, None, IsSome}
 use Rattle.pm_host.specs.World.{World, Step, IsFailed, world_with}
 use Rattle.pm_host.specs.Told.{HostView, Makes, Rose}
 use Rattle.pm_host.specs.declared.answers.Child.TheVariants.{NoChild}
@@ -11,13 +11,12 @@ use Rattle.pm_host.specs.declared.calls.Answer.TheVariants.{Read as AnswerRead, 
 use Rattle.pm_host.specs.declared.calls.Logged.{Logged}
 use Rattle.pm_host.specs.declared.nodes.Node.{Node}
 use Rattle.pm_memory.specs.Counts.{risen}
-use Rattle.pm_memory.specs.Node.{NoFile, IsFolder, part_of, Explains}
+use Rattle.pm_memory.specs.Node.{NoFile, IsFolder, part_of}
 use Rattle.pm_memory.specs.Plan.{failing_in, limits_in, is_among, least}
 use Rattle.pm_memory.specs.Tree.{world_in, no_files}
 use Rattle.pm_memory.specs.declared.calls.Calls.{Calls}
 use Rattle.pm_memory.specs.declared.host.MemoryHost.{MemoryHost}
 use Rattle.pm_memory.specs.declared.plan.Plan.{Plan}
-use Rattle.pm_memory.specs.declared.tree.Refused.{Refused}
 
 -- the files, whether or not the host tells them
 abbrev pub world_of : MemoryHost → World
@@ -137,27 +136,3 @@ pub record Serves (call : Call) (answer : Answer) (old new : MemoryHost) : Type 
   pub quiet : is_telling new ≡ false → calls_of new ≡ calls_of old
   pub reserved : reserved_of new ≡ reserved_of old
   pub plan : plan_of new ≡ plan_of old
-
--- a call was done in the tree, and isn't counted yet
-pub record Does (call : Call) (answer : Answer) (old new : MemoryHost) : Type 0 where
-  pub step : Step call answer (world_of old) (world_of new)
-  pub most : IsMost call answer old
-  pub turn : is_to_fail old ≡ false
-  pub success : IsFailed answer → ⊥
-  pub plan : plan_of new ≡ plan_of old
-  pub calls : record_of new ≡ record_of old
-
--- a read was done, and so many bytes came to the front of the room
-abbrev pub DoesRead : List ℕ → ℕ → List ℕ → List ℕ → MemoryHost → ℕ → Type 0
-DoesRead name at before room h count = Does (Read name at (length before)) (AnswerRead (take count room)) h h
-
--- an append was done, and so many bytes were added
-abbrev pub DoesAppend : List ℕ → List ℕ → MemoryHost → MemoryHost → ℕ → Type 0
-DoesAppend name piece old new count = Does (Append name piece) (AnswerAppend (TookSome count)) old new
-
--- a call was refused, and isn't counted yet
-pub record Refuses (call : Call) (old new : MemoryHost) (refused : Refused) : Type 0 where
-  pub world : world_of new ≡ world_of old
-  pub cause : Explains (is_to_fail old ≡ true) (IsWrongKind call (world_of old)) refused
-  pub plan : plan_of new ≡ plan_of old
-  pub calls : record_of new ≡ record_of old
