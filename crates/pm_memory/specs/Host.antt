@@ -113,10 +113,17 @@ IsMost (Read name at room) (AnswerRead bytes) h = bytes ≡ part_of ((world_of h
 IsMost (Append name piece) (AnswerAppend (TookSome count)) h = count ≡ least (number_of h) (limits_of h) (length piece)
 IsMost call answer h = Unit {0}
 
+-- the call takes memory for the file that it makes or adds to
+abbrev pub TakesMemory : Call → Type 0
+TakesMemory (Create name) = Unit {0}
+TakesMemory (Append name piece) = Unit {0}
+TakesMemory call = ⊥
+
 -- why a call may fail: its number was given to fail, no node of its kind stands there, or memory was wanting
 abbrev pub MayFail : Call → MemoryHost → MemoryHost → Type 0
 MayFail call old new =
-    (is_to_fail old ≡ true) ⊎ (IsWrongKind call (world_of old) ⊎ Rose (starved_of old) (starved_of new))
+    (is_to_fail old ≡ true)
+    ⊎ (IsWrongKind call (world_of old) ⊎ (TakesMemory call × Rose (starved_of old) (starved_of new)))
 
 -- the counts after a call
 pub record Counted (answer : Answer) (old new : MemoryHost) : Type 0 where

@@ -6,7 +6,7 @@ use Rattle.pm_host.specs.declared.calls.Answer.{Answer}
 use Rattle.pm_host.specs.declared.calls.Answer.TheVariants.{Read as AnswerRead, Append as AnswerAppend}
 use Rattle.pm_host.specs.declared.calls.Call.{Call}
 use Rattle.pm_host.specs.declared.calls.Call.TheVariants.{Read, Append}
-use Rattle.pm_memory.specs.Host.{world_of, plan_of, record_of, is_to_fail, IsWrongKind, IsMost}
+use Rattle.pm_memory.specs.Host.{world_of, plan_of, record_of, is_to_fail, IsWrongKind, IsMost, TakesMemory}
 use Rattle.pm_memory.specs.Node.{Explains}
 use Rattle.pm_memory.specs.declared.host.MemoryHost.{MemoryHost}
 use Rattle.pm_memory.specs.declared.tree.Refused.{Refused}
@@ -31,6 +31,6 @@ DoesAppend name piece old new count = Does (Append name piece) (AnswerAppend (To
 -- a call was refused
 pub record Refuses (call : Call) (old new : MemoryHost) (refused : Refused) : Type 0 where
   pub world : world_of new ≡ world_of old
-  pub cause : Explains (is_to_fail old ≡ true) (IsWrongKind call (world_of old)) refused
+  pub cause : Explains (is_to_fail old ≡ true) (IsWrongKind call (world_of old)) (TakesMemory call) refused
   pub plan : plan_of new ≡ plan_of old
   pub calls : record_of new ≡ record_of old
