@@ -1,5 +1,5 @@
 -- What a host in memory has, what it tells, and what each of its calls does.
-use Rattle.std.specs.Prelude.{◌≡◌, ℕ, ℤ, ◌⊎◌, Bool, true, false, ◌&&◌, ◌==◌, leb, cond, List, [], length, take, Option, Some, None, IsSome}
+use Rattle.std.specs.Prelude.{◌≡◌, ℕ, ℤ, ◌⊎◌, Bool, true, false, ◌&&◌, ◌==◌, leb, cond, List, [], length, Option, Some, None, IsSome}
 use Rattle.pm_host.specs.World.{World, Step, IsFailed, world_with}
 use Rattle.pm_host.specs.Told.{HostView, Makes, Rose}
 use Rattle.pm_host.specs.declared.answers.Child.TheVariants.{NoChild}
@@ -11,13 +11,12 @@ use Rattle.pm_host.specs.declared.calls.Answer.TheVariants.{Read as AnswerRead, 
 use Rattle.pm_host.specs.declared.calls.Logged.{Logged}
 use Rattle.pm_host.specs.declared.nodes.Node.{Node}
 use Rattle.pm_memory.specs.Counts.{risen}
-use Rattle.pm_memory.specs.Node.{NoFile, IsFolder, part_of, Explains}
+use Rattle.pm_memory.specs.Node.{NoFile, IsFolder, part_of}
 use Rattle.pm_memory.specs.Plan.{failing_in, limits_in, is_among, least}
 use Rattle.pm_memory.specs.Tree.{world_in, no_files}
 use Rattle.pm_memory.specs.declared.calls.Calls.{Calls}
 use Rattle.pm_memory.specs.declared.host.MemoryHost.{MemoryHost}
 use Rattle.pm_memory.specs.declared.plan.Plan.{Plan}
-use Rattle.pm_memory.specs.declared.tree.Refused.{Refused}
 
 -- the files, whether or not the host tells them
 abbrev pub world_of : MemoryHost → World
@@ -114,10 +113,17 @@ IsMost (Read name at room) (AnswerRead bytes) h = bytes ≡ part_of ((world_of h
 IsMost (Append name piece) (AnswerAppend (TookSome count)) h = count ≡ least (number_of h) (limits_of h) (length piece)
 IsMost call answer h = Unit {0}
 
+-- the call takes memory for the file that it makes or adds to
+abbrev pub TakesMemory : Call → Type 0
+TakesMemory (Create name) = Unit {0}
+TakesMemory (Append name piece) = Unit {0}
+TakesMemory call = ⊥
+
 -- why a call may fail: its number was given to fail, no node of its kind stands there, or memory was wanting
 abbrev pub MayFail : Call → MemoryHost → MemoryHost → Type 0
 MayFail call old new =
-    (is_to_fail old ≡ true) ⊎ (IsWrongKind call (world_of old) ⊎ Rose (starved_of old) (starved_of new))
+    (is_to_fail old ≡ true)
+    ⊎ (IsWrongKind call (world_of old) ⊎ (TakesMemory call × Rose (starved_of old) (starved_of new)))
 
 -- the counts after a call
 pub record Counted (answer : Answer) (old new : MemoryHost) : Type 0 where
@@ -137,27 +143,3 @@ pub record Serves (call : Call) (answer : Answer) (old new : MemoryHost) : Type 
   pub quiet : is_telling new ≡ false → calls_of new ≡ calls_of old
   pub reserved : reserved_of new ≡ reserved_of old
   pub plan : plan_of new ≡ plan_of old
-
--- a call was done in the tree, and isn't counted yet
-pub record Does (call : Call) (answer : Answer) (old new : MemoryHost) : Type 0 where
-  pub step : Step call answer (world_of old) (world_of new)
-  pub most : IsMost call answer old
-  pub turn : is_to_fail old ≡ false
-  pub success : IsFailed answer → ⊥
-  pub plan : plan_of new ≡ plan_of old
-  pub calls : record_of new ≡ record_of old
-
--- a read was done, and so many bytes came to the front of the room
-abbrev pub DoesRead : List ℕ → ℕ → List ℕ → List ℕ → MemoryHost → ℕ → Type 0
-DoesRead name at before room h count = Does (Read name at (length before)) (AnswerRead (take count room)) h h
-
--- an append was done, and so many bytes were added
-abbrev pub DoesAppend : List ℕ → List ℕ → MemoryHost → MemoryHost → ℕ → Type 0
-DoesAppend name piece old new count = Does (Append name piece) (AnswerAppend (TookSome count)) old new
-
--- a call was refused, and isn't counted yet
-pub record Refuses (call : Call) (old new : MemoryHost) (refused : Refused) : Type 0 where
-  pub world : world_of new ≡ world_of old
-  pub cause : Explains (is_to_fail old ≡ true) (IsWrongKind call (world_of old)) refused
-  pub plan : plan_of new ≡ plan_of old
-  pub calls : record_of new ≡ record_of old

@@ -1,6 +1,7 @@
 pub mod Calls
 pub mod Counts
 pub mod Host
+pub mod Hosting
 pub mod Node
 pub mod Plan
 pub mod Sink

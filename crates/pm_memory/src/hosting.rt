@@ -10,7 +10,8 @@ use crate::tree::Refused;
 use pm_host::{Answer, Call, Cut, Got, Host, Looked, Made, Removed, Took};
 
 impl MemoryHost {
-    ghost use Rattle.pm_memory.specs.Host.{is_to_fail, Does, DoesRead, DoesAppend, Refuses};
+    ghost use Rattle.pm_memory.specs.Host.{is_to_fail};
+    ghost use Rattle.pm_memory.specs.Hosting.{Does, DoesRead, DoesAppend, Refuses};
 
     fn fails_now(&self) -> bool
         ensures { result ≡ is_to_fail self.now }

@@ -75,7 +75,7 @@ impl Tree {
         ensures ok { IfOk result (λ count. take count room.new ≡ part_at self.now name.now at (length room.old)) }
         ensures within { IfOk result (λ count. count ≤ length room.old) }
         ensures there { OnOk result (IsFile (node_at self.now name.now)) }
-        ensures err { IfErr result (Explains ⊥ (NoFile (node_at self.now name.now))) }
+        ensures err { IfErr result (Explains ⊥ (NoFile (node_at self.now name.now)) ⊥) }
     {
         match self.file(name) {
             Some(bytes) => Ok(copy_part(bytes, at, room)),
@@ -87,7 +87,7 @@ impl Tree {
     pub(crate) fn create(&mut self, name: &str) -> Result<Made, Refused>
         ensures ok { IfOk result (λ made. IsStep (Call.Create name.now) (Answer.Create made) self.old self.new) }
         ensures found { IfOk result (λ made. made ≢ Made.Failed) }
-        ensures err { IfErr result (Explains ⊥ ⊥) }
+        ensures err { IfErr result (Explains ⊥ ⊥ (Unit {0})) }
         ensures same { OnErr result (world_in self.new ≡ world_in self.old) }
     {
         if self.nodes.contains_key(name) {
@@ -107,7 +107,7 @@ impl Tree {
     pub(crate) fn append(&mut self, name: &str, piece: &[u8], count: usize) -> Result<(), Refused>
         requires { count ≤ length piece.now }
         ensures ok { OnOk result (IsStep (Call.Append name.now piece.now) (Answer.Append (Took.Took count)) self.old self.new) }
-        ensures err { IfErr result (Explains ⊥ (NoFile (node_at self.old name.now))) }
+        ensures err { IfErr result (Explains ⊥ (NoFile (node_at self.old name.now)) (Unit {0})) }
         ensures same { OnErr result (world_in self.new ≡ world_in self.old) }
     {
         match self.nodes.get_mut(name) {
@@ -119,7 +119,7 @@ impl Tree {
     /// Keeps the first bytes of the file.
     pub(crate) fn cut(&mut self, name: &str, len: u64) -> Result<(), Refused>
         ensures ok { OnOk result (IsStep (Call.Cut name.now len) (Answer.Cut Cut.Cut) self.old self.new) }
-        ensures err { IfErr result (Explains ⊥ (NoFile (node_at self.old name.now))) }
+        ensures err { IfErr result (Explains ⊥ (NoFile (node_at self.old name.now)) ⊥) }
         ensures same { OnErr result (world_in self.new ≡ world_in self.old) }
     {
         let alloc = self.alloc;
@@ -133,7 +133,7 @@ impl Tree {
     pub(crate) fn remove(&mut self, name: &str) -> Result<Removed, Refused>
         ensures ok { IfOk result (λ removed. IsStep (Call.Remove name.now) (Answer.Remove removed) self.old self.new) }
         ensures found { IfOk result (λ removed. removed ≢ Removed.Failed) }
-        ensures err { IfErr result (Explains ⊥ (IsFolder (node_at self.old name.now))) }
+        ensures err { IfErr result (Explains ⊥ (IsFolder (node_at self.old name.now)) ⊥) }
         ensures same { OnErr result (world_in self.new ≡ world_in self.old) }
     {
         match self.nodes.get(name) {
@@ -150,7 +150,7 @@ impl Tree {
 fn grow(node: &mut Node, piece: &[u8]) -> Result<(), Refused>
     ensures ok { OnOk result (Some node.new ≡ grown (Some node.old) piece.now) }
     ensures there { OnOk result (IsFile (Some node.old)) }
-    ensures err { IfErr result (Explains ⊥ (NoFile (Some node.old))) }
+    ensures err { IfErr result (Explains ⊥ (NoFile (Some node.old)) (Unit {0})) }
     ensures same { OnErr result (node.new ≡ node.old) }
 {
     match node {
@@ -166,7 +166,7 @@ fn grow(node: &mut Node, piece: &[u8]) -> Result<(), Refused>
 fn shorten(alloc: Global, node: &mut Node, len: u64) -> Result<(), Refused>
     ensures ok { OnOk result (Some node.new ≡ kept (Some node.old) len) }
     ensures there { OnOk result (IsFile (Some node.old)) }
-    ensures err { IfErr result (Explains ⊥ (NoFile (Some node.old))) }
+    ensures err { IfErr result (Explains ⊥ (NoFile (Some node.old)) ⊥) }
     ensures same { OnErr result (node.new ≡ node.old) }
 {
     match node {
