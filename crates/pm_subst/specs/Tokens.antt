@@ -64,8 +64,11 @@ pub record Token : Type 0 where
   pub quoted : Bool
   pub text : List ℕ
 
+abbrev pub token : Kind → Bool → List ℕ → Token
+token kind quoted text = record { kind = kind; quoted = quoted; text = text }
+
 abbrev pub token_of : Front → Bool → List ℕ → Token
-token_of front quoted text = record { kind = front.kind; quoted = quoted; text = slice_range text front.from front.to }
+token_of front quoted text = token front.kind quoted (slice_range text front.from front.to)
 
 -- the tokens of a text behind so many bytes that are passed over
 abbrev pub tokens : Mode → ℕ → List Frame → Bool → List ℕ → List Token

@@ -18,6 +18,10 @@ abbrev pub or_empty : Option (List ℕ) → List ℕ
 or_empty None = []
 or_empty (Some value) = value
 
+-- a variable's value, empty where it is unset
+abbrev pub variable_value : Table → List ℕ → List ℕ
+variable_value table name = or_empty (value_of name table.variables)
+
 abbrev pub parameter_value : Table → Parameter → List ℕ
 parameter_value table Program = codes "procmail"
 parameter_value table (Argument number) = or_empty (argument_of number table.arguments)
@@ -26,7 +30,7 @@ parameter_value table Process = decimal table.marks.pid
 parameter_value table ExitCode = decimal table.marks.code
 parameter_value table Score = signed_decimal table.marks.score
 parameter_value table Rcfile = table.marks.rcfile
-parameter_value table LastFolder = or_empty (value_of (codes "LASTFOLDER") table.variables)
+parameter_value table LastFolder = variable_value table (codes "LASTFOLDER")
 
 -- an operator of expressions with a backslash before it
 abbrev pub escaped_operator : ℕ → List ℕ
@@ -83,8 +87,8 @@ elements_of table output token Text = map Byte token.text
 elements_of table output token Single = Quote ∷ map Byte token.text
 elements_of table output token Space = map Blank token.text
 elements_of table output token QuotesOpen = Quote ∷ []
-elements_of table output token Value = value_elements token.quoted (or_empty (value_of token.text table.variables))
-elements_of table output token Literal = value_elements token.quoted (literal (or_empty (value_of token.text table.variables)))
+elements_of table output token Value = value_elements token.quoted (variable_value table token.text)
+elements_of table output token Literal = value_elements token.quoted (literal (variable_value table token.text))
 elements_of table output token (OfParameter parameter) = value_elements token.quoted (parameter_value table parameter)
 elements_of table output token Command = value_elements token.quoted (trimmed output)
 elements_of table output token (FormOpen test) = value_elements token.quoted (form_value test (value_of token.text table.variables))

@@ -1,7 +1,7 @@
 //! The words of an expansion, of which no more is kept than may be answered. The length is counted to its end.
 ghost use Rattle.std.specs.Prelude.{◌≡◌, IfOk, [], None, IsTrue, map, flat_map};
-ghost use Rattle.pm_subst.specs.Buffer.{Holds};
-ghost use Rattle.pm_subst.specs.Fields.{Fields, with_byte, begun, ended, with_element, gathered, Blank, Byte};
+ghost use Rattle.pm_subst.specs.Buffer.{Holds, Changes, Gathers};
+ghost use Rattle.pm_subst.specs.Fields.{with_byte, begun, ended, with_element, Blank, Byte};
 ghost use Rattle.pm_subst.specs.Values.{value_element, value_elements, escaped_operator};
 
 use crate::bytes::{BACKSLASH, is_operator_byte, is_space_byte};
@@ -38,7 +38,7 @@ impl Buffer {
     /// Begins a word, if none has begun.
     pub fn begin(&mut self)
         ensures splits { self.new.splits ≡ self.old.splits }
-        ensures holds { (fields : Fields) → Holds self.old fields → Holds self.new (begun fields) }
+        ensures holds { Changes self.old self.new begun }
     {
         if !self.begun {
             self.begun = true;
@@ -50,7 +50,7 @@ impl Buffer {
 
     fn push(&mut self, byte: u8) -> Result<(), Memory>
         ensures splits { self.new.splits ≡ self.old.splits }
-        ensures holds { IfOk result (λ _. (fields : Fields) → Holds self.old fields → Holds self.new (with_byte fields byte)) }
+        ensures holds { IfOk result (λ _. Changes self.old self.new (λ fields. with_byte fields byte)) }
     {
         self.begin();
         if self.length < LIMIT {
@@ -63,7 +63,7 @@ impl Buffer {
     // A blank or a newline outside quotes.
     fn space(&mut self, byte: u8) -> Result<(), Memory>
         ensures splits { self.new.splits ≡ self.old.splits }
-        ensures holds { IfOk result (λ _. (fields : Fields) → Holds self.old fields → Holds self.new (with_element self.old.splits fields (Blank byte))) }
+        ensures holds { IfOk result (λ _. Changes self.old self.new (λ fields. with_element self.old.splits fields (Blank byte))) }
     {
         if self.splits {
             self.end_word()
@@ -74,7 +74,7 @@ impl Buffer {
 
     fn end_word(&mut self) -> Result<(), Memory>
         ensures splits { self.new.splits ≡ self.old.splits }
-        ensures holds { IfOk result (λ _. (fields : Fields) → IsTrue self.old.splits → Holds self.old fields → Holds self.new (ended fields)) }
+        ensures holds { IfOk result (λ _. IsTrue self.old.splits → Changes self.old self.new ended) }
     {
         if self.begun {
             self.begun = false;
@@ -90,7 +90,7 @@ impl Buffer {
     /// Adds bytes that stand in the text itself.
     pub fn push_text(&mut self, bytes: &[u8]) -> Result<(), Memory>
         ensures splits { self.new.splits ≡ self.old.splits }
-        ensures holds { IfOk result (λ _. (fields : Fields) → Holds self.old fields → Holds self.new (gathered self.old.splits fields (map Byte bytes.now))) }
+        ensures holds { IfOk result (λ _. Gathers self.old self.new (map Byte bytes.now)) }
     {
         for byte in bytes {
             self.push(*byte)?;
@@ -101,7 +101,7 @@ impl Buffer {
     /// Adds blanks and newlines that stand in the text itself, outside quotes.
     pub fn push_spaces(&mut self, bytes: &[u8]) -> Result<(), Memory>
         ensures splits { self.new.splits ≡ self.old.splits }
-        ensures holds { IfOk result (λ _. (fields : Fields) → Holds self.old fields → Holds self.new (gathered self.old.splits fields (map Blank bytes.now))) }
+        ensures holds { IfOk result (λ _. Gathers self.old self.new (map Blank bytes.now)) }
     {
         for byte in bytes {
             self.space(*byte)?;
@@ -112,7 +112,7 @@ impl Buffer {
     /// Adds a value, which outside quotes may be split.
     pub fn push_value(&mut self, quoted: bool, bytes: &[u8]) -> Result<(), Memory>
         ensures splits { self.new.splits ≡ self.old.splits }
-        ensures holds { IfOk result (λ _. (fields : Fields) → Holds self.old fields → Holds self.new (gathered self.old.splits fields (value_elements quoted bytes.now))) }
+        ensures holds { IfOk result (λ _. Gathers self.old self.new (value_elements quoted bytes.now)) }
     {
         for byte in bytes {
             self.push_of_value(quoted, *byte)?;
@@ -122,7 +122,7 @@ impl Buffer {
 
     fn push_of_value(&mut self, quoted: bool, byte: u8) -> Result<(), Memory>
         ensures splits { self.new.splits ≡ self.old.splits }
-        ensures holds { IfOk result (λ _. (fields : Fields) → Holds self.old fields → Holds self.new (with_element self.old.splits fields (value_element quoted byte))) }
+        ensures holds { IfOk result (λ _. Changes self.old self.new (λ fields. with_element self.old.splits fields (value_element quoted byte))) }
     {
         if !quoted && is_space_byte(byte) {
             self.space(byte)
@@ -134,8 +134,7 @@ impl Buffer {
     /// Adds a value with a backslash before each operator of expressions.
     pub fn push_escaped(&mut self, quoted: bool, bytes: &[u8]) -> Result<(), Memory>
         ensures splits { self.new.splits ≡ self.old.splits }
-        ensures holds { IfOk result (λ _. (fields : Fields) → Holds self.old fields
-            → Holds self.new (gathered self.old.splits fields (value_elements quoted (flat_map escaped_operator bytes.now)))) }
+        ensures holds { IfOk result (λ _. Gathers self.old self.new (value_elements quoted (flat_map escaped_operator bytes.now))) }
     {
         for byte in bytes {
             self.push_operator(quoted, *byte)?;
@@ -145,8 +144,7 @@ impl Buffer {
 
     fn push_operator(&mut self, quoted: bool, byte: u8) -> Result<(), Memory>
         ensures splits { self.new.splits ≡ self.old.splits }
-        ensures holds { IfOk result (λ _. (fields : Fields) → Holds self.old fields
-            → Holds self.new (gathered self.old.splits fields (value_elements quoted (escaped_operator byte)))) }
+        ensures holds { IfOk result (λ _. Gathers self.old self.new (value_elements quoted (escaped_operator byte))) }
     {
         if is_operator_byte(byte) {
             self.push_of_value(quoted, BACKSLASH)?;

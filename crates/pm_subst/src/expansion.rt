@@ -1,10 +1,10 @@
 //! The expansion of a text into words.
 ghost use Rattle.std.specs.Prelude.{◌≡◌, ◌<◌, ◌≤◌, ◌+◌, ◌^◌, IfOk, IfErr, OnOk, length, ℕ, Bool, [], Some, false};
-ghost use Rattle.pm_subst.specs.Buffer.{Holds};
+ghost use Rattle.pm_subst.specs.Buffer.{Holds, Gathers};
 ghost use Rattle.pm_subst.specs.Commands.{commands_in};
-ghost use Rattle.pm_subst.specs.Fields.{Fields, gathered, size, all_words};
+ghost use Rattle.pm_subst.specs.Fields.{Fields, size, all_words};
 ghost use Rattle.pm_subst.specs.Refusals.{IsRefusal};
-ghost use Rattle.pm_subst.specs.Tokens.{is_many};
+ghost use Rattle.pm_subst.specs.Tokens.{is_many, token};
 ghost use Rattle.pm_subst.specs.Values.{elements_of};
 ghost use Rattle.pm_subst.specs.Words.{words_in, size_in, fields_in, first_fields, used_elements, unused_after, first_output, outputs_after};
 
@@ -147,8 +147,7 @@ fn push_used(
     output: &[u8],
 ) -> Result<(), Memory>
     ensures splits { buffer.new.splits ≡ buffer.old.splits }
-    ensures holds { IfOk result (λ _. (fields : Fields) → Holds buffer.old fields
-        → Holds buffer.new (gathered buffer.old.splits fields (used_elements unused vars.now output.now (record { kind = kind; quoted = quoted; text = part.now })))) }
+    ensures holds { IfOk result (λ _. Gathers buffer.old buffer.new (used_elements unused vars.now output.now (token kind quoted part.now))) }
 {
     if unused == 0 {
         push_part(buffer, kind, quoted, part, vars, output)
@@ -166,8 +165,7 @@ fn push_part(
     output: &[u8],
 ) -> Result<(), Memory>
     ensures splits { buffer.new.splits ≡ buffer.old.splits }
-    ensures holds { IfOk result (λ _. (fields : Fields) → Holds buffer.old fields
-        → Holds buffer.new (gathered buffer.old.splits fields (elements_of vars.now output.now (record { kind = kind; quoted = quoted; text = part.now }) kind))) }
+    ensures holds { IfOk result (λ _. Gathers buffer.old buffer.new (elements_of vars.now output.now (token kind quoted part.now) kind)) }
 {
     match kind {
         Kind::Text => buffer.push_text(part),
@@ -191,7 +189,7 @@ fn push_part(
 
 fn unused_behind(kind: Kind, name: &[u8], unused: usize, vars: &Vars) -> usize
     requires { unused < 2 ^ 63 }
-    ensures unused { (quoted : Bool) → result ≡ unused_after vars.now (record { kind = kind; quoted = quoted; text = name.now }) kind unused }
+    ensures unused { (quoted : Bool) → result ≡ unused_after vars.now (token kind quoted name.now) kind unused }
     ensures bound { result ≤ unused + 1 }
 {
     match kind {

@@ -1,8 +1,7 @@
 //! What variables, parameters, commands and forms give.
 ghost use Rattle.std.specs.Prelude.{◌≡◌, IfOk, codes};
-ghost use Rattle.pm_subst.specs.Buffer.{Holds};
-ghost use Rattle.pm_subst.specs.Fields.{Fields, gathered};
-ghost use Rattle.pm_subst.specs.Values.{uses_text, gives_value, form_value, is_unset, is_unset_or_empty, or_empty, parameter_value, literal, trimmed, value_elements};
+ghost use Rattle.pm_subst.specs.Buffer.{Gathers};
+ghost use Rattle.pm_subst.specs.Values.{uses_text, gives_value, form_value, is_unset, is_unset_or_empty, or_empty, variable_value, parameter_value, literal, trimmed, value_elements};
 ghost use Rattle.pm_vars.specs.Variables.{value_of, argument_of};
 
 use crate::buffer::Buffer;
@@ -57,7 +56,7 @@ fn is_value_given(test: Test) -> bool
 
 /// A variable's value, nothing where it is unset.
 fn value<'a>(name: &[u8], vars: &'a Vars) -> &'a [u8]
-    ensures { result.now ≡ or_empty (value_of name.now vars.now.variables) }
+    ensures { result.now ≡ variable_value vars.now name.now }
 {
     match vars.get(name) {
         None => b"",
@@ -81,8 +80,7 @@ pub fn push_variable(
     vars: &Vars,
 ) -> Result<(), Memory>
     ensures splits { buffer.new.splits ≡ buffer.old.splits }
-    ensures holds { IfOk result (λ _. (fields : Fields) → Holds buffer.old fields
-        → Holds buffer.new (gathered buffer.old.splits fields (value_elements quoted (or_empty (value_of name.now vars.now.variables))))) }
+    ensures holds { IfOk result (λ _. Gathers buffer.old buffer.new (value_elements quoted (variable_value vars.now name.now))) }
 {
     buffer.push_value(quoted, value(name, vars))
 }
@@ -96,8 +94,7 @@ pub fn push_form(
     vars: &Vars,
 ) -> Result<(), Memory>
     ensures splits { buffer.new.splits ≡ buffer.old.splits }
-    ensures holds { IfOk result (λ _. (fields : Fields) → Holds buffer.old fields
-        → Holds buffer.new (gathered buffer.old.splits fields (value_elements quoted (form_value test (value_of name.now vars.now.variables))))) }
+    ensures holds { IfOk result (λ _. Gathers buffer.old buffer.new (value_elements quoted (form_value test (value_of name.now vars.now.variables)))) }
 {
     if is_value_given(test) && !is_text_used(test, name, vars) {
         push_variable(buffer, quoted, name, vars)
@@ -114,8 +111,7 @@ pub fn push_literal(
     vars: &Vars,
 ) -> Result<(), Memory>
     ensures splits { buffer.new.splits ≡ buffer.old.splits }
-    ensures holds { IfOk result (λ _. (fields : Fields) → Holds buffer.old fields
-        → Holds buffer.new (gathered buffer.old.splits fields (value_elements quoted (literal (or_empty (value_of name.now vars.now.variables)))))) }
+    ensures holds { IfOk result (λ _. Gathers buffer.old buffer.new (value_elements quoted (literal (variable_value vars.now name.now)))) }
 {
     buffer.push_value(quoted, b"()")?;
     buffer.push_escaped(quoted, value(name, vars))
@@ -123,8 +119,7 @@ pub fn push_literal(
 
 fn push_number<I: Integer>(buffer: &mut Buffer, quoted: bool, number: I) -> Result<(), Memory>
     ensures splits { buffer.new.splits ≡ buffer.old.splits }
-    ensures holds { IfOk result (λ _. (fields : Fields) → Holds buffer.old fields
-        → Holds buffer.new (gathered buffer.old.splits fields (value_elements quoted (I.text number)))) }
+    ensures holds { IfOk result (λ _. Gathers buffer.old buffer.new (value_elements quoted (I.text number))) }
 {
     let mut text = itoa::Buffer::new();
     buffer.push_value(quoted, text.format(number).as_bytes())
@@ -137,8 +132,7 @@ pub fn push_parameter(
     vars: &Vars,
 ) -> Result<(), Memory>
     ensures splits { buffer.new.splits ≡ buffer.old.splits }
-    ensures holds { IfOk result (λ _. (fields : Fields) → Holds buffer.old fields
-        → Holds buffer.new (gathered buffer.old.splits fields (value_elements quoted (parameter_value vars.now parameter)))) }
+    ensures holds { IfOk result (λ _. Gathers buffer.old buffer.new (value_elements quoted (parameter_value vars.now parameter))) }
 {
     match parameter {
         Parameter::Program => buffer.push_value(quoted, b"procmail"),
