@@ -1,0 +1,10 @@
+use Rattle.std.proofs.Common.{◌≡◌, map, take}
+use Rattle.pm_subst.specs.Buffer.{Holds}
+use Rattle.pm_subst.specs.Fields.{Fields, gathered, Byte}
+use Rattle.pm_subst.proofs.buffer.Buffer.push_text.Given as goal
+
+abbrev pub invariant-loop-byte : goal.invariant-loop-byte
+invariant-loop-byte l = record {
+  splits_is : l.self.splits ≡ l.fn.self.splits;
+  holds : (fields : Fields) → Holds l.fn.self fields → Holds l.self (gathered l.fn.self.splits fields (map Byte (take l.byte-index l.bytes)));
+}

@@ -1,0 +1,9 @@
+pub mod Bytes
+pub mod Front
+pub mod Tokens
+pub mod Commands
+pub mod Fields
+pub mod Buffer
+pub mod Values
+pub mod Words
+pub mod Refusals

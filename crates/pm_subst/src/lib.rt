@@ -1,0 +1,19 @@
+//! Substitution in texts: variables, parameters, the outputs of commands, quotes, and the splitting into words.
+//! A text is read into tokens by what stands at its front. Each token gives bytes, and the bytes make words.
+#![tactic(auto)]
+
+mod backquotes;
+mod buffer;
+mod bytes;
+mod expansion;
+mod forms;
+mod frames;
+mod kinds;
+mod reading;
+#[cfg(test)]
+mod tests;
+mod values;
+
+pub use backquotes::commands;
+pub use expansion::{ExpandRefused, expand};
+pub use kinds::Mode;

@@ -1,0 +1,4 @@
+pub mod Variables
+pub mod Held
+pub mod Table
+pub mod View

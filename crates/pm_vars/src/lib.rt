@@ -1,0 +1,14 @@
+//! The variables of a process: names and values in the order in which the names came, the arguments, and what the
+//! forms `$$`, `$?`, `$=` and `$_` give.
+#![tactic(auto)]
+
+mod held;
+mod marks;
+mod pair;
+#[cfg(test)]
+mod tests;
+mod vars;
+
+pub use marks::Marks;
+pub use pair::Pair;
+pub use vars::Vars;
