@@ -2,7 +2,7 @@
 use Rattle.std.specs.Prelude.{ℕ, zero, suc, Option, Some, None, List, [], ◌∷◌, if◌then◌else◌, Bool, ◌&&◌, slice_get}
 use Rattle.std.specs.Str.{bytes_eq}
 use Rattle.pm_bytes.specs.Name.{is_usable}
-use Rattle.pm_vars.specs.declared.pair.Pair.{Pair}
+use Rattle.pm_bytes.specs.declared.environment.Pair.{Pair}
 
 -- a variable
 pub record Variable : Type 0 where

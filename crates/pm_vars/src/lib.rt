@@ -4,11 +4,9 @@
 
 mod held;
 mod marks;
-mod pair;
 #[cfg(test)]
 mod tests;
 mod vars;
 
 pub use marks::Marks;
-pub use pair::Pair;
 pub use vars::Vars;

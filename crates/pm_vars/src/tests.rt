@@ -1,6 +1,6 @@
 //! The order of names, and what goes to programs.
-use crate::{Pair, Vars};
-use pm_bytes::{Blob, Memory, Name};
+use crate::Vars;
+use pm_bytes::{Blob, Memory, Name, Pair};
 use std::alloc::Global;
 use std::test::Fail;
 

@@ -4,10 +4,10 @@ ghost use Rattle.pm_bytes.specs.Name.{is_usable};
 ghost use Rattle.pm_vars.specs.Held.{variable_of_held};
 ghost use Rattle.pm_vars.specs.Variables.{value_of, with_value, without, argument_of, is_exported, variable_of};
 
+use crate::Marks;
 use crate::held::Held;
-use crate::{Marks, Pair};
 use indexmap::IndexMap;
-use pm_bytes::{Blob, Memory, Name, NameRefused};
+use pm_bytes::{Blob, Memory, Name, NameRefused, Pair};
 use std::alloc::Global;
 use std::marker::Model;
 
