@@ -30,6 +30,7 @@ cmp -s mbox want || fail "the mailbox isn't the old one and two messages"
 rm mbox
 "$program" -m rc < message || fail "the delivery of a filter ended with status $?"
 cmp -s mbox piece || fail "the new mailbox isn't the message"
+[ "$(ls -l mbox | cut -c1-10)" = "-rw-------" ] || fail "the new mailbox isn't its owner's only: $(ls -l mbox)"
 
 rm mbox
 { printf 'From a@b Thu Jan  1 00:00:00 1970\nA: b\n\n'; head -c 1048576 /dev/zero | tr '\0' 'x'; printf '\n'; } > large

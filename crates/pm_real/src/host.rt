@@ -8,8 +8,13 @@ use pm_host::{Cut, Got, Host, Looked, Made, Removed, Took};
 use std::alloc::Global;
 use std::fs::{OpenFile, OpenOptions};
 use std::io::{ErrorKind, Seek, SeekFrom};
+use std::os::unix::fs::OpenOptionsExt;
 use std::rt::Files;
 use std::{fs, io};
+
+/// A made file is read and written by its owner only, as with procmail's UMASK of 077 (procmailrc(5), Environment
+/// variable defaults).
+const OWNER_ONLY: u32 = 0o600;
 
 /// The files of the machine. Each call opens and closes its file.
 #[derive(Drop)]
@@ -61,6 +66,7 @@ fn create_new<R: Files>(rt: &R, name: &str) -> io::Result<()> {
     let mut how = OpenOptions::new();
     how.write(true);
     how.create_new(true);
+    how.mode(OWNER_ONLY);
     let _file = again::open(rt, &how, name)?;
     Ok(())
 }
