@@ -1,44 +1,45 @@
 //! Runs in which no call fails.
-use super::setup::{MAIL, PIECE, RC, Stands, host_with, run};
-use super::shown::calls_text;
-use pm_memory::{MemorySink, MemorySource};
+use super::setup::{Case, MAIL, PIECE, Stands, host_with};
+use pm_memory::MemorySource;
 use std::test::Fail;
 
 #[test]
 fn a_mailbox_gets_the_whole_mail(rt: HostRuntime) -> Result<(), Fail> {
     let alloc = rt.alloc();
     assert_eq!(rt; (MAIL.len(), PIECE.len()), (43, 44));
-    for (words, mailbox, mail, piece, calls) in [
+    let made = "look read read look create append ";
+    let grown = "look read read look append ";
+    for (words, mailbox, stands, mail, piece, calls) in [
         (
             ["./rc"].as_slice(),
+            "mbox",
             Stands::File("old\n"),
             MAIL,
             PIECE,
-            "look read read look append ",
+            grown,
         ),
+        (&["./rc"], "mbox", Stands::Nothing, MAIL, PIECE, made),
+        (&["./rc"], "a", Stands::Nothing, MAIL, PIECE, made),
+        (&["./rc"], "/Az09/_-.x", Stands::Nothing, MAIL, PIECE, made),
         (
             &["./rc"],
-            Stands::Nothing,
-            MAIL,
-            PIECE,
-            "look read read look create append ",
-        ),
-        (
-            &["./rc"],
+            "mbox",
             Stands::File("old\n"),
             "From a@b Thu Jan  1 00:00:00 1970\nA: b\n\nhi",
             PIECE,
-            "look read read look append ",
+            grown,
         ),
         (
             &["./rc"],
+            "mbox",
             Stands::Nothing,
             "From a@b Thu Jan  1 00:00:00 1970\nFrom c\n\nFrom x\n\nFrom y",
             "From a@b Thu Jan  1 00:00:00 1970\nFrom c\n\n>From x\n\n>From y\n\n",
-            "look read read look create append ",
+            made,
         ),
         (
             &["-m", "rc"],
+            "mbox",
             Stands::Nothing,
             "",
             "",
@@ -46,6 +47,7 @@ fn a_mailbox_gets_the_whole_mail(rt: HostRuntime) -> Result<(), Fail> {
         ),
         (
             &["-m", "rc"],
+            "mbox",
             Stands::File("old\n"),
             "",
             "",
@@ -53,48 +55,51 @@ fn a_mailbox_gets_the_whole_mail(rt: HostRuntime) -> Result<(), Fail> {
         ),
         (
             &["-m", "rc"],
+            "mbox",
             Stands::Nothing,
             "A: b\n\nhi\n",
             "A: b\n\nhi\n\n",
-            "look read read look create append ",
+            made,
         ),
         (
             &["-m", "rc"],
+            "mbox",
             Stands::Nothing,
             "A: b",
             "A: b\n\n",
-            "look read read look create append ",
+            made,
         ),
         (
             &["-m", "rc"],
+            "mbox",
             Stands::File(""),
             "A: b\n\nFrom x\nlast",
             "A: b\n\n>From x\nlast\n\n",
-            "look read read look append ",
+            grown,
         ),
     ] {
         let rcfile = words.last().copied().unwrap_or("");
-        let nodes = [(rcfile, Stands::File(RC)), ("mbox", mailbox)];
-        let mut host = host_with(alloc, &nodes)?;
-        let mut source = MemorySource::new(alloc, mail.as_bytes(), None)?;
-        let mut err = MemorySink::new(alloc, None)?;
-        let ran = run(alloc, words, &mut source, &mut host, &mut err)?;
+        let rc = format!(in alloc; ":0\n{mailbox}\n")?;
         let entries = format!(in alloc;
-            "ReadFile {rcfile} Content {RC:?}\nAppend mbox {piece:?} Done\n"
+            "ReadFile {rcfile} Content {rc:?}\nAppend {mailbox} {piece:?} Done\n"
         )?;
-        let left = match mailbox {
-            Stands::File(old) => format!(in alloc; "{old}{piece}")?,
-            _ => format!(in alloc; "{piece}")?,
-        };
-        assert_eq!(rt; ran.status, 0, "{mail:?}");
-        assert_eq!(rt; ran.entries.as_str(), entries.as_str(), "{mail:?}");
-        assert_eq!(rt; host.file("mbox"), Some(left.as_bytes()), "{mail:?}");
-        assert_eq!(rt;
-            calls_text(alloc, host.calls())?.as_str(),
+        let left = format!(in alloc; "{}{piece}", stands.text())?;
+        let case = Case {
+            words,
+            lost: None,
+            status: 0,
+            entries: entries.as_str(),
+            err: "",
+            mailbox,
+            left: Some(left.as_bytes()),
             calls,
-            "{mail:?}"
-        );
-        assert_eq!(rt; err.written(), b"".as_slice(), "{mail:?}");
+        };
+        let mut host = host_with(
+            alloc,
+            &[(rcfile, Stands::File(rc.as_str())), (mailbox, stands)],
+        )?;
+        let mut source = MemorySource::new(alloc, mail.as_bytes(), None)?;
+        case.check(&rt, alloc, &mut source, &mut host)?;
     }
     Ok(())
 }

@@ -1,8 +1,7 @@
 //! Runs in which calls fail.
 use super::protocol::{OLD, Plan, Wanted};
-use super::setup::{MAIL, PIECE, RC, Stands, host_with, run};
-use super::shown::calls_text;
-use pm_memory::{MemorySink, MemorySource};
+use super::setup::{Case, MAIL, PIECE, RC, Stands, host_with};
+use pm_memory::MemorySource;
 use std::alloc::Global;
 use std::process::Abort;
 use std::test::Fail;
@@ -10,78 +9,97 @@ use std::test::Fail;
 #[test]
 fn a_failed_append_is_taken_back_or_told(rt: HostRuntime) -> Result<(), Fail> {
     let alloc = rt.alloc();
-    for (words, mailbox, failing, status, reply, said, left, calls) in [
+    let cut = "look read read look append append cut ";
+    let removed = "look read read look create append remove ";
+    for (words, mailbox, failing, lost, status, told, err, left, calls) in [
         (
             ["./rc"].as_slice(),
             Stands::File(OLD),
             [6].as_slice(),
+            None,
             78,
-            "Undone",
+            "Undone\nSayErr \"procmail: Couldn't write to \\\"mbox\\\"\\n\" Wrote",
             "procmail: Couldn't write to \"mbox\"\n",
-            Some("old\n"),
-            "look read read look append append cut ",
+            Some(b"old\n".as_slice()),
+            cut,
+        ),
+        (
+            &["./rc"],
+            Stands::File(OLD),
+            &[6],
+            Some(1),
+            78,
+            "Undone\nSayErr \"procmail: Couldn't write to \\\"mbox\\\"\\n\" Short(0)",
+            "",
+            Some(b"old\n".as_slice()),
+            cut,
         ),
         (
             &["./rc"],
             Stands::File(OLD),
             &[6, 7],
+            None,
             78,
-            "Torn(5)",
+            "Torn(5)\nSayErr \"procmail: 5 bytes left in \\\"mbox\\\"\\n\" Wrote",
             "procmail: 5 bytes left in \"mbox\"\n",
-            Some("old\nFrom "),
-            "look read read look append append cut ",
+            Some(b"old\nFrom "),
+            cut,
         ),
         (
             &["-m", "rc"],
             Stands::File(OLD),
             &[6, 7],
+            None,
             73,
-            "Torn(5)",
+            "Torn(5)\nSayErr \"procmail: 5 bytes left in \\\"mbox\\\"\\n\" Wrote\nSayErr \"procmail: No delivery was made\\n\" Wrote",
             "procmail: 5 bytes left in \"mbox\"\nprocmail: No delivery was made\n",
-            Some("old\nFrom "),
-            "look read read look append append cut ",
+            Some(b"old\nFrom "),
+            cut,
         ),
         (
             &["-m", "rc"],
             Stands::Nothing,
             &[6],
+            None,
             73,
-            "Undone",
+            "Undone\nSayErr \"procmail: Couldn't write to \\\"mbox\\\"\\n\" Wrote\nSayErr \"procmail: No delivery was made\\n\" Wrote",
             "procmail: Couldn't write to \"mbox\"\nprocmail: No delivery was made\n",
             None,
-            "look read read look create append remove ",
+            removed,
+        ),
+        (
+            &["-m", "rc"],
+            Stands::Nothing,
+            &[6],
+            Some(1),
+            73,
+            "Undone\nSayErr \"procmail: Couldn't write to \\\"mbox\\\"\\n\" Short(0)\nSayErr \"procmail: No delivery was made\\n\" Wrote",
+            "procmail: No delivery was made\n",
+            None,
+            removed,
         ),
     ] {
         let rcfile = words.last().copied().unwrap_or("");
+        let entries = format!(in alloc;
+            "ReadFile {rcfile} Content {RC:?}\nAppend mbox {PIECE:?} {told}\n"
+        )?;
+        let case = Case {
+            words,
+            lost,
+            status,
+            entries: entries.as_str(),
+            err,
+            mailbox: "mbox",
+            left,
+            calls,
+        };
         let mut host = host_with(alloc, &[(rcfile, Stands::File(RC)), ("mbox", mailbox)])?;
         host.limit(5, 5)?;
         for call in failing {
             host.fail(*call)?;
         }
         let mut source = MemorySource::new(alloc, MAIL.as_bytes(), None)?;
-        let mut err = MemorySink::new(alloc, None)?;
-        let ran = run(alloc, words, &mut source, &mut host, &mut err)?;
-        let mut entries = format!(in alloc;
-            "ReadFile {rcfile} Content {RC:?}\nAppend mbox {PIECE:?} {reply}\n"
-        )?;
-        for line in said.lines() {
-            let line = format!(in alloc; "{line}\n")?;
-            let entry = format!(in alloc; "SayErr {line:?} Wrote\n")?;
-            entries.push_str(entry.as_str())?;
-        }
-        assert_eq!(rt; ran.status, status, "{words:?} {failing:?}");
-        assert_eq!(rt; ran.entries.as_str(), entries.as_str());
-        assert_eq!(rt;
-            host.file("mbox"),
-            left.map(|text| text.as_bytes()),
-            "{words:?} {failing:?}"
-        );
-        assert_eq!(rt; err.written(), said.as_bytes(), "{words:?} {failing:?}");
-        assert_eq!(rt;
-            calls_text(alloc, host.calls())?.as_str(),
-            calls,
-            "{words:?} {failing:?}"
-        );
+        case.check(&rt, alloc, &mut source, &mut host)?;
     }
     Ok(())
 }
@@ -131,29 +149,23 @@ fn run_plan(rt: &impl Abort, alloc: Global, plan: &Plan) -> Result<(), Fail> {
     for call in plan.failing {
         host.fail(call)?;
     }
-    let words = if plan.filter {
-        ["-m", "rc"].as_slice()
-    } else {
-        &["./rc"]
-    };
-    let mut source = MemorySource::new(alloc, MAIL.as_bytes(), None)?;
-    let mut err = MemorySink::new(alloc, plan.lost)?;
-    let ran = run(alloc, words, &mut source, &mut host, &mut err)?;
     let mut wanted = Wanted::new(alloc, *plan);
     let (status, reply) = wanted.run()?;
     let left = plan.mailbox_after(alloc, reply)?;
-    assert_eq!(rt; ran.status, status, "{plan:?}");
-    assert_eq!(rt; ran.entries.as_str(), wanted.entries.as_str(), "{plan:?}");
-    assert_eq!(rt; err.written(), wanted.err.as_bytes(), "{plan:?}");
-    assert_eq!(rt;
-        calls_text(alloc, host.calls())?.as_str(),
-        wanted.calls.as_str(),
-        "{plan:?}"
-    );
-    assert_eq!(rt;
-        host.file("mbox"),
-        left.as_ref().map(|bytes| bytes.as_slice()),
-        "{plan:?}"
-    );
-    Ok(())
+    let case = Case {
+        words: if plan.filter {
+            &["-m", "rc"]
+        } else {
+            &["./rc"]
+        },
+        lost: plan.lost,
+        status,
+        entries: wanted.entries.as_str(),
+        err: wanted.err.as_str(),
+        mailbox: "mbox",
+        left: left.as_ref().map(|bytes| bytes.as_slice()),
+        calls: wanted.calls.as_str(),
+    };
+    let mut source = MemorySource::new(alloc, MAIL.as_bytes(), None)?;
+    case.check(rt, alloc, &mut source, &mut host)
 }

@@ -1,10 +1,9 @@
-//! Runs that end before a delivery: words, messages and rcfiles that aren't read.
+//! Runs that end before a delivery: words, messages and rcfiles that aren't read, and forms that aren't built.
 ghost use Rattle.std.specs.Prelude.{None};
 
-use super::setup::{MAIL, RC, Stands, host_with, run};
-use super::shown::calls_text;
+use super::setup::{Case, MAIL, PIECE, RC, Stands, host_with};
 use pm_host::{Got, Source};
-use pm_memory::{MemorySink, MemorySource};
+use pm_memory::MemorySource;
 use std::test::Fail;
 
 #[test]
@@ -31,19 +30,20 @@ fn words_that_are_not_read_end_the_run_at_once(rt: HostRuntime) -> Result<(), Fa
         &["./rc", "-m"],
         &["-m", "rc", "x"],
     ] {
+        let case = Case {
+            words,
+            lost: None,
+            status: 64,
+            entries: "",
+            err: "procmail: Bad words\n",
+            mailbox: "mbox",
+            left: None,
+            calls: "",
+        };
         let mut host = host_with(alloc, &[])?;
         let mut source = MemorySource::new(alloc, MAIL.as_bytes(), Some(1))?;
-        let mut err = MemorySink::new(alloc, None)?;
-        let ran = run(alloc, words, &mut source, &mut host, &mut err)?;
-        assert_eq!(rt; ran.status, 64, "{words:?}");
-        assert_eq!(rt; ran.entries.as_str(), "", "{words:?}");
-        assert_eq!(rt;
-            err.written(),
-            b"procmail: Bad words\n".as_slice(),
-            "{words:?}"
-        );
-        assert_eq!(rt; host.calls().len(), 0, "{words:?}");
-        // The source's first call still is to come, since that call fails.
+        case.check(&rt, alloc, &mut source, &mut host)?;
+        // The source's first call is still to come, since that one fails.
         assert_eq!(rt; source.faults(), 0, "{words:?}");
         assert_eq!(rt; source.read(&mut [0]), Got::Failed, "{words:?}");
     }
@@ -54,43 +54,42 @@ fn words_that_are_not_read_end_the_run_at_once(rt: HostRuntime) -> Result<(), Fa
 fn an_rcfile_that_is_not_read(rt: HostRuntime) -> Result<(), Fail> {
     let alloc = rt.alloc();
     let long = String::from_utf8_lossy(alloc, vec![in alloc; b'x'; 1_048_577]?.as_slice())?;
-    for (words, stands, reply) in [
-        (["./rc"].as_slice(), Stands::Nothing, "Missing"),
-        (&["./rc"], Stands::Folder, "NotPlain"),
-        (&["./rc"], Stands::File(long.as_str()), "TooLong(1048577)"),
-        (&["./a b"], Stands::Nothing, "Missing"),
-        (&["./"], Stands::Nothing, "Missing"),
-        (&["-m", "rc"], Stands::Nothing, "Missing"),
-        (&["-m", "rc"], Stands::Folder, "NotPlain"),
-        (
-            &["-m", "rc"],
-            Stands::File(long.as_str()),
-            "TooLong(1048577)",
-        ),
-        (&["-m", "./rc"], Stands::Nothing, "Missing"),
-        (&["-m", "/a b"], Stands::Nothing, "Missing"),
+    let long = Stands::File(long.as_str());
+    for (words, stands, reply, reads) in [
+        (["./rc"].as_slice(), Stands::Nothing, "Missing", 0),
+        (&["./rc"], Stands::Folder, "NotPlain", 0),
+        (&["./rc"], long, "TooLong(1048577)", 257),
+        (&["./a b"], Stands::Nothing, "Missing", 0),
+        (&["./"], Stands::Nothing, "Missing", 0),
+        (&["-m", "rc"], Stands::Nothing, "Missing", 0),
+        (&["-m", "rc"], Stands::Folder, "NotPlain", 0),
+        (&["-m", "rc"], long, "TooLong(1048577)", 257),
+        (&["-m", "./rc"], Stands::Nothing, "Missing", 0),
+        (&["-m", "/a b"], Stands::Nothing, "Missing", 0),
     ] {
         let rcfile = words.last().copied().unwrap_or("");
-        let mut host = host_with(alloc, &[(rcfile, stands)])?;
-        let mut source = MemorySource::new(alloc, MAIL.as_bytes(), None)?;
-        let mut err = MemorySink::new(alloc, None)?;
-        let ran = run(alloc, words, &mut source, &mut host, &mut err)?;
         let line = format!(in alloc; "procmail: Couldn't read \"{rcfile}\"\n")?;
         let entry = format!(in alloc; "ReadFile {rcfile} {reply}\n")?;
-        if words.len() == 1 {
-            let entries = format!(in alloc; "{entry}SayErr {line:?} Wrote\n")?;
-            assert_eq!(rt; ran.status, 78, "{words:?}");
-            assert_eq!(rt; ran.entries.as_str(), entries.as_str());
-            assert_eq!(rt; err.written(), line.as_bytes(), "{words:?}");
+        let entries = format!(in alloc; "{entry}SayErr {line:?} Wrote\n")?;
+        let (status, entries, err) = if words.len() == 1 {
+            (78, entries.as_str(), line.as_str())
         } else {
-            assert_eq!(rt; ran.status, 66, "{words:?}");
-            assert_eq!(rt; ran.entries.as_str(), entry.as_str());
-            assert_eq!(rt;
-                err.written(),
-                b"procmail: No rcfile\n".as_slice(),
-                "{words:?}"
-            );
-        }
+            (66, entry.as_str(), "procmail: No rcfile\n")
+        };
+        let calls = format!(in alloc; "look {}", "read ".repeat(alloc, reads)?)?;
+        let case = Case {
+            words,
+            lost: None,
+            status,
+            entries,
+            err,
+            mailbox: "mbox",
+            left: None,
+            calls: calls.as_str(),
+        };
+        let mut host = host_with(alloc, &[(rcfile, stands)])?;
+        let mut source = MemorySource::new(alloc, MAIL.as_bytes(), None)?;
+        case.check(&rt, alloc, &mut source, &mut host)?;
     }
     Ok(())
 }
@@ -98,78 +97,83 @@ fn an_rcfile_that_is_not_read(rt: HostRuntime) -> Result<(), Fail> {
 #[test]
 fn an_rcfile_of_another_form_delivers_nothing(rt: HostRuntime) -> Result<(), Fail> {
     let alloc = rt.alloc();
-    for rc in [
-        "",
-        "\n",
-        ":0\n",
-        ":0\n\n",
-        ":0\nmbox",
-        ":0\nmbox\n\n",
-        ":0 c\nmbox\n",
-        ":0:\nmbox\n",
-        " :0\nmbox\n",
-        "#\n:0\nmbox\n",
-        ":0\nmd/\n",
-        ":0\nmd/.\n",
-        ":0\n/dev/null\n",
-        ":0\na b\n",
-        ":0\n$a\n",
-        ":0\n|a\n",
-        ":0\n!a\n",
-        ":0\n{ }\n",
-        ":0\r\nmbox\n",
+    for (words, rc) in [
+        (["./rc"].as_slice(), ""),
+        (&["./rc"], "\n"),
+        (&["./rc"], ":0\n"),
+        (&["./rc"], ":0\n\n"),
+        (&["./rc"], ":0\nmbox"),
+        (&["./rc"], ":0\nmbox\n\n"),
+        (&["./rc"], ":0 c\nmbox\n"),
+        (&["-m", "rc"], ":0 c\nmbox\n"),
+        (&["./rc"], ":0:\nmbox\n"),
+        (&["./rc"], " :0\nmbox\n"),
+        (&["./rc"], ":0\r\nmbox\n"),
+        (&["./rc"], ":0\nmd/\n"),
+        (&["-m", "rc"], ":0\nmd/.\n"),
+        (&["./rc"], ":0\n/dev/null\n"),
+        (&["./rc"], ":0\na b\n"),
+        (&["./rc"], ":0\n$a\n"),
+        (&["./rc"], ":0\n|a\n"),
+        (&["./rc"], ":0\n!a\n"),
     ] {
-        let mut host = host_with(
-            alloc,
-            &[("./rc", Stands::File(rc)), ("mbox", Stands::File("old\n"))],
-        )?;
+        let rcfile = words.last().copied().unwrap_or("");
+        let entries = format!(in alloc; "ReadFile {rcfile} Content {rc:?}\n")?;
+        let case = Case {
+            words,
+            lost: None,
+            status: 78,
+            entries: entries.as_str(),
+            err: "",
+            mailbox: "mbox",
+            left: Some(b"old\n"),
+            calls: if rc.is_empty() {
+                "look read "
+            } else {
+                "look read read "
+            },
+        };
+        let nodes = [(rcfile, Stands::File(rc)), ("mbox", Stands::File("old\n"))];
+        let mut host = host_with(alloc, &nodes)?;
         let mut source = MemorySource::new(alloc, MAIL.as_bytes(), None)?;
-        let mut err = MemorySink::new(alloc, None)?;
-        let ran = run(alloc, &["./rc"], &mut source, &mut host, &mut err)?;
-        let entries = format!(in alloc; "ReadFile ./rc Content {rc:?}\n")?;
-        assert_eq!(rt; ran.status, 78, "{rc:?}");
-        assert_eq!(rt; ran.entries.as_str(), entries.as_str());
-        assert_eq!(rt; host.file("mbox"), Some(b"old\n".as_slice()), "{rc:?}");
-        assert_eq!(rt; err.written(), b"".as_slice(), "{rc:?}");
+        case.check(&rt, alloc, &mut source, &mut host)?;
     }
     Ok(())
 }
 
 #[test]
-fn a_mail_that_is_not_delivered_yet(rt: HostRuntime) -> Result<(), Fail> {
+fn a_mail_without_its_from_line_or_for_a_folder(rt: HostRuntime) -> Result<(), Fail> {
     let alloc = rt.alloc();
-    let read = "ReadFile ./rc Content \":0\\nmbox\\n\"\n";
-    for (mail, entries, calls) in [
-        ("", "", ""),
-        ("A: b\n\nhi\n", "", ""),
-        ("From: a@b\n\nhi\n", "", ""),
-        ("\nFrom a@b\n", "", ""),
-        (
-            MAIL,
-            "Append mbox \"From a@b Thu Jan  1 00:00:00 1970\\nA: b\\n\\nhi\\n\\n\" IsFolder\n",
-            "look read read look ",
-        ),
+    for (words, mail, calls) in [
+        (["./rc"].as_slice(), "", ""),
+        (&["./rc"], "A: b\n\nhi\n", ""),
+        (&["./rc"], "From: a@b\n\nhi\n", ""),
+        (&["./rc"], "\nFrom a@b\n", ""),
+        (&["./rc"], MAIL, "look read read look "),
+        (&["-m", "rc"], MAIL, "look read read look "),
     ] {
-        let mut host = host_with(
-            alloc,
-            &[("./rc", Stands::File(RC)), ("mbox", Stands::Folder)],
+        let rcfile = words.last().copied().unwrap_or("");
+        let entries = format!(in alloc;
+            "ReadFile {rcfile} Content {RC:?}\nAppend mbox {PIECE:?} IsFolder\n"
         )?;
-        let mut source = MemorySource::new(alloc, mail.as_bytes(), None)?;
-        let mut err = MemorySink::new(alloc, None)?;
-        let ran = run(alloc, &["./rc"], &mut source, &mut host, &mut err)?;
-        let entries = if calls.is_empty() {
-            format!(in alloc; "{entries}")?
-        } else {
-            format!(in alloc; "{read}{entries}")?
-        };
-        assert_eq!(rt; ran.status, 78, "{mail:?}");
-        assert_eq!(rt; ran.entries.as_str(), entries.as_str(), "{mail:?}");
-        assert_eq!(rt;
-            calls_text(alloc, host.calls())?.as_str(),
+        let case = Case {
+            words,
+            lost: None,
+            status: 78,
+            entries: if calls.is_empty() {
+                ""
+            } else {
+                entries.as_str()
+            },
+            err: "",
+            mailbox: "mbox",
+            left: None,
             calls,
-            "{mail:?}"
-        );
-        assert_eq!(rt; err.written(), b"".as_slice(), "{mail:?}");
+        };
+        let nodes = [(rcfile, Stands::File(RC)), ("mbox", Stands::Folder)];
+        let mut host = host_with(alloc, &nodes)?;
+        let mut source = MemorySource::new(alloc, mail.as_bytes(), None)?;
+        case.check(&rt, alloc, &mut source, &mut host)?;
     }
     Ok(())
 }
@@ -195,36 +199,51 @@ impl Source for Bytes {
 }
 
 #[test]
-fn a_message_that_is_too_long_or_not_read(rt: HostRuntime) -> Result<(), Fail> {
+fn a_message_of_the_greatest_length_and_one_past_it(rt: HostRuntime) -> Result<(), Fail> {
     let alloc = rt.alloc();
-    let mut host = host_with(alloc, &[])?;
-    for (count, status, line) in [
-        (67_108_864, 66, "procmail: No rcfile\n"),
-        (67_108_865, 65, "procmail: Message too long\n"),
+    for (count, status, entries, err, calls) in [
+        (
+            67_108_864,
+            66,
+            "ReadFile gone Missing\n",
+            "procmail: No rcfile\n",
+            "look ",
+        ),
+        (67_108_865, 65, "", "procmail: Message too long\n", ""),
     ] {
-        let mut source = Bytes { left: count };
-        let mut err = MemorySink::new(alloc, None)?;
-        let ran = run(alloc, &["-m", "gone"], &mut source, &mut host, &mut err)?;
-        assert_eq!(rt; ran.status, status, "{count}");
-        assert_eq!(rt; err.written(), line.as_bytes(), "{count}");
-        assert_eq!(rt; host.calls().len(), 1, "{count}");
+        let case = Case {
+            words: &["-m", "gone"],
+            lost: None,
+            status,
+            entries,
+            err,
+            mailbox: "mbox",
+            left: None,
+            calls,
+        };
+        let mut host = host_with(alloc, &[])?;
+        case.check(&rt, alloc, &mut Bytes { left: count }, &mut host)?;
     }
-    for call in [1, 2, 3] {
-        let mut source = MemorySource::new(
-            alloc,
-            vec![in alloc; b'x'; 5_000]?.as_slice(),
-            Some(call),
-        )?;
-        let mut err = MemorySink::new(alloc, None)?;
-        let ran = run(alloc, &["./rc"], &mut source, &mut host, &mut err)?;
-        assert_eq!(rt; ran.status, 74, "{call}");
-        assert_eq!(rt; ran.entries.as_str(), "", "{call}");
-        assert_eq!(rt;
-            err.written(),
-            b"procmail: Couldn't read the message\n".as_slice(),
-            "{call}"
-        );
-        assert_eq!(rt; host.calls().len(), 1, "{call}");
+    Ok(())
+}
+
+#[test]
+fn a_message_that_is_not_read_to_its_end(rt: HostRuntime) -> Result<(), Fail> {
+    let alloc = rt.alloc();
+    for call in [1, 2] {
+        let case = Case {
+            words: &["./rc"],
+            lost: None,
+            status: 74,
+            entries: "",
+            err: "procmail: Couldn't read the message\n",
+            mailbox: "mbox",
+            left: None,
+            calls: "",
+        };
+        let mut host = host_with(alloc, &[("./rc", Stands::File(RC))])?;
+        let mut source = MemorySource::new(alloc, MAIL.as_bytes(), Some(call))?;
+        case.check(&rt, alloc, &mut source, &mut host)?;
     }
     Ok(())
 }

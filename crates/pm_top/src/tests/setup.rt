@@ -1,11 +1,13 @@
 //! A run over files, a source and sinks in memory.
-use super::shown::entries_text;
+use super::shown::{calls_text, entries_text};
 use crate::procmail;
 use pm_bytes::{Environ, Memory, Name, Pairs};
 use pm_host::Source;
 use pm_journal::Journal;
 use pm_memory::{MemoryHost, MemorySink};
 use std::alloc::{AllocError, Global};
+use std::process::Abort;
+use std::test::Fail;
 
 /// An rcfile that delivers to `mbox`.
 pub const RC: &str = ":0\nmbox\n";
@@ -23,11 +25,28 @@ pub enum Stands<'a> {
     File(&'a str),
 }
 
-/// The status, and the entries as text, each a line.
-#[derive(Debug, Drop)]
-pub struct Ran {
+impl<'a> Stands<'a> {
+    /// The bytes of a file.
+    pub fn text(self) -> &'a str {
+        match self {
+            Stands::File(bytes) => bytes,
+            _ => "",
+        }
+    }
+}
+
+/// The words of a run, and all that it is to leave. The calls and the entries are text.
+#[derive(Clone, Copy, Debug)]
+pub struct Case<'a> {
+    pub words: &'a [&'a str],
+    /// The write to `err` with this number, from 1, fails.
+    pub lost: Option<u64>,
     pub status: u8,
-    pub entries: String,
+    pub entries: &'a str,
+    pub err: &'a str,
+    pub mailbox: &'a str,
+    pub left: Option<&'a [u8]>,
+    pub calls: &'a str,
 }
 
 /// Files in memory, with room for the calls of a long run.
@@ -43,14 +62,36 @@ pub fn host_with(alloc: Global, nodes: &[(&str, Stands)]) -> Result<MemoryHost, 
     Ok(host)
 }
 
-/// Runs the program with an empty journal.
-pub fn run<S: Source>(
+impl Case<'_> {
+    /// Runs the program with an empty journal, and compares.
+    pub fn check<S: Source>(
+        &self,
+        rt: &impl Abort,
+        alloc: Global,
+        source: &mut S,
+        host: &mut MemoryHost,
+    ) -> Result<(), Fail> {
+        let mut err = MemorySink::new(alloc, self.lost)?;
+        let (status, entries) = run(alloc, self.words, source, host, &mut err)?;
+        let calls = calls_text(alloc, host.calls())?;
+        assert_eq!(rt; entries.as_str(), self.entries, "{self:?}");
+        assert_eq!(rt; status, self.status, "{self:?}");
+        assert_eq!(rt; err.written(), self.err.as_bytes(), "{self:?}");
+        assert_eq!(rt; host.file(self.mailbox), self.left, "{self:?}");
+        assert_eq!(rt; calls.as_str(), self.calls, "{self:?}");
+        assert_eq!(rt; (host.starved(), err.starved()), (0, 0));
+        Ok(())
+    }
+}
+
+// The status and the entries.
+fn run<S: Source>(
     alloc: Global,
     words: &[&str],
     source: &mut S,
     host: &mut MemoryHost,
     err: &mut MemorySink,
-) -> Result<Ran, Memory> {
+) -> Result<(u8, String), Memory> {
     let words = owned(alloc, words)?;
     let env = Environ {
         vars: Pairs::from_vec(Vec::new(alloc)),
@@ -70,7 +111,7 @@ pub fn run<S: Source>(
         &mut journal,
     );
     let entries = entries_text(alloc, journal.entries())?;
-    Ok(Ran { status, entries })
+    Ok((status, entries))
 }
 
 fn owned(alloc: Global, words: &[&str]) -> Result<Vec<String>, AllocError> {
