@@ -1,6 +1,6 @@
 //! Runs in which calls fail.
-use super::protocol::{OLD, Plan, Wanted};
-use super::setup::{Case, MAIL, PIECE, RC, Stands, host_with};
+use super::protocol::{Plan, Wanted};
+use super::setup::{MAIL, PIECE, RC, Stands, host_with, left_text, rcfile_of, run};
 use pm_memory::MemorySource;
 use std::alloc::Global;
 use std::process::Abort;
@@ -9,97 +9,87 @@ use std::test::Fail;
 #[test]
 fn a_failed_append_is_taken_back_or_told(rt: HostRuntime) -> Result<(), Fail> {
     let alloc = rt.alloc();
-    let cut = "look read read look append append cut ";
-    let removed = "look read read look create append remove ";
     for (words, mailbox, failing, lost, status, told, err, left, calls) in [
         (
-            ["./rc"].as_slice(),
-            Stands::File(OLD),
-            [6].as_slice(),
+            "./rc",
+            Stands::File("old\n"),
+            [6, 6],
             None,
             78,
             "Undone\nSayErr \"procmail: Couldn't write to \\\"mbox\\\"\\n\" Wrote",
             "procmail: Couldn't write to \"mbox\"\n",
-            Some(b"old\n".as_slice()),
-            cut,
+            Some("old\n"),
+            "look read read look append append cut ",
         ),
         (
-            &["./rc"],
-            Stands::File(OLD),
-            &[6],
+            "./rc",
+            Stands::File("old\n"),
+            [6, 6],
             Some(1),
             78,
             "Undone\nSayErr \"procmail: Couldn't write to \\\"mbox\\\"\\n\" Short(0)",
             "",
-            Some(b"old\n".as_slice()),
-            cut,
+            Some("old\n"),
+            "look read read look append append cut ",
         ),
         (
-            &["./rc"],
-            Stands::File(OLD),
-            &[6, 7],
+            "./rc",
+            Stands::File("old\n"),
+            [6, 7],
             None,
             78,
             "Torn(5)\nSayErr \"procmail: 5 bytes left in \\\"mbox\\\"\\n\" Wrote",
             "procmail: 5 bytes left in \"mbox\"\n",
-            Some(b"old\nFrom "),
-            cut,
+            Some("old\nFrom "),
+            "look read read look append append cut ",
         ),
         (
-            &["-m", "rc"],
-            Stands::File(OLD),
-            &[6, 7],
+            "-m\nrc",
+            Stands::File("old\n"),
+            [6, 7],
             None,
             73,
             "Torn(5)\nSayErr \"procmail: 5 bytes left in \\\"mbox\\\"\\n\" Wrote\nSayErr \"procmail: No delivery was made\\n\" Wrote",
             "procmail: 5 bytes left in \"mbox\"\nprocmail: No delivery was made\n",
-            Some(b"old\nFrom "),
-            cut,
+            Some("old\nFrom "),
+            "look read read look append append cut ",
         ),
         (
-            &["-m", "rc"],
+            "-m\nrc",
             Stands::Nothing,
-            &[6],
+            [6, 6],
             None,
             73,
             "Undone\nSayErr \"procmail: Couldn't write to \\\"mbox\\\"\\n\" Wrote\nSayErr \"procmail: No delivery was made\\n\" Wrote",
             "procmail: Couldn't write to \"mbox\"\nprocmail: No delivery was made\n",
             None,
-            removed,
+            "look read read look create append remove ",
         ),
         (
-            &["-m", "rc"],
+            "-m\nrc",
             Stands::Nothing,
-            &[6],
+            [6, 6],
             Some(1),
             73,
             "Undone\nSayErr \"procmail: Couldn't write to \\\"mbox\\\"\\n\" Short(0)\nSayErr \"procmail: No delivery was made\\n\" Wrote",
             "procmail: No delivery was made\n",
             None,
-            removed,
+            "look read read look create append remove ",
         ),
     ] {
-        let rcfile = words.last().copied().unwrap_or("");
+        let rcfile = rcfile_of(words);
         let entries = format!(in alloc;
             "ReadFile {rcfile} Content {RC:?}\nAppend mbox {PIECE:?} {told}\n"
         )?;
-        let case = Case {
-            words,
-            lost,
-            status,
-            entries: entries.as_str(),
-            err,
-            mailbox: "mbox",
-            left,
-            calls,
-        };
-        let mut host = host_with(alloc, &[(rcfile, Stands::File(RC)), ("mbox", mailbox)])?;
+        let want = left_text(alloc, status, entries.as_str(), err, left, calls)?;
+        let mut host = host_with(alloc, rcfile, Stands::File(RC), "mbox", mailbox)?;
         host.limit(5, 5)?;
         for call in failing {
-            host.fail(*call)?;
+            host.fail(call)?;
         }
         let mut source = MemorySource::new(alloc, MAIL.as_bytes(), None)?;
-        case.check(&rt, alloc, &mut source, &mut host)?;
+        let ran = run(alloc, words, &mut source, &mut host, "mbox", lost)?;
+        assert_eq!(rt; ran.as_str(), want.as_str());
     }
     Ok(())
 }
@@ -138,34 +128,16 @@ fn fail_each_pair(rt: &impl Abort, alloc: Global, plan: &Plan) -> Result<(), Fai
 }
 
 fn run_plan(rt: &impl Abort, alloc: Global, plan: &Plan) -> Result<(), Fail> {
-    let rcfile = plan.rcfile();
-    let (mailbox, first_append) = if plan.absent {
-        (Stands::Nothing, 6)
-    } else {
-        (Stands::File(OLD), 5)
-    };
-    let mut host = host_with(alloc, &[(rcfile, Stands::File(RC)), ("mbox", mailbox)])?;
-    host.limit(first_append, plan.most.max(1))?;
+    let words = plan.words();
+    let rcfile = rcfile_of(words);
+    let mut host = host_with(alloc, rcfile, Stands::File(RC), "mbox", plan.mailbox())?;
+    host.limit(plan.first_append(), plan.most.max(1))?;
     for call in plan.failing {
         host.fail(call)?;
     }
-    let mut wanted = Wanted::new(alloc, *plan);
-    let (status, reply) = wanted.run()?;
-    let left = plan.mailbox_after(alloc, reply)?;
-    let case = Case {
-        words: if plan.filter {
-            &["-m", "rc"]
-        } else {
-            &["./rc"]
-        },
-        lost: plan.lost,
-        status,
-        entries: wanted.entries.as_str(),
-        err: wanted.err.as_str(),
-        mailbox: "mbox",
-        left: left.as_ref().map(|bytes| bytes.as_slice()),
-        calls: wanted.calls.as_str(),
-    };
     let mut source = MemorySource::new(alloc, MAIL.as_bytes(), None)?;
-    case.check(rt, alloc, &mut source, &mut host)
+    let ran = run(alloc, words, &mut source, &mut host, "mbox", plan.lost)?;
+    let want = Wanted::new(alloc, *plan).run(rcfile)?;
+    assert_eq!(rt; ran.as_str(), want.as_str(), "{plan:?}");
+    Ok(())
 }

@@ -1,9 +1,6 @@
 //! What a run over one rcfile and one mailbox comes to by the words of its protocols, call by call.
-use super::setup::{PIECE, RC};
+use super::setup::{PIECE, RC, Stands, left_text};
 use std::alloc::{AllocError, Global};
-
-/// The mailbox before the run, where it stands.
-pub const OLD: &str = "old\n";
 
 /// What a run meets.
 #[derive(Clone, Copy, Debug)]
@@ -29,40 +26,33 @@ pub enum Reply {
 }
 
 /// What a run has come to so far.
-#[derive(Debug, Drop)]
+#[derive(Drop)]
 pub struct Wanted {
     alloc: Global,
     plan: Plan,
     made: u64,
     written: u64,
-    pub calls: String,
-    pub entries: String,
-    pub err: String,
+    calls: String,
+    entries: String,
+    err: String,
 }
 
 impl Plan {
-    pub fn rcfile(&self) -> &'static str {
-        if self.filter { "rc" } else { "./rc" }
+    pub fn words(&self) -> &'static str {
+        if self.filter { "-m\nrc" } else { "./rc" }
     }
 
-    /// The mailbox after an append that ended so.
-    pub fn mailbox_after(
-        &self,
-        alloc: Global,
-        reply: Reply,
-    ) -> Result<Option<Vec<u8>>, AllocError> {
-        let kept = match reply {
-            Reply::Undone if self.absent => return Ok(None),
-            Reply::Undone => 0,
-            Reply::Torn(taken) => taken.min(PIECE.len()),
-            Reply::Done => PIECE.len(),
-        };
-        let mut bytes = Vec::new(alloc);
-        if !self.absent {
-            bytes.extend_from_slice(OLD.as_bytes())?;
+    pub fn mailbox(&self) -> Stands<'static> {
+        if self.absent {
+            Stands::Nothing
+        } else {
+            Stands::File("old\n")
         }
-        bytes.extend_from_slice(&PIECE.as_bytes()[..kept])?;
-        Ok(Some(bytes))
+    }
+
+    /// The number of the call that is the first `append`: four of reading and looking stand before it.
+    pub fn first_append(&self) -> u64 {
+        if self.absent { 6 } else { 5 }
     }
 }
 
@@ -79,20 +69,47 @@ impl Wanted {
         }
     }
 
-    /// The status, and how the append ended: `Undone` too where none was begun.
-    pub fn run(&mut self) -> Result<(u8, Reply), AllocError> {
-        let rcfile = self.plan.rcfile();
+    /// What the run leaves.
+    pub fn run(mut self, rcfile: &str) -> Result<String, AllocError> {
         if !self.read_file()? {
             let entry = format!(in self.alloc; "ReadFile {rcfile} Faulted\n")?;
             self.entries.push_str(entry.as_str())?;
-            return Ok((self.unread()?, Reply::Undone));
+            let status = self.unread()?;
+            return self.left(status, Reply::Undone);
         }
         let entry = format!(in self.alloc; "ReadFile {rcfile} Content {RC:?}\n")?;
         self.entries.push_str(entry.as_str())?;
         let reply = self.append()?;
         let entry = format!(in self.alloc; "Append mbox {PIECE:?} {reply:?}\n")?;
         self.entries.push_str(entry.as_str())?;
-        Ok((self.after_append(reply)?, reply))
+        let status = self.after_append(reply)?;
+        self.left(status, reply)
+    }
+
+    // The mailbox is as before, unless the append was done or left some bytes.
+    fn left(&self, status: u8, reply: Reply) -> Result<String, AllocError> {
+        let (entries, err, calls) = (
+            self.entries.as_str(),
+            self.err.as_str(),
+            self.calls.as_str(),
+        );
+        let kept = match reply {
+            Reply::Undone if self.plan.absent => {
+                return left_text(self.alloc, status, entries, err, None, calls);
+            }
+            Reply::Undone => "",
+            Reply::Torn(taken) => PIECE.get(..taken).unwrap_or(PIECE),
+            Reply::Done => PIECE,
+        };
+        let mailbox = format!(in self.alloc; "{}{kept}", self.plan.mailbox().text())?;
+        left_text(
+            self.alloc,
+            status,
+            entries,
+            err,
+            Some(mailbox.as_str()),
+            calls,
+        )
     }
 
     fn unread(&mut self) -> Result<u8, AllocError> {

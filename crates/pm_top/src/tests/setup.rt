@@ -1,13 +1,11 @@
-//! A run over files, a source and sinks in memory.
-use super::shown::{calls_text, entries_text};
+//! A run over files, a source and sinks in memory, and what it left as text.
+use super::shown::{calls_text, entries_text, text_of};
 use crate::procmail;
 use pm_bytes::{Environ, Memory, Name, Pairs};
 use pm_host::Source;
 use pm_journal::Journal;
 use pm_memory::{MemoryHost, MemorySink};
 use std::alloc::{AllocError, Global};
-use std::process::Abort;
-use std::test::Fail;
 
 /// An rcfile that delivers to `mbox`.
 pub const RC: &str = ":0\nmbox\n";
@@ -35,63 +33,43 @@ impl<'a> Stands<'a> {
     }
 }
 
-/// The words of a run, and all that it is to leave. The calls and the entries are text.
-#[derive(Clone, Copy, Debug)]
-pub struct Case<'a> {
-    pub words: &'a [&'a str],
-    /// The write to `err` with this number, from 1, fails.
-    pub lost: Option<u64>,
-    pub status: u8,
-    pub entries: &'a str,
-    pub err: &'a str,
-    pub mailbox: &'a str,
-    pub left: Option<&'a [u8]>,
-    pub calls: &'a str,
-}
-
-/// Files in memory, with room for the calls of a long run.
-pub fn host_with(alloc: Global, nodes: &[(&str, Stands)]) -> Result<MemoryHost, Memory> {
+/// An rcfile and a mailbox, with room for the calls of a long run.
+pub fn host_with(
+    alloc: Global,
+    rcfile: &str,
+    rc: Stands<'_>,
+    mailbox: &str,
+    stands: Stands<'_>,
+) -> Result<MemoryHost, Memory> {
     let mut host = MemoryHost::new(alloc, 0, 512)?;
-    for (name, stands) in nodes {
-        match stands {
-            Stands::Nothing => {}
-            Stands::Folder => host.put_folder(name)?,
-            Stands::File(bytes) => host.put_file(name, bytes.as_bytes(), 0)?,
-        }
-    }
+    put(&mut host, rcfile, rc)?;
+    put(&mut host, mailbox, stands)?;
     Ok(host)
 }
 
-impl Case<'_> {
-    /// Runs the program with an empty journal, and compares.
-    pub fn check<S: Source>(
-        &self,
-        rt: &impl Abort,
-        alloc: Global,
-        source: &mut S,
-        host: &mut MemoryHost,
-    ) -> Result<(), Fail> {
-        let mut err = MemorySink::new(alloc, self.lost)?;
-        let (status, entries) = run(alloc, self.words, source, host, &mut err)?;
-        let calls = calls_text(alloc, host.calls())?;
-        assert_eq!(rt; entries.as_str(), self.entries, "{self:?}");
-        assert_eq!(rt; status, self.status, "{self:?}");
-        assert_eq!(rt; err.written(), self.err.as_bytes(), "{self:?}");
-        assert_eq!(rt; host.file(self.mailbox), self.left, "{self:?}");
-        assert_eq!(rt; calls.as_str(), self.calls, "{self:?}");
-        assert_eq!(rt; (host.starved(), err.starved()), (0, 0));
-        Ok(())
+fn put(host: &mut MemoryHost, name: &str, stands: Stands<'_>) -> Result<(), Memory> {
+    match stands {
+        Stands::Nothing => Ok(()),
+        Stands::Folder => host.put_folder(name),
+        Stands::File(bytes) => host.put_file(name, bytes.as_bytes(), 0),
     }
 }
 
-// The status and the entries.
-fn run<S: Source>(
+/// The rcfile that the words name.
+pub fn rcfile_of(words: &str) -> &str {
+    words.strip_prefix("-m\n").unwrap_or(words)
+}
+
+/// Runs the program with an empty journal, and says what it left. Each word is a line. The write to `err` with the
+/// number `lost`, from 1, fails.
+pub fn run<S: Source>(
     alloc: Global,
-    words: &[&str],
+    words: &str,
     source: &mut S,
     host: &mut MemoryHost,
-    err: &mut MemorySink,
-) -> Result<(u8, String), Memory> {
+    mailbox: &str,
+    lost: Option<u64>,
+) -> Result<String, Memory> {
     let words = owned(alloc, words)?;
     let env = Environ {
         vars: Pairs::from_vec(Vec::new(alloc)),
@@ -99,6 +77,7 @@ fn run<S: Source>(
         host_name: Name::from_text(String::from_str(alloc, "mx")?),
     };
     let mut out = MemorySink::new(alloc, None)?;
+    let mut err = MemorySink::new(alloc, lost)?;
     let mut journal = Journal::new(alloc);
     let status = procmail(
         alloc,
@@ -107,16 +86,35 @@ fn run<S: Source>(
         source,
         host,
         &mut out,
-        err,
+        &mut err,
         &mut journal,
     );
     let entries = entries_text(alloc, journal.entries())?;
-    Ok((status, entries))
+    let calls = calls_text(alloc, host.calls())?;
+    let said = text_of(err.written());
+    let file = match host.file(mailbox) {
+        Some(bytes) => Some(text_of(bytes)),
+        None => None,
+    };
+    Ok(left_text(alloc, status, entries.as_str(), said, file, calls.as_str())?)
 }
 
-fn owned(alloc: Global, words: &[&str]) -> Result<Vec<String>, AllocError> {
-    words
-        .iter()
-        .map(|word| String::from_str(alloc, word))
-        .try_collect(alloc)
+/// What a run left, as text: its status, its entries, what `err` took, the mailbox and the calls of the host.
+pub fn left_text(
+    alloc: Global,
+    status: u8,
+    entries: &str,
+    err: &str,
+    mailbox: Option<&str>,
+    calls: &str,
+) -> Result<String, AllocError> {
+    format!(in alloc; "{status}\n{entries}err {err:?}\nmailbox {mailbox:?}\ncalls {calls}\n")
+}
+
+fn owned(alloc: Global, words: &str) -> Result<Vec<String>, AllocError> {
+    let mut all = Vec::new(alloc);
+    for word in words.lines() {
+        all.push(String::from_str(alloc, word)?)?;
+    }
+    Ok(all)
 }

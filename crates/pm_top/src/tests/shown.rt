@@ -1,5 +1,4 @@
 //! Entries and calls as text.
-use pm_bytes::Blob;
 use pm_host::{Call, Logged};
 use pm_journal::{Act, Entry, Reply};
 use std::alloc::{AllocError, Global};
@@ -20,22 +19,23 @@ fn act_text(alloc: Global, act: &Act) -> Result<String, AllocError> {
     match act {
         Act::ReadFile { name } => format!(in alloc; "ReadFile {}", name.as_str()),
         Act::Append { name, piece } => {
-            format!(in alloc; "Append {} {:?}", name.as_str(), text_of(piece))
+            format!(in alloc; "Append {} {:?}", name.as_str(), text_of(piece.as_slice()))
         }
-        Act::SayErr { text } => format!(in alloc; "SayErr {:?}", text_of(text)),
+        Act::SayErr { text } => format!(in alloc; "SayErr {:?}", text_of(text.as_slice())),
         other => format!(in alloc; "{other:?}"),
     }
 }
 
 fn reply_text(alloc: Global, reply: &Reply) -> Result<String, AllocError> {
     match reply {
-        Reply::Content(bytes) => format!(in alloc; "Content {:?}", text_of(bytes)),
+        Reply::Content(bytes) => format!(in alloc; "Content {:?}", text_of(bytes.as_slice())),
         other => format!(in alloc; "{other:?}"),
     }
 }
 
-fn text_of(bytes: &Blob) -> &str {
-    match std::str::from_utf8(bytes.as_slice()) {
+/// The bytes as text.
+pub fn text_of(bytes: &[u8]) -> &str {
+    match std::str::from_utf8(bytes) {
         Ok(text) => text,
         Err(_) => "no text",
     }
