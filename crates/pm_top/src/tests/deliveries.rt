@@ -1,6 +1,7 @@
 //! Runs in which no call fails.
 use super::setup::{MAIL, PIECE, Stands, host_with, left_text, rcfile_of, run};
 use pm_memory::MemorySource;
+use std::alloc::{AllocError, Global};
 use std::test::Fail;
 
 #[test]
@@ -83,25 +84,34 @@ fn a_mailbox_gets_the_whole_mail(rt: HostRuntime) -> Result<(), Fail> {
             "look append ",
         ),
     ] {
-        let rcfile = rcfile_of(words);
         let rc = format!(in alloc; ":0\n{mailbox}\n")?;
-        let entries = format!(in alloc;
-            "ReadFile {rcfile} Content {rc:?}\nAppend {mailbox} {piece:?} Done\n"
-        )?;
-        let left = format!(in alloc; "{}{piece}", stands.text())?;
-        let calls = format!(in alloc; "look read read {calls}")?;
-        let want = left_text(
-            alloc,
-            0,
-            entries.as_str(),
-            "",
-            Some(left.as_str()),
-            calls.as_str(),
-        )?;
-        let mut host = host_with(alloc, rcfile, Stands::File(rc.as_str()), mailbox, stands)?;
+        let want = what_is_left(alloc, words, rc.as_str(), mailbox, stands, piece, calls)?;
+        let rc = Stands::File(rc.as_str());
+        let mut host = host_with(alloc, rcfile_of(words), rc, mailbox, stands)?;
         let mut source = MemorySource::new(alloc, mail.as_bytes(), None)?;
         let ran = run(alloc, words, &mut source, &mut host, mailbox, None)?;
         assert_eq!(rt; ran.as_str(), want.as_str());
     }
     Ok(())
+}
+
+// What a run leaves that appends the piece, by these calls, to what stands at the mailbox's name.
+fn what_is_left(
+    alloc: Global,
+    words: &str,
+    rc: &str,
+    mailbox: &str,
+    stands: Stands<'_>,
+    piece: &str,
+    calls: &str,
+) -> Result<String, AllocError> {
+    let rcfile = rcfile_of(words);
+    let entries = format!(in alloc;
+        "ReadFile {rcfile} Content {rc:?}\nAppend {mailbox} {piece:?} Done\n"
+    )?;
+    let mut left = String::from_str(alloc, stands.text())?;
+    left.push_str(piece)?;
+    let calls = format!(in alloc; "look read read {calls}")?;
+    let (entries, left, calls) = (entries.as_str(), left.as_str(), calls.as_str());
+    left_text(alloc, 0, entries, "", Some(left), calls)
 }
