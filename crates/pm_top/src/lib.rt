@@ -5,6 +5,8 @@
 pub mod drain;
 pub mod rcform;
 pub mod run;
+#[cfg(test)]
+mod tests;
 pub mod top;
 pub mod words;
 
