@@ -1,6 +1,6 @@
 //! Runs in which calls fail.
 use super::protocol::{Plan, Wanted};
-use super::setup::{MAIL, PIECE, RC, Stands, host_with, left_text, rcfile_of, run};
+use super::setup::{MAIL, RC, Stands, host_with, left_text, mail_for, rcfile_of, run};
 use pm_memory::MemorySource;
 use std::alloc::Global;
 use std::process::Abort;
@@ -51,7 +51,7 @@ fn a_failed_append_is_taken_back_or_told(rt: HostRuntime) -> Result<(), Fail> {
             73,
             "Torn(5)\nSayErr \"procmail: 5 bytes left in \\\"mbox\\\"\\n\" Wrote\nSayErr \"procmail: No delivery was made\\n\" Wrote",
             "procmail: 5 bytes left in \"mbox\"\nprocmail: No delivery was made\n",
-            Some("old\nFrom "),
+            Some("old\nA: b\n"),
             "look read read look append append cut ",
         ),
         (
@@ -78,8 +78,9 @@ fn a_failed_append_is_taken_back_or_told(rt: HostRuntime) -> Result<(), Fail> {
         ),
     ] {
         let rcfile = rcfile_of(words);
+        let (mail, piece) = mail_for(words);
         let entries = format!(in alloc;
-            "ReadFile {rcfile} Content {RC:?}\nAppend mbox {PIECE:?} {told}\n"
+            "ReadFile {rcfile} Content {RC:?}\nAppend mbox {piece:?} {told}\n"
         )?;
         let want = left_text(alloc, status, entries.as_str(), err, left, calls)?;
         let mut host = host_with(alloc, rcfile, Stands::File(RC), "mbox", mailbox)?;
@@ -87,7 +88,7 @@ fn a_failed_append_is_taken_back_or_told(rt: HostRuntime) -> Result<(), Fail> {
         for call in failing {
             host.fail(call)?;
         }
-        let mut source = MemorySource::new(alloc, MAIL.as_bytes(), None)?;
+        let mut source = MemorySource::new(alloc, mail.as_bytes(), None)?;
         let ran = run(alloc, words, &mut source, &mut host, "mbox", lost)?;
         assert_eq!(rt; ran.as_str(), want.as_str());
     }

@@ -1,7 +1,7 @@
 //! Runs that end before a delivery: words, messages and rcfiles that aren't read, and forms that aren't built.
 ghost use Rattle.std.specs.Prelude.{None};
 
-use super::setup::{MAIL, PIECE, RC, Stands, host_with, left_text, rcfile_of, run};
+use super::setup::{MAIL, PIECE, RC, Stands, host_with, left_text, mail_for, rcfile_of, run};
 use pm_host::{Got, Source};
 use pm_memory::{MemoryHost, MemorySource};
 use std::alloc::{AllocError, Global};
@@ -179,7 +179,8 @@ fn an_rcfile_of_another_form_delivers_nothing(rt: HostRuntime) -> Result<(), Fai
         let want = left_text(alloc, 78, entries.as_str(), "", Some("old\n"), calls)?;
         let mailbox = Stands::File("old\n");
         let mut host = host_with(alloc, rcfile, Stands::File(rc), "mbox", mailbox)?;
-        let mut source = MemorySource::new(alloc, MAIL.as_bytes(), None)?;
+        let (mail, _) = mail_for(words);
+        let mut source = MemorySource::new(alloc, mail.as_bytes(), None)?;
         let ran = run(alloc, words, &mut source, &mut host, "mbox", None)?;
         assert_eq!(rt; ran.as_str(), want.as_str());
     }

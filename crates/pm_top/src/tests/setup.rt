@@ -15,6 +15,11 @@ pub const MAIL: &str = "From a@b Thu Jan  1 00:00:00 1970\nA: b\n\nhi\n";
 
 pub const PIECE: &str = "From a@b Thu Jan  1 00:00:00 1970\nA: b\n\nhi\n\n";
 
+/// A mail without a From line, as a filter takes it, and what a mailbox gets of it.
+pub const BARE_MAIL: &str = "A: b\n\nhi\n";
+
+pub const BARE_PIECE: &str = "A: b\n\nhi\n\n";
+
 /// What stands at a name.
 #[derive(Clone, Copy, Debug)]
 pub enum Stands<'a> {
@@ -58,6 +63,15 @@ fn put(host: &mut MemoryHost, name: &str, stands: Stands<'_>) -> Result<(), Memo
 /// The rcfile that the words name.
 pub fn rcfile_of(words: &str) -> &str {
     words.strip_prefix("-m\n").unwrap_or(words)
+}
+
+/// The mail that a run with these words gets, and what a mailbox gets of it.
+pub fn mail_for(words: &str) -> (&'static str, &'static str) {
+    if words.starts_with("-m") {
+        (BARE_MAIL, BARE_PIECE)
+    } else {
+        (MAIL, PIECE)
+    }
 }
 
 /// Runs the program with an empty journal, and says what it left. Each word is a line. The write to `err` with the
