@@ -1,0 +1,13 @@
+use Rattle.std.proofs.Common.{arith}
+use Rattle.pm_match.proofs.EngineLemmas.{program_of}
+use Rattle.pm_match.proofs.search.Search.of.Goals as goal
+
+pub returns : goal.returns
+returns c = λ l r a b. record {
+  left = program_of c.in_ok-left.left l c.args.fold c.in_ok-left.ensures.range c.in_ok-left.ensures.exit (c.in_ok-left.ensures.built l a);
+  left_labels = omega (arith, c.in_ok-left_labels.ensures.len, c.len.ensures, c.in_ok-left.left.steps.ok.0);
+  left_next = omega (arith, c.in_ok-left_next.ensures.len, c.len-2.ensures, c.in_ok-left.left.steps.ok.0);
+  right = program_of c.in_ok-right.right r c.args.fold c.in_ok-right.ensures.range c.in_ok-right.ensures.exit (c.in_ok-right.ensures.built r b);
+  right_labels = omega (arith, c.in_ok-right_labels.ensures.len, c.len-3.ensures, c.in_ok-right.right.steps.ok.0);
+  right_next = omega (arith, c.in_ok-right_next.ensures.len, c.len-4.ensures, c.in_ok-right.right.steps.ok.0);
+}

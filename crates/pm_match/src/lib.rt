@@ -1,0 +1,15 @@
+//! Matching of regular expressions in one pass over the searched bytes.
+#![tactic(auto)]
+
+mod atoms;
+mod build;
+mod count;
+mod engine;
+mod find;
+mod labels;
+mod search;
+mod step;
+#[cfg(test)]
+mod tests;
+
+pub use engine::{Engine, Found};

@@ -1,0 +1,68 @@
+//! A search for two expressions one behind the other.
+
+use crate::build::{Program, build};
+use crate::find::{Match, find};
+use crate::labels::Label;
+use pm_bytes::Memory;
+use pm_regex::Op;
+use std::alloc::Global;
+
+/// Two automata, with room for a label of each state at two places.
+#[derive(Drop)]
+pub struct Search {
+    left: Program,
+    left_labels: Vec<Option<Label>>,
+    left_next: Vec<Option<Label>>,
+    right: Program,
+    right_labels: Vec<Option<Label>>,
+    right_next: Vec<Option<Label>>,
+}
+
+impl Search {
+    ghost use Rattle.std.specs.Prelude.{◌≡◌, ◌≤◌, Bool, IfOk, length};
+    ghost use Rattle.pm_regex.specs.Re.{Re};
+    ghost use Rattle.pm_regex.specs.Postfix.{Spells};
+    ghost use Rattle.pm_match.specs.Search.{Runs};
+    ghost use Rattle.pm_match.specs.Finding.{IsFirst};
+
+    /// The search for two lists of operators, of which the second is behind the first.
+    pub fn of(alloc: Global, left: &[Op], right: &[Op], fold: bool) -> Result<Search, Memory>
+        requires left_spells { (e : Re) × Spells left.now e }
+        requires right_spells { (e : Re) × Spells right.now e }
+        ensures { IfOk result (λ search. (l r : Re) → Spells left.now l → Spells right.now r → Runs search l r fold) }
+    {
+        let left = build(alloc, left, fold)?;
+        let right = build(alloc, right, fold)?;
+        let left_labels = vec![in alloc; None; left.steps.len()]?;
+        let left_next = vec![in alloc; None; left.steps.len()]?;
+        let right_labels = vec![in alloc; None; right.steps.len()]?;
+        let right_next = vec![in alloc; None; right.steps.len()]?;
+        Ok(Search {
+            left,
+            left_labels,
+            left_next,
+            right,
+            right_labels,
+            right_next,
+        })
+    }
+
+    /// The first match from a place on.
+    pub fn first(&mut self, area: &[u8], from: usize) -> Option<Match>
+        requires runs { (l : Re) × (r : Re) × (fold : Bool) × Runs self.old l r fold }
+        requires from { from ≤ length area.now }
+        ensures kept { (l r : Re) (fold : Bool) → Runs self.old l r fold → Runs self.new l r fold }
+        ensures first { (l r : Re) (fold : Bool) → Runs self.old l r fold → IsFirst fold l r area.now from result }
+    {
+        find(
+            &self.left,
+            &self.right,
+            &mut self.left_labels,
+            &mut self.left_next,
+            &mut self.right_labels,
+            &mut self.right_next,
+            area,
+            from,
+        )
+    }
+}

@@ -1,0 +1,84 @@
+-- The line on which a recipe begins.
+use Rattle.std.specs.Prelude.{ℕ, List, [], ◌∷◌, if◌then◌else◌, nat_eq, nat_lt, Bool, false, true, not, ◌&&◌, ◌||◌, take, drop, length, Option, Some, None}
+use Rattle.std.specs.List.{list_any}
+use Rattle.pm_recipe.specs.Bytes.{begins_with}
+use Rattle.pm_recipe.specs.Places.{far, behind, rest_of, is_quote}
+use Rattle.pm_recipe.specs.declared.bytes.TheConstants.{NEWLINE, HASH, COLON}
+use Rattle.pm_recipe.specs.declared.places.Place.TheVariants.{Joins, Blanks, Comment, FlagsWord, Letters, Tail, Word}
+use Rattle.pm_recipe.specs.declared.tree.Flags.{Flags}
+
+-- a word; one that begins with `#` is a comment, and the word is empty
+abbrev pub word_length : List ℕ → ℕ
+word_length text = if begins_with HASH text then 0 else far Word text
+
+-- whether a quote of the word isn't closed
+abbrev pub is_unclosed : List ℕ → Bool
+is_unclosed text = not (begins_with HASH text) && is_quote (rest_of false Word text)
+
+-- a newline, a comment or the end
+abbrev pub ends_statement : List ℕ → Bool
+ends_statement [] = true
+ends_statement (byte ∷ bytes) = nat_eq byte NEWLINE || nat_eq byte HASH
+
+-- whether a colon and a zero begin the text
+abbrev pub begins_recipe : List ℕ → Bool
+begins_recipe text = begins_with COLON text && begins_with 48 (behind Joins (drop 1 text))
+
+-- the bytes among which the flags stand, behind the zero, and what follows them
+abbrev pub behind_zero : List ℕ → List ℕ
+behind_zero text = drop 1 (behind Joins (drop 1 text))
+
+abbrev pub flags_part : List ℕ → List ℕ
+flags_part text = take (far FlagsWord (behind_zero text)) (behind_zero text)
+
+abbrev pub behind_flags : List ℕ → List ℕ
+behind_flags text = behind FlagsWord (behind_zero text)
+
+-- a second colon begins a lock
+abbrev pub has_lock : List ℕ → Bool
+has_lock text = begins_with COLON (behind_flags text)
+
+-- from the lock's text on
+abbrev pub lock_part : List ℕ → List ℕ
+lock_part text = behind Blanks (drop 1 (behind_flags text))
+
+abbrev pub behind_lock : List ℕ → List ℕ
+behind_lock text = drop (word_length (lock_part text)) (lock_part text)
+
+-- what follows the line
+abbrev pub behind_colon : List ℕ → List ℕ
+behind_colon text = if has_lock text then behind Tail (behind_lock text) else behind Comment (behind_flags text)
+
+-- the lock's text as written, where there is a lock
+abbrev pub lock_of : List ℕ → Option (List ℕ)
+lock_of text = if has_lock text then Some (take (word_length (lock_part text)) (lock_part text)) else None
+
+-- another byte than a blank or a letter among the flags, or another text than a comment behind the lock
+abbrev pub has_junk : List ℕ → Bool
+has_junk text =
+    nat_lt (far Letters (flags_part text)) (length (flags_part text))
+    || (has_lock text && not (ends_statement (behind Blanks (behind_lock text))))
+
+-- whether a letter is there
+abbrev pub has_letter : ℕ → List ℕ → Bool
+has_letter letter text = list_any (λ byte. nat_eq letter byte) text
+
+-- the flags H B D h b f c w W i r A a E e
+abbrev pub flags_of : List ℕ → Flags
+flags_of text = record {
+  search_head = has_letter 72 text;
+  search_body = has_letter 66 text;
+  distinguish = has_letter 68 text;
+  feed_head = has_letter 104 text;
+  feed_body = has_letter 98 text;
+  filter = has_letter 102 text;
+  copy = has_letter 99 text;
+  wait = has_letter 119 text;
+  wait_quiet = has_letter 87 text;
+  ignore = has_letter 105 text;
+  raw = has_letter 114 text;
+  and_chain = has_letter 65 text;
+  and_ok = has_letter 97 text;
+  or_else = has_letter 69 text;
+  on_error = has_letter 101 text;
+}

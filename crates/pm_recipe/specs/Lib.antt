@@ -1,0 +1,14 @@
+pub mod Tree
+pub mod View
+pub mod Code
+pub mod Falls
+pub mod Bytes
+pub mod Places
+pub mod Joins
+pub mod Weights
+pub mod Colon
+pub mod Front
+pub mod Spans
+pub mod Build
+pub mod Builder
+pub mod Refusal

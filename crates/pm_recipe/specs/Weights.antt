@@ -1,0 +1,92 @@
+-- The weight of a condition, and its text.
+use Rattle.std.specs.Prelude.{ℕ, ◌+◌, ◌-◌, ◌*◌, List, [], ◌∷◌, ◌++◌, if◌then◌else◌, nat_eq, nat_lt, Bool, false, true, ◌&&◌, ◌||◌, take, drop, Option, Some, None, pos, neg_ℤ}
+use Rattle.std.specs.List.{list_any}
+use Rattle.pm_bytes.specs.Letter.{is_blank_byte}
+use Rattle.pm_recipe.specs.Bytes.{is_digit, begins_with}
+use Rattle.pm_recipe.specs.Places.{far, behind, rest_of}
+use Rattle.pm_recipe.specs.Joins.{unjoined, unindented, trimmed}
+use Rattle.pm_recipe.specs.declared.bytes.TheConstants.{DOLLAR, DOT, PLUS, MINUS, CARET}
+use Rattle.pm_recipe.specs.declared.places.Place.{Place}
+use Rattle.pm_recipe.specs.declared.places.Place.TheVariants.{Blanks, Sign, Dollar, Lead}
+use Rattle.pm_recipe.specs.declared.tree.Weight.{Weight}
+use Rattle.pm_recipe.specs.declared.tree.Weight.TheVariants as weight
+use Rattle.pm_recipe.specs.declared.tree.Condition.{Condition}
+
+-- the number that digits write behind those that were read; a dot has no value
+abbrev pub digits_value : ℕ → List ℕ → ℕ
+digits_value value [] = value
+digits_value value (byte ∷ bytes) = digits_value (10 * value + (byte - 48)) bytes
+
+-- the number that digits and nothing else write, where it is at most this one
+abbrev pub number_within : ℕ → List ℕ → Option ℕ
+number_within most text =
+    if list_any (λ byte. nat_eq DOT byte) text then None else
+    if nat_lt most (digits_value 0 text) then None else Some (digits_value 0 text)
+
+-- whether a minus stands first, and the digits behind a sign
+abbrev pub digits_of : List ℕ → List ℕ
+digits_of text = if begins_with PLUS text || begins_with MINUS text then drop 1 text else text
+
+-- the two numbers of a weight, where both are in their range
+abbrev pub weight_of : Bool → Option ℕ → Option ℕ → Weight
+weight_of negative None x = weight.Bad
+weight_of negative (Some w) None = weight.Bad
+weight_of negative (Some w) (Some x) = weight.Some (if negative then neg_ℤ (pos w) else pos w) (pos x)
+
+-- the numeral at the front of a text, where there is a digit
+abbrev pub numeral : List ℕ → List ℕ
+numeral text = take (far Sign text) text
+
+abbrev pub has_digit : List ℕ → Bool
+has_digit text = list_any is_digit text
+
+-- what stands behind the caret
+abbrev pub exponent : List ℕ → List ℕ
+exponent text = drop 1 (behind Sign text)
+
+-- a blank or the end
+abbrev pub ends_word : List ℕ → Bool
+ends_word [] = true
+ends_word (byte ∷ bytes) = is_blank_byte byte
+
+-- two numerals with a caret between them, and a blank or the end behind
+abbrev pub has_weight : List ℕ → Bool
+has_weight text =
+    has_digit (numeral text) && begins_with CARET (behind Sign text)
+    && has_digit (numeral (exponent text)) && ends_word (behind Sign (exponent text))
+
+-- an exponent that is minus nothing but zeros is zero
+abbrev pub exponent_value : List ℕ → Option ℕ
+exponent_value text = number_within (if begins_with MINUS text then 0 else 1) (digits_of text)
+
+abbrev pub weight_at : List ℕ → Weight
+weight_at text =
+    if has_weight text
+    then weight_of (begins_with MINUS text) (number_within 2147483647 (digits_of (numeral text))) (exponent_value (numeral (exponent text)))
+    else weight.None
+
+-- what follows the weight, where there is one
+abbrev pub behind_weight : List ℕ → List ℕ
+behind_weight text = if has_weight text then behind Blanks (behind Sign (exponent text)) else text
+
+-- whether nothing but a weight, blanks, inversions and names with two question marks can stand before this place
+abbrev pub is_at_dollar : Place → Bool
+is_at_dollar Lead = true
+is_at_dollar _ = false
+
+-- whether a dollar stands behind nothing else
+abbrev pub is_expanded : List ℕ → Bool
+is_expanded text = is_at_dollar (rest_of false Lead text) && begins_with DOLLAR (behind Lead text)
+
+-- behind such a dollar the blanks after a join stay
+abbrev pub dollar_line : List ℕ → List ℕ
+dollar_line text = unindented (take (far Dollar text) text) ++ unjoined (behind Dollar text)
+
+-- the line of a condition
+abbrev pub condition_line : List ℕ → List ℕ
+condition_line text =
+    if is_expanded (behind_weight (trimmed (unindented text))) then trimmed (dollar_line text) else trimmed (unindented text)
+
+-- a condition, of what follows its star
+abbrev pub condition_of : List ℕ → Condition
+condition_of text = record { weight = weight_at (condition_line text); text = behind_weight (condition_line text) }

@@ -1,0 +1,162 @@
+//! The line on which a recipe begins: its flags and its lock.
+ghost use Rattle.std.specs.Prelude.{◌≡◌, ◌≤◌, ◌<◌, ◌+◌, ◌-◌, length, IfOk, nat_lt, drop};
+ghost use Rattle.pm_recipe.specs.Places.{far};
+ghost use Rattle.pm_recipe.specs.declared.places.Place.TheVariants.{Letters};
+ghost use Rattle.pm_recipe.specs.Colon.{word_length, is_unclosed, ends_statement, begins_recipe, behind_zero, flags_part, behind_flags, has_lock, lock_part, behind_lock, behind_colon, lock_of, has_junk, has_letter, flags_of};
+
+use crate::bytes::{COLON, HASH, NEWLINE, starts_with};
+use crate::places::{Place, in_quote, past, past_first, reach};
+use crate::tree::Flags;
+use pm_bytes::{Blob, Memory};
+use std::alloc::Global;
+
+pub fn word_in(text: &[u8]) -> usize
+    ensures length { result ≡ word_length text.now }
+    ensures within { result ≤ length text.now }
+{
+    if starts_with(HASH, text) {
+        0
+    } else {
+        reach(Place::Word, text).length
+    }
+}
+
+pub fn leaves_quote(text: &[u8]) -> bool
+    ensures { result ≡ is_unclosed text.now }
+{
+    !starts_with(HASH, text) && in_quote(reach(Place::Word, text).place)
+}
+
+fn at_end(text: &[u8]) -> bool
+    ensures { result ≡ ends_statement text.now }
+{
+    match text {
+        [] => true,
+        [byte, ..] => *byte == NEWLINE || *byte == HASH,
+    }
+}
+
+pub fn is_recipe(text: &[u8]) -> bool
+    ensures { result ≡ begins_recipe text.now }
+{
+    starts_with(COLON, text) && starts_with(b'0', past(Place::Joins, past_first(text)))
+}
+
+fn past_zero(text: &[u8]) -> &[u8]
+    ensures text { result.now ≡ behind_zero text.now }
+    ensures shorter { length result.now ≤ length text.now - 1 }
+{
+    past_first(past(Place::Joins, past_first(text)))
+}
+
+fn flags_in(text: &[u8]) -> &[u8]
+    ensures { result.now ≡ flags_part text.now }
+{
+    let rest = past_zero(text);
+    let end = reach(Place::FlagsWord, rest).length;
+    &rest[..end]
+}
+
+fn past_flags(text: &[u8]) -> &[u8]
+    ensures text { result.now ≡ behind_flags text.now }
+    ensures shorter { length result.now ≤ length text.now - 1 }
+{
+    past(Place::FlagsWord, past_zero(text))
+}
+
+pub fn is_locked(text: &[u8]) -> bool
+    ensures { result ≡ has_lock text.now }
+{
+    starts_with(COLON, past_flags(text))
+}
+
+pub fn from_lock(text: &[u8]) -> &[u8]
+    ensures text { result.now ≡ lock_part text.now }
+    ensures shorter { length result.now ≤ length text.now - 1 }
+{
+    past(Place::Blanks, past_first(past_flags(text)))
+}
+
+fn past_lock(text: &[u8]) -> &[u8]
+    ensures text { result.now ≡ behind_lock text.now }
+    ensures shorter { length result.now ≤ length text.now - 1 }
+{
+    let rest = from_lock(text);
+    past_word(rest, word_in(rest))
+}
+
+fn past_word(text: &[u8], end: usize) -> &[u8]
+    requires { end ≤ length text.now }
+    ensures text { result.now ≡ drop end text.now }
+    ensures shorter { length result.now ≤ length text.now }
+{
+    &text[end..]
+}
+
+/// What follows the line.
+pub fn past_colon_line(text: &[u8]) -> &[u8]
+    ensures text { result.now ≡ behind_colon text.now }
+    ensures shorter { length result.now ≤ length text.now - 1 }
+{
+    if is_locked(text) {
+        past(Place::Tail, past_lock(text))
+    } else {
+        past(Place::Comment, past_flags(text))
+    }
+}
+
+pub fn read_lock(alloc: Global, text: &[u8]) -> Result<Option<Blob>, Memory>
+    ensures { IfOk result (λ lock. lock ≡ lock_of text.now) }
+{
+    if !is_locked(text) {
+        return Ok(None);
+    }
+    let rest = from_lock(text);
+    let end = word_in(rest);
+    Ok(Some(Blob::from_slice(alloc, &rest[..end])?))
+}
+
+fn has_other_flags(text: &[u8]) -> bool
+    ensures { result ≡ nat_lt (far Letters (flags_part text.now)) (length (flags_part text.now)) }
+{
+    let flags = flags_in(text);
+    reach(Place::Letters, flags).length < flags.len()
+}
+
+/// Whether something on the line isn't understood.
+pub fn is_junked(text: &[u8]) -> bool
+    ensures { result ≡ has_junk text.now }
+{
+    let tail = !at_end(past(Place::Blanks, past_lock(text)));
+    has_other_flags(text) || (is_locked(text) && tail)
+}
+
+fn has(letter: u8, text: &[u8]) -> bool
+    ensures { result ≡ has_letter letter text.now }
+{
+    text.contains(&letter)
+}
+
+/// The flags of the line.
+pub fn read_flags(text: &[u8]) -> Flags
+    ensures { result ≡ flags_of (flags_part text.now) }
+{
+    let letters = flags_in(text);
+    Flags {
+        search_head: has(b'H', letters),
+        search_body: has(b'B', letters),
+        distinguish: has(b'D', letters),
+        feed_head: has(b'h', letters),
+        feed_body: has(b'b', letters),
+        filter: has(b'f', letters),
+        copy: has(b'c', letters),
+        wait: has(b'w', letters),
+        wait_quiet: has(b'W', letters),
+        ignore: has(b'i', letters),
+        raw: has(b'r', letters),
+        and_chain: has(b'A', letters),
+        and_ok: has(b'a', letters),
+        or_else: has(b'E', letters),
+        on_error: has(b'e', letters),
+    }
+}

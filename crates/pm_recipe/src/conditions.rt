@@ -1,0 +1,198 @@
+//! A condition's weight and text.
+ghost use Rattle.std.specs.Prelude.{◌≡◌, ◌≤◌, ◌<◌, ◌^◌, IfOk, IfSome, None, Some, if◌then◌else◌, nat_lt, neg_ℤ, pos};
+ghost use Rattle.pm_recipe.specs.Weights.{digits_value, number_within, digits_of, weight_of, numeral, has_digit, exponent, ends_word, has_weight, exponent_value, weight_at, behind_weight, is_expanded, condition_line, condition_of, is_at_dollar, dollar_line};
+
+use crate::bytes::{CARET, DOLLAR, DOT, MINUS, PLUS, is_digit_byte, starts_with};
+use crate::joins::{trim, without_indents, without_joins};
+use crate::places::{Place, past, past_first, reach};
+use crate::tree::{Condition, Weight};
+use pm_bytes::{Blob, Memory, is_blank};
+use std::alloc::Global;
+
+/// The greatest absolute value of a weight.
+const MOST: u64 = 2147483647;
+
+fn sum_of_digits(most: u64, text: &[u8]) -> Option<u64>
+    requires { most < 2 ^ 32 }
+    ensures value { result ≡ (if nat_lt most (digits_value 0 text.now) then None else Some (digits_value 0 text.now)) }
+{
+    let mut value: u64 = 0;
+    for byte in text {
+        value = 10 * value + byte.saturating_sub(b'0') as u64;
+        if value > most {
+            return None;
+        }
+    }
+    Some(value)
+}
+
+fn number_in(most: u64, text: &[u8]) -> Option<u64>
+    requires { most < 2 ^ 32 }
+    ensures value { result ≡ number_within most text.now }
+    ensures bound { IfSome result (λ number. number ≤ most) }
+{
+    if text.contains(&DOT) {
+        return None;
+    }
+    sum_of_digits(most, text)
+}
+
+fn digits_in(text: &[u8]) -> &[u8]
+    ensures { result.now ≡ digits_of text.now }
+{
+    if starts_with(PLUS, text) || starts_with(MINUS, text) {
+        past_first(text)
+    } else {
+        text
+    }
+}
+
+fn numeral_in(text: &[u8]) -> &[u8]
+    ensures { result.now ≡ numeral text.now }
+{
+    let end = reach(Place::Sign, text).length;
+    &text[..end]
+}
+
+fn exponent_in(text: &[u8]) -> &[u8]
+    ensures { result.now ≡ exponent text.now }
+{
+    past_first(past(Place::Sign, text))
+}
+
+fn has_digits(text: &[u8]) -> bool
+    ensures { result ≡ has_digit text.now }
+{
+    for byte in text {
+        if is_digit_byte(*byte) {
+            return true;
+        }
+    }
+    false
+}
+
+fn ends_here(text: &[u8]) -> bool
+    ensures { result ≡ ends_word text.now }
+{
+    match text {
+        [] => true,
+        [byte, ..] => is_blank(*byte),
+    }
+}
+
+fn is_weighted(text: &[u8]) -> bool
+    ensures { result ≡ has_weight text.now }
+{
+    let exponent = exponent_in(text);
+    let first = has_digits(numeral_in(text));
+    let caret = starts_with(CARET, past(Place::Sign, text));
+    let second = has_digits(numeral_in(exponent));
+    let end = ends_here(past(Place::Sign, exponent));
+    first && caret && second && end
+}
+
+fn exponent_number(text: &[u8]) -> Option<u64>
+    ensures value { result ≡ exponent_value text.now }
+    ensures bound { IfSome result (λ x. x ≤ 1) }
+{
+    if starts_with(MINUS, text) {
+        number_in(0, digits_in(text))
+    } else {
+        number_in(1, digits_in(text))
+    }
+}
+
+fn signed(negative: bool, number: u64) -> i32
+    requires { number ≤ 2147483647 }
+    ensures { result ≡ (if negative then neg_ℤ (pos number) else pos number) }
+{
+    if negative {
+        -(number as i32)
+    } else {
+        number as i32
+    }
+}
+
+fn weight_by(negative: bool, w: Option<u64>, x: Option<u64>) -> Weight
+    requires w { IfSome w (λ number. number ≤ 2147483647) }
+    requires x { IfSome x (λ number. number ≤ 1) }
+    ensures { result ≡ weight_of negative w x }
+{
+    match w {
+        None => Weight::Bad,
+        Some(w) => match x {
+            None => Weight::Bad,
+            Some(x) => Weight::Some {
+                w: signed(negative, w),
+                x: x as i32,
+            },
+        },
+    }
+}
+
+fn read_weight(text: &[u8]) -> Weight
+    ensures { result ≡ weight_at text.now }
+{
+    if !is_weighted(text) {
+        return Weight::None;
+    }
+    let w = number_in(MOST, digits_in(numeral_in(text)));
+    let x = exponent_number(numeral_in(exponent_in(text)));
+    weight_by(starts_with(MINUS, text), w, x)
+}
+
+fn past_weight(text: &[u8]) -> &[u8]
+    ensures { result.now ≡ behind_weight text.now }
+{
+    if is_weighted(text) {
+        past(Place::Blanks, past(Place::Sign, exponent_in(text)))
+    } else {
+        text
+    }
+}
+
+fn may_expand(place: Place) -> bool
+    ensures { result ≡ is_at_dollar place }
+{
+    match place {
+        Place::Lead => true,
+        _ => false,
+    }
+}
+
+fn expands(text: &[u8]) -> bool
+    ensures { result ≡ is_expanded text.now }
+{
+    may_expand(reach(Place::Lead, text).place) && starts_with(DOLLAR, past(Place::Lead, text))
+}
+
+fn read_dollar_line(alloc: Global, text: &[u8]) -> Result<Blob, Memory>
+    ensures { IfOk result (λ line. line ≡ dollar_line text.now) }
+{
+    let end = reach(Place::Dollar, text).length;
+    let mut line = without_indents(alloc, &text[..end])?;
+    let rest = without_joins(alloc, past(Place::Dollar, text))?;
+    line.push_slice(rest.as_slice())?;
+    Ok(line)
+}
+
+fn read_line(alloc: Global, text: &[u8]) -> Result<Blob, Memory>
+    ensures { IfOk result (λ line. line ≡ condition_line text.now) }
+{
+    let line = without_indents(alloc, text)?;
+    if expands(past_weight(trim(line.as_slice()))) {
+        let whole = read_dollar_line(alloc, text)?;
+        return Blob::from_slice(alloc, trim(whole.as_slice()));
+    }
+    Blob::from_slice(alloc, trim(line.as_slice()))
+}
+
+/// The condition of what follows its star.
+pub fn read_condition(alloc: Global, text: &[u8]) -> Result<Condition, Memory>
+    ensures { IfOk result (λ condition. condition ≡ condition_of text.now) }
+{
+    let line = read_line(alloc, text)?;
+    let weight = read_weight(line.as_slice());
+    let text = Blob::from_slice(alloc, past_weight(line.as_slice()))?;
+    Ok(Condition { weight, text })
+}

@@ -1,0 +1,171 @@
+//! What stands at the front of an rcfile's text: the next span, by its first bytes and the situation.
+ghost use Rattle.std.specs.Prelude.{◌≡◌, ◌≤◌, ◌<◌, ◌^◌, ◌+◌, length, true};
+ghost use Rattle.pm_recipe.specs.Front.{front_of, gap, line_front, Within};
+ghost use Rattle.pm_recipe.specs.Spans.{situation_after, in_statements, newlines};
+
+use crate::bytes::{BACKSLASH, CLOSE, COLON, HASH, NEWLINE, is_space_byte, starts_with};
+use crate::lines::recipe_line_at;
+use crate::names::statement_at;
+use crate::places::{Place, reach};
+
+/// What a span is. `Missing` stands where the text ends inside blocks.
+#[derive(Clone, Copy, PartialEq, Eq)]
+pub enum Kind {
+    Gap,
+    Colon,
+    Condition,
+    Mailbox,
+    Pipe,
+    WriteOut,
+    Capture,
+    Forward,
+    Open,
+    TooDeep,
+    Close,
+    Assign,
+    Unset,
+    Skipped,
+    Missing,
+}
+
+/// The front of a text: a name of `mid` bytes, and a text from `from` to `to`. It takes `taken` bytes.
+#[derive(Clone, Copy, PartialEq, Eq)]
+pub struct Front {
+    pub kind: Kind,
+    pub mid: usize,
+    pub from: usize,
+    pub to: usize,
+    pub taken: usize,
+}
+
+/// How many blocks are open, whether a recipe has begun, the lines of its colon line and of the outermost block's,
+/// and whether the reading has stopped.
+#[derive(Clone, Copy, PartialEq, Eq)]
+pub struct Situation {
+    pub depth: usize,
+    pub in_recipe: bool,
+    pub colon: u64,
+    pub outermost: u64,
+    pub stopped: bool,
+}
+
+/// As many blocks may be nested.
+pub const DEEPEST: usize = 1000;
+
+fn gap_of(taken: usize) -> Front
+    ensures { result ≡ gap taken }
+{
+    Front {
+        kind: Kind::Gap,
+        mid: 0,
+        from: 0,
+        to: 0,
+        taken,
+    }
+}
+
+/// A text from `from` on that is the whole front behind it.
+pub fn line_of(kind: Kind, from: usize, taken: usize) -> Front
+    ensures { result ≡ line_front kind from taken }
+{
+    Front {
+        kind,
+        mid: 0,
+        from,
+        to: taken,
+        taken,
+    }
+}
+
+/// What stands at the front.
+pub fn front_at(situation: &Situation, text: &[u8]) -> Front
+    requires some { 0 < length text.now }
+    requires room { length text.now < 2 ^ 63 }
+    ensures front { result ≡ front_of situation.now text.now }
+    ensures open { result.kind ≡ Kind.Open → situation.now.in_recipe ≡ true }
+    ensures close { result.kind ≡ Kind.Close → 0 < situation.now.depth }
+    ensures within { Within result (length text.now) }
+{
+    let byte = text[0];
+    if is_space_byte(byte) {
+        return gap_of(1);
+    }
+    if byte == BACKSLASH && starts_with(NEWLINE, &text[1..]) {
+        return gap_of(2);
+    }
+    if byte == HASH {
+        return gap_of(reach(Place::Comment, &text[1..]).length + 1);
+    }
+    if situation.in_recipe && byte != CLOSE && byte != COLON {
+        recipe_line_at(situation.depth >= DEEPEST, text)
+    } else {
+        statement_at(situation.depth > 0, text)
+    }
+}
+
+fn with_statements(situation: Situation, depth: usize, stopped: bool) -> Situation
+    ensures { result ≡ in_statements situation depth stopped }
+{
+    Situation {
+        depth,
+        in_recipe: false,
+        colon: situation.colon,
+        outermost: situation.outermost,
+        stopped,
+    }
+}
+
+/// The situation behind a span of this kind.
+pub fn situation_behind(kind: Kind, line: u64, situation: Situation) -> Situation
+    requires { situation.depth < 2 ^ 63 }
+    ensures after { result ≡ situation_after kind line situation }
+    ensures bound { result.depth ≤ situation.depth + 1 }
+{
+    let Situation {
+        depth,
+        in_recipe,
+        colon,
+        outermost,
+        stopped,
+    } = situation;
+    match kind {
+        Kind::Gap | Kind::Condition => Situation {
+            depth,
+            in_recipe,
+            colon,
+            outermost,
+            stopped,
+        },
+        Kind::Colon => Situation {
+            depth,
+            in_recipe: true,
+            colon: line,
+            outermost,
+            stopped,
+        },
+        Kind::Open => Situation {
+            depth: depth + 1,
+            in_recipe: false,
+            colon,
+            outermost: if depth == 0 { colon } else { outermost },
+            stopped,
+        },
+        Kind::TooDeep => with_statements(situation, depth, true),
+        Kind::Close => with_statements(situation, depth.saturating_sub(1), stopped),
+        _ => with_statements(situation, depth, stopped),
+    }
+}
+
+/// How many lines end in a text.
+pub fn newlines_in(text: &[u8]) -> u64
+    ensures count { result ≡ newlines text.now }
+    ensures within { result ≤ length text.now }
+{
+    let mut count: u64 = 0;
+    for byte in text {
+        if *byte == NEWLINE {
+            count += 1;
+        }
+    }
+    count
+}
