@@ -1,3 +1,4 @@
+pub mod DayLemmas
 pub mod HeadLemmas
 pub mod LineLemmas
 pub mod SplitLemmas

@@ -1,12 +1,14 @@
-//! A mail's head and body, what of it goes to a mailbox or a program, and when it gets a From line.
+//! A mail's head and body, what of it goes to a mailbox or a program, and its From line.
 #![tactic(auto)]
 
+mod date;
 mod head;
 mod pieces;
 mod renewal;
 #[cfg(test)]
 mod tests;
 
+pub use date::from_line;
 pub use head::{Message, split, whole};
 pub use pieces::{Feed, Kind, piece};
-pub use renewal::{Renew, needs_line};
+pub use renewal::{Renew, needs_line, prepare};
