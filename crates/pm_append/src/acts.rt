@@ -8,7 +8,7 @@ ghost use Rattle.pm_append.specs.Acts.{counts_at, Notes, NotesSay, NotesRead};
 
 use crate::{AppendEnd, ReadEnd, WriteEnd, append_whole, read_file, write_text};
 use pm_bytes::{Blob, Memory, Name};
-use pm_host::{Host, Sink};
+use pm_host::{Host, Looked, Sink};
 use pm_journal::{Act, Counts, Entry, Journal, Reply};
 use std::alloc::Global;
 
@@ -123,6 +123,48 @@ pub fn read_noted<H: Host, E: Sink>(
         after,
     });
     Ok(content)
+}
+
+/// Asks what stands at the name, and notes it. It takes no memory.
+pub fn probe_noted<H: Host, E: Sink>(
+    host: &mut H,
+    err: &E,
+    journal: &mut Journal,
+    name: Name,
+    out: u64,
+) -> Looked
+    requires { 0 < journal.old.room }
+    ensures { Notes (Act.Probe name) (Reply.Found result) out journal.old journal.new
+        (H.told host.old) (E.told err.now) (H.told host.new) (E.told err.now) }
+{
+    let before = counts(host, err, out);
+    let looked = host.look(name.as_str());
+    let after = counts(host, err, out);
+    journal.note(Entry {
+        act: Act::Probe { name },
+        reply: Reply::Found(looked),
+        before,
+        after,
+    });
+    looked
+}
+
+/// Asks the moment, in seconds since 1970 in UTC, and notes it. It takes no memory.
+pub fn moment_noted<H: Host, E: Sink>(host: &mut H, err: &E, journal: &mut Journal, out: u64) -> i64
+    requires { 0 < journal.old.room }
+    ensures { Notes Act.Moment (Reply.Now result) out journal.old journal.new
+        (H.told host.old) (E.told err.now) (H.told host.new) (E.told err.now) }
+{
+    let before = counts(host, err, out);
+    let moment = host.now();
+    let after = counts(host, err, out);
+    journal.note(Entry {
+        act: Act::Moment,
+        reply: Reply::Now(moment),
+        before,
+        after,
+    });
+    moment
 }
 
 // The counts of faults at this moment.

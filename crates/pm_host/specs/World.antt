@@ -14,10 +14,10 @@ use Rattle.pm_host.specs.declared.answers.Cut.TheVariants.{Cut as CutDone, Faile
 use Rattle.pm_host.specs.declared.answers.Removed.{Removed}
 use Rattle.pm_host.specs.declared.answers.Removed.TheVariants.{Removed as RemovedDone, Absent, Failed as RemoveFailed}
 use Rattle.pm_host.specs.declared.calls.Call.{Call}
-use Rattle.pm_host.specs.declared.calls.Call.TheVariants.{Look, Read, Create, Append, Cut as CutTo, Remove}
+use Rattle.pm_host.specs.declared.calls.Call.TheVariants.{Look, Read, Create, Append, Cut as CutTo, Remove, Now}
 use Rattle.pm_host.specs.declared.nodes.Change.{Change}
 use Rattle.pm_host.specs.declared.calls.Answer.{Answer}
-use Rattle.pm_host.specs.declared.calls.Answer.TheVariants.{Look as AnswerLook, Read as AnswerRead, Create as AnswerCreate, Append as AnswerAppend, Cut as AnswerCut, Remove as AnswerRemove, Failed as AnswerFailed}
+use Rattle.pm_host.specs.declared.calls.Answer.TheVariants.{Look as AnswerLook, Read as AnswerRead, Create as AnswerCreate, Append as AnswerAppend, Cut as AnswerCut, Remove as AnswerRemove, Now as AnswerNow, Failed as AnswerFailed}
 
 -- what stands at each name
 abbrev pub Nodes : Type 0
@@ -79,6 +79,7 @@ after_call (Create name) answer w = after_create answer name w
 after_call (Append name piece) answer w = after_append answer name piece w
 after_call (CutTo name len) answer w = after_cut answer name len w
 after_call (Remove name) answer w = after_remove answer name w
+after_call Now answer w = w
 
 -- whether a child runs after a call
 abbrev pub after_child : Call → Answer → Child → Child
@@ -136,6 +137,7 @@ IsRight (Create name) (AnswerCreate m) w = MakesRight (w.nodes name) m
 IsRight (Append name piece) (AnswerAppend took) w = AppendsRight (w.nodes name) took
 IsRight (CutTo name len) (AnswerCut cut) w = CutsRight (w.nodes name) cut
 IsRight (Remove name) (AnswerRemove r) w = RemovesRight (w.nodes name) r
+IsRight Now (AnswerNow moment) w = moment ≡ w.moment
 IsRight call answer w = Unit {0}
 
 -- one call in a world that is listed
@@ -156,6 +158,7 @@ IsAnswerTo (Create name) (AnswerCreate _) = Unit {0}
 IsAnswerTo (Append name piece) (AnswerAppend took) = TookAtMost (length piece) took
 IsAnswerTo (CutTo name len) (AnswerCut cut) = Unit {0}
 IsAnswerTo (Remove name) (AnswerRemove _) = Unit {0}
+IsAnswerTo Now (AnswerNow moment) = Unit {0}
 IsAnswerTo call answer = ⊥
 
 abbrev pub IsFailed : Answer → Type 0

@@ -10,9 +10,10 @@ pub enum Call {
     Append { name: Blob, piece: Blob },
     Cut { name: Blob, len: u64 },
     Remove { name: Blob },
+    Now,
 }
 
-/// `Read` has the bytes that came, and `Failed` is that of a `read`.
+/// `Read` has the bytes that came, `Now` seconds since 1970 in UTC, and `Failed` is that of a `read`.
 #[derive(Debug, Drop)]
 pub enum Answer {
     Look(Looked),
@@ -21,6 +22,7 @@ pub enum Answer {
     Append(Took),
     Cut(Cut),
     Remove(Removed),
+    Now(i64),
     Failed,
 }
 

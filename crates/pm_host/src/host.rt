@@ -41,6 +41,11 @@ pub trait Host {
     fn remove(&mut self, name: &str) -> Removed
         ensures { Makes (Call.Remove name.now) (Answer.Remove result) (told self.old) (told self.new) };
 
+    /// The moment, in seconds since 1970 in UTC. It never fails. Nothing is said of how one answer stands to another
+    /// where no tree of files is told.
+    fn now(&mut self) -> i64
+        ensures { Makes Call.Now (Answer.Now result) (told self.old) (told self.new) };
+
     /// A host that tells its tree of files tells its calls too.
     ghost tells_calls: { (h : Self) → IsSome (told h).world → IsSome (told h).calls };
 }

@@ -11,4 +11,7 @@ pub mod log_texts;
 pub use acts::{Act, Counts, Entry, Reply};
 pub use appending::{AppendEnd, AppendState, AppendStep};
 pub use journal::Journal;
-pub use log_texts::{bytes_left, couldnt_read, couldnt_write, no_delivery};
+pub use log_texts::{
+    bytes_left, couldnt_chdir, couldnt_read, couldnt_write, no_delivery, skipped, unusable_name,
+    value_too_long,
+};

@@ -5,7 +5,7 @@ use Rattle.pm_host.specs.Told.{HostView, Makes, Rose}
 use Rattle.pm_host.specs.declared.answers.Child.TheVariants.{NoChild}
 use Rattle.pm_host.specs.declared.answers.Took.TheVariants.{Took as TookSome}
 use Rattle.pm_host.specs.declared.calls.Call.{Call}
-use Rattle.pm_host.specs.declared.calls.Call.TheVariants.{Look, Read, Create, Append, Cut as CutTo, Remove}
+use Rattle.pm_host.specs.declared.calls.Call.TheVariants.{Look, Read, Create, Append, Cut as CutTo, Remove, Now}
 use Rattle.pm_host.specs.declared.calls.Answer.{Answer}
 use Rattle.pm_host.specs.declared.calls.Answer.TheVariants.{Read as AnswerRead, Append as AnswerAppend}
 use Rattle.pm_host.specs.declared.calls.Logged.{Logged}
@@ -106,6 +106,7 @@ IsWrongKind (Create name) w = ⊥
 IsWrongKind (Append name piece) w = NoFile (w.nodes name)
 IsWrongKind (CutTo name len) w = NoFile (w.nodes name)
 IsWrongKind (Remove name) w = IsFolder (w.nodes name)
+IsWrongKind Now w = ⊥
 
 -- the answer gives as much as room and content allow, or takes as much as piece and limit allow
 abbrev pub IsMost : Call → Answer → MemoryHost → Type 0
@@ -125,6 +126,11 @@ MayFail call old new =
     (is_to_fail old ≡ true)
     ⊎ (IsWrongKind call (world_of old) ⊎ (TakesMemory call × Rose (starved_of old) (starved_of new)))
 
+-- the call fails where its number was given to fail; asking the moment never fails
+abbrev pub FailsAsTold : Call → Answer → MemoryHost → Type 0
+FailsAsTold Now answer h = Unit {0}
+FailsAsTold call answer h = is_to_fail h ≡ true → IsFailed answer
+
 -- the counts after a call
 pub record Counted (answer : Answer) (old new : MemoryHost) : Type 0 where
   pub came : came_of new ≡ risen (came_of old)
@@ -137,7 +143,7 @@ pub record Serves (call : Call) (answer : Answer) (old new : MemoryHost) : Type 
   pub makes : Makes call answer (host_view old) (host_view new)
   pub step : Step call answer (world_of old) (world_of new)
   pub most : IsMost call answer old
-  pub to_fail : is_to_fail old ≡ true → IsFailed answer
+  pub to_fail : FailsAsTold call answer old
   pub cause : IsFailed answer → MayFail call old new
   pub counted : Counted answer old new
   pub quiet : is_telling new ≡ false → calls_of new ≡ calls_of old

@@ -88,3 +88,12 @@ pub(crate) fn removed_entry(alloc: Global, name: &str, removed: Removed) -> Resu
         answer: Answer::Remove(removed),
     })
 }
+
+pub(crate) fn moment_entry(moment: i64) -> Logged
+    ensures { result ≡ logged Call.Now (Answer.Now moment) }
+{
+    Logged {
+        call: Call::Now,
+        answer: Answer::Now(moment),
+    }
+}

@@ -57,7 +57,7 @@ impl MemoryHost {
         self.tree.put(name, Node::Folder)
     }
 
-    /// The call with this number is to fail.
+    /// The call with this number is to fail, unless it asks the moment.
     pub fn fail(&mut self, call: u64) -> Result<(), Memory>
         ensures ok { OnOk result (failing_of self.new ≡ failing_of self.old ++ call ∷ []) }
         ensures err { OnErr result (failing_of self.new ≡ failing_of self.old) }

@@ -4,7 +4,7 @@ ghost use Rattle.pm_host.specs.Answers.{read_answer, IsWithin};
 
 use crate::MemoryHost;
 use crate::entries::{
-    appended_entry, created_entry, cut_entry, looked_entry, read_entry, removed_entry,
+    appended_entry, created_entry, cut_entry, looked_entry, moment_entry, read_entry, removed_entry,
 };
 use crate::tree::Refused;
 use pm_host::{Answer, Call, Cut, Got, Host, Looked, Made, Removed, Took};
@@ -202,5 +202,13 @@ impl Host for MemoryHost {
                 Removed::Failed
             }
         }
+    }
+
+    fn now(&mut self) -> i64
+        ensures { Serves Call.Now (Answer.Now result) self.old self.new }
+    {
+        let moment = self.tree.moment();
+        self.calls.settle(None, Ok(moment_entry(moment)));
+        moment
     }
 }

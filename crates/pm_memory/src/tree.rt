@@ -49,6 +49,12 @@ impl Tree {
         Ok(())
     }
 
+    pub(crate) fn moment(&self) -> i64
+        ensures { result ≡ (world_in self.now).moment }
+    {
+        self.moment
+    }
+
     pub(crate) fn file(&self, name: &str) -> Option<&[u8]>
         ensures { option_copied result ≡ file_bytes (node_at self.now name.now) }
     {

@@ -1,4 +1,4 @@
-//! The files of the machine.
+//! The files and the clock of the machine.
 ghost use Rattle.std.specs.Prelude.{◌≡◌, ◌≤◌, ◌<◌, length, IfOk, IfSome};
 ghost use Rattle.pm_real.specs.Quiet.{quiet_host};
 
@@ -9,21 +9,22 @@ use std::alloc::Global;
 use std::fs::{OpenFile, OpenOptions};
 use std::io::{ErrorKind, Seek, SeekFrom};
 use std::os::unix::fs::OpenOptionsExt;
-use std::rt::Files;
+use std::rt::{Clock, Files};
+use std::time::{SystemTime, UNIX_EPOCH};
 use std::{fs, io};
 
 /// A made file is read and written by its owner only, as with procmail's UMASK of 077 (procmailrc(5), Environment
 /// variable defaults).
 const OWNER_ONLY: u32 = 0o600;
 
-/// The files of the machine. Each call opens and closes its file.
+/// The files and the clock of the machine. Each call opens and closes its file.
 #[derive(Drop)]
-pub struct RealHost<R: Files + Clone + Drop> {
+pub struct RealHost<R: Files + Clock + Clone + Drop> {
     rt: R,
     faults: u64,
 }
 
-impl<R: Files + Clone + Drop> RealHost<R> {
+impl<R: Files + Clock + Clone + Drop> RealHost<R> {
     /// The allocator and the process number serve the names of files that hold what children write.
     pub fn new(rt: &R, _alloc: Global, _pid: u32) -> Result<RealHost<R>, Memory>
         ensures { IfOk result (λ host. host.faults ≡ 0) }
@@ -82,7 +83,18 @@ fn cut_to<R: Files>(rt: &R, name: &str, len: u64) -> io::Result<()> {
     file.set_len(len)
 }
 
-impl<R: Files + Clone + Drop> Host for RealHost<R> {
+// Seconds since 1970 in UTC; 0 where the clock can't be read or stands before 1970.
+fn seconds<R: Clock>(rt: &R) -> i64 {
+    let Ok(time) = SystemTime::now(rt) else {
+        return 0;
+    };
+    match time.duration_since(UNIX_EPOCH) {
+        Ok(since) => i64::try_from(since.as_secs()).unwrap_or(i64::MAX),
+        Err(_) => 0,
+    }
+}
+
+impl<R: Files + Clock + Clone + Drop> Host for RealHost<R> {
     ghost told = { λ host. quiet_host host.faults };
 
     ghost tells_calls = { λ _ told. told };
@@ -153,5 +165,9 @@ impl<R: Files + Clone + Drop> Host for RealHost<R> {
                 Removed::Failed
             }
         }
+    }
+
+    fn now(&mut self) -> i64 {
+        seconds(&self.rt)
     }
 }
