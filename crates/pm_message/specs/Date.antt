@@ -1,28 +1,7 @@
--- The civil calendar from 1970 on, and the text of a moment.
-use Rattle.std.specs.Prelude.{ℕ, zero, suc, ◌+◌, ◌-◌, ◌/◌, ◌%◌, min, ℤ, pos, negsuc, Bool, not, ◌&&◌, ◌||◌, ◌==◌, nat_lt, if◌then◌else◌, List, [], ◌∷◌, ◌++◌, codes, decimal, slice_index_or}
+-- The text of a moment, and the line `From ` with it.
+use Rattle.std.specs.Prelude.{ℕ, ◌-◌, ◌/◌, ◌%◌, min, ℤ, pos, negsuc, nat_lt, if◌then◌else◌, List, [], ◌∷◌, ◌++◌, codes, decimal, slice_index_or}
+use Rattle.pm_message.specs.Calendar.{day_at}
 use Rattle.pm_message.specs.declared.date.Day.{Day}
-
--- every fourth year is a leap year, but of the centuries only every fourth
-abbrev pub is_leap_year : ℕ → Bool
-is_leap_year year = (year % 4 == 0) && (not (year % 100 == 0) || (year % 400 == 0))
-
--- thirty days have September, April, June and November
-abbrev pub days_in_month : ℕ → ℕ → ℕ
-days_in_month year month =
-    if month == 2 then (if is_leap_year year then 29 else 28)
-    else (if (month == 4) || (month == 6) || (month == 9) || (month == 11) then 30 else 31)
-
--- the day after a day: of the same month, or the first of the next month, or of the next year
-abbrev pub day_after : Day → Day
-day_after today =
-    if nat_lt today.day (days_in_month today.year today.month) then record today { day = today.day + 1 }
-    else (if today.month == 12 then record { year = today.year + 1; month = 1; day = 1 }
-    else record { year = today.year; month = today.month + 1; day = 1 })
-
--- the day that comes so many days after 1 January 1970
-unfoldable pub day_at : ℕ → Day
-day_at zero = record { year = 1970; month = 1; day = 1 }
-day_at (suc n) = day_after (day_at n)
 
 -- the names of the days of the week, from that of 1 January 1970 on
 abbrev pub weekday_names : List (List ℕ)

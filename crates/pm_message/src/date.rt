@@ -1,8 +1,8 @@
 //! The line `From ` with its date.
 ghost use Rattle.std.specs.Prelude.{◌≡◌, ◌<◌, ◌≤◌, ◌++◌, pos, IsOk, IfOk, OnOk};
-ghost use Rattle.std.specs.Int.{IsInRange};
 ghost use Rattle.jiff.specs.Words.{epoch_day};
-ghost use Rattle.pm_message.specs.Date.{day_at, weekday_of, month_of, two_places, clock_of, date_of, moved, last_moment, from_line_of};
+ghost use Rattle.pm_message.specs.Calendar.{day_at, IsDayNumber};
+ghost use Rattle.pm_message.specs.Date.{weekday_of, month_of, two_places, clock_of, date_of, moved, last_moment, from_line_of};
 
 use itoa::Buffer;
 use jiff::civil::{self, Date};
@@ -37,7 +37,7 @@ fn date_after(number: u64) -> Result<Date, Error>
 fn civil_day(number: u64) -> Day
     requires { number < 2_932_532 }
     ensures value { result ≡ day_at number }
-    ensures month_in { IsInRange 1 12 result.month }
+    ensures counted { IsDayNumber number result }
 {
     match date_after(number) {
         Ok(date) => Day {
