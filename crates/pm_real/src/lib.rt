@@ -1,5 +1,5 @@
-//! The outside on a machine: standard input, standard output and standard error, and the files. What is here calls
-//! the operating system, which is trusted to do what the traits say of contents; the counts are proved.
+//! The outside on a machine: standard input, standard output and standard error, the files, and the clock. What is
+//! here calls the operating system, which is trusted to do what the traits say of contents; the counts are proved.
 #![tactic(auto)]
 
 mod again;

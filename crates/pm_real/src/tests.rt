@@ -4,6 +4,9 @@ use pm_host::{Cut, Got, Host, Looked, Made, Removed, Sink, Source, Took};
 use std::io::{ErrorKind, Read, Write};
 use std::{env, fs, io, process};
 
+// The beginning of 2026, in seconds since 1970.
+const LONG_AGO: i64 = 1_767_225_600;
+
 // A folder that no other process has, and the name of a file in it.
 fn own_names(rt: &HostRuntime) -> io::Result<(String, String)> {
     let alloc = rt.alloc();
@@ -55,6 +58,7 @@ fn files_of_the_machine_answer_as_they_stand(rt: HostRuntime) -> io::Result<()> 
     assert_eq!(rt; host.remove(file), Removed::Removed);
     assert_eq!(rt; host.look(file), Looked::Nothing);
     assert_eq!(rt; host.faults(), 5);
+    assert!(rt; host.now() > LONG_AGO);
     fs::remove_dir(&rt, folder)
 }
 
