@@ -8,32 +8,36 @@ use Rattle.pm_journal.specs.declared.acts.Act.TheVariants.{SayErr}
 use Rattle.pm_journal.specs.declared.acts.Reply.{Reply}
 use Rattle.pm_meaning.specs.Plan.{Plan, Ends, and_then, ask}
 use Rattle.pm_meaning.specs.Executed.{Executes, OutOfMemory}
-use Rattle.pm_meaning.specs.Running.{State, say_then}
-use Rattle.pm_meaning.specs.Walking.{Next}
-use Rattle.pm_meaning.specs.declared.process.End.{End}
-use Rattle.pm_meaning.proofs.OneAct.{act_executes, executes_then}
+use Rattle.pm_meaning.specs.Turns.{say_then}
+use Rattle.pm_meaning.proofs.OneAct.{IsNoLock, same_holds_none, act_executes, executes_then}
 use Rattle.pm_meaning.proofs.WantsMemory.{executes_nothing, out_then}
 
 -- the same from a journal that had these entries too
 pub later_start : {R : Type 0} (p : Plan R) (end : R) (x w y : JournalState) (a b : View) → Executes p end w y a b → w.entries ≡ x.entries → Executes p end x y a b
-later_start p end x w y a b h e = record { more = h.more; entries = h.entries ∙ ap (λ l. l ++ h.more) e; plays = h.plays; accounts = h.accounts }
+later_start p end x w y a b h e = record {
+  more = h.more;
+  entries = h.entries ∙ ap (λ l. l ++ h.more) e;
+  plays = h.plays;
+  accounts = h.accounts;
+  keeps = λ held. h.keeps (same_holds_none x w e held);
+}
 
 -- an act after room was made for its entry
-pub act_after_room : (act : Act) (reply : Reply) (x w y : JournalState) (a b : View) → w.entries ≡ x.entries → NotesAct act reply w y a b → Executes (ask act) reply x y a b
-act_after_room act reply x w y a b e n = later_start (ask act) reply x w y a b (act_executes act reply w y a b n) e
+pub act_after_room : (act : Act) (reply : Reply) (x w y : JournalState) (a b : View) → IsNoLock act → w.entries ≡ x.entries → NotesAct act reply w y a b → Executes (ask act) reply x y a b
+act_after_room act reply x w y a b free e n = later_start (ask act) reply x w y a b (act_executes act reply w y a b free n) e
 
 -- the act, and then the rest by its reply
-pub first_act : {S : Type 0} (act : Act) (f : Reply → Plan S) (reply : Reply) (s : S) (x w y z : JournalState) (a b c : View) → w.entries ≡ x.entries → NotesAct act reply w y a b
+pub first_act : {S : Type 0} (act : Act) (f : Reply → Plan S) (reply : Reply) (s : S) (x w y z : JournalState) (a b c : View) → IsNoLock act → w.entries ≡ x.entries → NotesAct act reply w y a b
     → Executes (f reply) s y z b c → Executes (and_then (ask act) f) s x z a c
-first_act act f reply s x w y z a b c e n k = executes_then (ask act) f reply s x y z a b c (act_after_room act reply x w y a b e n) k
+first_act act f reply s x w y z a b c free e n k = executes_then (ask act) f reply s x y z a b c (act_after_room act reply x w y a b free e n) k
 
 -- the act, and then want of memory
-pub first_act_out : {S : Type 0} (act : Act) (f : Reply → Plan S) (reply : Reply) (x w y z : JournalState) (a b c : View) → w.entries ≡ x.entries → NotesAct act reply w y a b
+pub first_act_out : {S : Type 0} (act : Act) (f : Reply → Plan S) (reply : Reply) (x w y z : JournalState) (a b c : View) → IsNoLock act → w.entries ≡ x.entries → NotesAct act reply w y a b
     → OutOfMemory (f reply) y z b c → OutOfMemory (and_then (ask act) f) x z a c
-first_act_out act f reply x w y z a b c e n k = out_then (ask act) f reply x y z a b c (act_after_room act reply x w y a b e n) k
+first_act_out act f reply x w y z a b c free e n k = out_then (ask act) f reply x y z a b c (act_after_room act reply x w y a b free e n) k
 
 -- a text is said, and then this comes next
-pub line_said : (line text : List ℕ) (next : Next State End) (said : Reply) (x w y : JournalState) (a b : View) → text ≡ line → w.entries ≡ x.entries → NotesAct (SayErr text) said w y a b
+pub line_said : {R : Type 0} (line text : List ℕ) (next : R) (said : Reply) (x w y : JournalState) (a b : View) → text ≡ line → w.entries ≡ x.entries → NotesAct (SayErr text) said w y a b
     → Executes (say_then line next) next x y a b
 line_said line text next said x w y a b t e n =
-    first_act (SayErr line) (λ reply. Ends next) said next x w y y a b b e (subst (λ l. NotesAct (SayErr l) said w y a b) t n) (executes_nothing next y y b refl)
+    first_act (SayErr line) (λ reply. Ends next) said next x w y y a b b tt e (subst (λ l. NotesAct (SayErr l) said w y a b) t n) (executes_nothing next y y b refl)

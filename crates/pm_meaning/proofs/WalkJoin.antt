@@ -44,7 +44,7 @@ unfinished_here {S} {X} step s es calls h =
     }
 
 pub reaches_itself : {S X : Type 0} (step : S → Plan (Next S X)) (s : S) (x : JournalState) (a : View) → Reaches {X = X} step s s x x a a
-reaches_itself step s x a = record { more = []; entries = sym (append-nil x.entries); means = λ later end h. h; unfinished = λ later calls h. h; accounts = accounts_none a }
+reaches_itself step s x a = record { more = []; entries = sym (append-nil x.entries); means = λ later end h. h; unfinished = λ later calls h. h; accounts = accounts_none a; keeps = λ held. held }
 
 -- one step more
 pub reaches_then : {S X : Type 0} (step : S → Plan (Next S X)) (s t u : S) (x y z : JournalState) (a b c : View) → Reaches {X = X} step s t x y a b → Executes (step t) (Go u) y z b c → Reaches {X = X} step s u x z a c
@@ -54,6 +54,7 @@ reaches_then {S} {X} step s t u x y z a b c h k = record {
   means = λ later end m. subst (λ l. Means step s l end) (sym (append_assoc h.more k.more later)) (h.means (k.more ++ later) end (means_go step t u k.more later end k.plays m));
   unfinished = λ later calls m. subst (λ l. IsUnfinished step s l calls) (sym (append_assoc h.more k.more later)) (h.unfinished (k.more ++ later) calls (unfinished_go step t u k.more later calls k.plays m));
   accounts = accounts_join h.more k.more a b c h.accounts k.accounts;
+  keeps = λ held. k.keeps (h.keeps held);
 }
 
 -- the last step
@@ -63,6 +64,7 @@ completes_then step s t end x y z a b c h k = record {
   entries = k.entries ∙ ap (λ l. l ++ k.more) h.entries ∙ append_assoc x.entries h.more k.more;
   means = h.means k.more end (means_stop step t k.more end k.plays);
   accounts = accounts_join h.more k.more a b c h.accounts k.accounts;
+  keeps = λ held. k.keeps (h.keeps held);
 }
 
 -- a step for which memory was wanting
@@ -77,6 +79,7 @@ interrupted_then step s t x y z a b c h k = record {
   ran = k.ran;
   out_same = k.out_same;
   err_same = k.err_same;
+  keeps = λ held. k.keeps (h.keeps held);
 }
 
 -- a process that went on, and then came to its end
@@ -86,6 +89,7 @@ completes_after step s t end x y z a b c h k = record {
   entries = k.entries ∙ ap (λ l. l ++ k.more) h.entries ∙ append_assoc x.entries h.more k.more;
   means = means_go step s t h.more k.more end h.plays k.means;
   accounts = accounts_join h.more k.more a b c h.accounts k.accounts;
+  keeps = λ held. k.keeps (h.keeps held);
 }
 
 -- a process that went on, and then wanted memory
@@ -100,11 +104,12 @@ interrupted_after step s t x y z a b c h k = record {
   ran = k.ran;
   out_same = k.out_same;
   err_same = k.err_same;
+  keeps = λ held. k.keeps (h.keeps held);
 }
 
 -- a process of one step
 pub completes_at_once : {S X : Type 0} (step : S → Plan (Next S X)) (s : S) (end : X) (x y : JournalState) (a b : View) → Executes (step s) (Stop end) x y a b → Completes step s end x y a b
-completes_at_once step s end x y a b k = record { more = k.more; entries = k.entries; means = means_stop step s k.more end k.plays; accounts = k.accounts }
+completes_at_once step s end x y a b k = record { more = k.more; entries = k.entries; means = means_stop step s k.more end k.plays; accounts = k.accounts; keeps = k.keeps }
 
 -- a process whose first step wanted memory
 pub interrupted_at_once : {S X : Type 0} (step : S → Plan (Next S X)) (s : S) (x y : JournalState) (a b : View) → OutOfMemory (step s) x y a b → Interrupted step s x y a b
@@ -118,4 +123,30 @@ interrupted_at_once step s x y a b k = record {
   ran = k.ran;
   out_same = k.out_same;
   err_same = k.err_same;
+  keeps = k.keeps;
+}
+
+-- a process that went on for some steps, and then came to its end
+pub completes_reached : {S X : Type 0} (step : S → Plan (Next S X)) (s t : S) (end : X) (x y z : JournalState) (a b c : View) → Reaches {X = X} step s t x y a b → Completes step t end y z b c → Completes step s end x z a c
+completes_reached step s t end x y z a b c h k = record {
+  more = h.more ++ k.more;
+  entries = k.entries ∙ ap (λ l. l ++ k.more) h.entries ∙ append_assoc x.entries h.more k.more;
+  means = h.means k.more end k.means;
+  accounts = accounts_join h.more k.more a b c h.accounts k.accounts;
+  keeps = λ held. k.keeps (h.keeps held);
+}
+
+-- a process that went on for some steps, and then wanted memory
+pub interrupted_reached : {S X : Type 0} (step : S → Plan (Next S X)) (s t : S) (x y z : JournalState) (a b c : View) → Reaches {X = X} step s t x y a b → Interrupted step t y z b c → Interrupted step s x z a c
+interrupted_reached step s t x y z a b c h k = record {
+  more = h.more ++ k.more;
+  entries = k.entries ∙ ap (λ l. l ++ k.more) h.entries ∙ append_assoc x.entries h.more k.more;
+  middle = k.middle;
+  accounts = accounts_join h.more k.more a b k.middle h.accounts k.accounts;
+  left_off = k.left_off;
+  unfinished = h.unfinished k.more k.left_off k.unfinished;
+  ran = k.ran;
+  out_same = k.out_same;
+  err_same = k.err_same;
+  keeps = λ held. k.keeps (h.keeps held);
 }

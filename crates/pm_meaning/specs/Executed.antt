@@ -2,6 +2,7 @@
 use Rattle.std.specs.Prelude.{◌≡◌, List, [], ◌++◌, ◌⊎◌}
 use Rattle.pm_journal.specs.JournalState.{JournalState}
 use Rattle.pm_journal.specs.Entries.{View, Accounts}
+use Rattle.pm_journal.specs.Held.{Keeping}
 use Rattle.pm_meaning.specs.Plan.{Plan, Plays, Wants}
 use Rattle.pm_host.specs.Runs.{Ran}
 use Rattle.pm_journal.specs.Reading.{ReadState, ReadPrefix}
@@ -10,12 +11,17 @@ use Rattle.pm_journal.specs.declared.acts.Act.TheVariants.{ReadFile}
 use Rattle.pm_journal.specs.declared.acts.Act.{Act}
 use Rattle.pm_journal.specs.declared.acts.Entry.{Entry}
 
+-- no lock is held afterwards where none was before
+abbrev pub HoldsNone : JournalState → JournalState → Type 0
+HoldsNone old new = Keeping old [] → Keeping new []
+
 -- the plan was carried out to this end, and noted
 pub record Executes {R : Type 0} (plan : Plan R) (end : R) (old new : JournalState) (before after : View) : Type 0 where
   pub more : List Entry
   pub entries : new.entries ≡ old.entries ++ more
   pub plays : Plays plan more end
   pub accounts : Accounts more before after
+  pub keeps : HoldsNone old new
 
 -- the calls of an act that was left off for want of memory
 abbrev pub UnfinishedCalls : Act → List Logged → Type 0
@@ -45,3 +51,13 @@ pub record OutOfMemory {R : Type 0} (plan : Plan R) (old new : JournalState) (be
   pub ran : Ran left_off middle.host after.host
   pub out_same : after.out ≡ middle.out
   pub err_same : after.err ≡ middle.err
+  pub keeps : HoldsNone old new
+
+-- Some of the plan was carried out and noted, and the rest is this plan.
+pub record LeadsTo {R : Type 0} (plan rest : Plan R) (old new : JournalState) (before after : View) : Type 0 where
+  pub more : List Entry
+  pub entries : new.entries ≡ old.entries ++ more
+  pub plays : (later : List Entry) (end : R) → Plays rest later end → Plays plan (more ++ later) end
+  pub wants : (later : List Entry) (act : Act) → Wants rest later act → Wants plan (more ++ later) act
+  pub accounts : Accounts more before after
+  pub keeps : HoldsNone old new

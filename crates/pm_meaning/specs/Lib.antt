@@ -2,7 +2,11 @@ pub mod Plan
 pub mod Executed
 pub mod Walking
 pub mod CommandLine
-pub mod RcForm
+pub mod FirstValues
+pub mod Changes
+pub mod Turns
+pub mod Assigning
+pub mod Delivering
 pub mod Running
 pub mod Status
 pub mod Laws

@@ -1,81 +1,93 @@
 -- The meaning of a run: a process as a machine whose steps are plans.
-use Rattle.std.specs.Prelude.{ℕ, Bool, false, List, [], ◌∷◌, Option, Some, None, if◌then◌else◌}
-use Rattle.pm_message.specs.FromLine.{makes_line}
+use Rattle.std.specs.Prelude.{ℕ, Bool, not, ◌||◌, List, [], ◌∷◌, codes, if◌then◌else◌}
+use Rattle.pm_bytes.specs.declared.environment.Environ.{Environ}
+use Rattle.pm_message.specs.FromLine.{makes_line, prepared_of}
 use Rattle.pm_message.specs.Split.{split_of}
-use Rattle.pm_message.specs.Piece.{piece_of}
+use Rattle.pm_message.specs.declared.head.Message.{Message}
 use Rattle.pm_message.specs.declared.renewal.Renew.{Renew}
 use Rattle.pm_message.specs.declared.renewal.Renew.TheVariants.{Keep, AddMissing}
-use Rattle.pm_message.specs.declared.pieces.Feed.TheVariants.{Both}
-use Rattle.pm_message.specs.declared.pieces.Kind.TheVariants.{MailboxFile}
-use Rattle.pm_journal.specs.LogText.{couldnt_read_line, couldnt_write_line, bytes_left_line, no_delivery_line}
-use Rattle.pm_journal.specs.declared.acts.Act.TheVariants.{ReadFile, Append, SayErr}
+use Rattle.pm_recipe.specs.Tree.{Trees, nil, cons, Tree, Assign, Unset, Recipe, Defect}
+use Rattle.pm_recipe.specs.Build.{rc_of}
+use Rattle.pm_journal.specs.LogText.{couldnt_read_line, no_delivery_line}
+use Rattle.pm_journal.specs.declared.acts.Act.TheVariants.{ReadFile, Moment}
 use Rattle.pm_journal.specs.declared.acts.Reply.{Reply}
-use Rattle.pm_journal.specs.declared.acts.Reply.TheVariants.{Content, Done, IsFolder, Torn}
+use Rattle.pm_journal.specs.declared.acts.Reply.TheVariants.{Content, Now}
 use Rattle.pm_meaning.specs.Plan.{Plan, Ends, and_then, ask}
 use Rattle.pm_meaning.specs.Walking.{Next, Stop, Go}
-use Rattle.pm_meaning.specs.RcForm.{mailbox_of}
+use Rattle.pm_meaning.specs.FirstValues.{login_name, first_process}
+use Rattle.pm_meaning.specs.Changes.{entered, is_given}
+use Rattle.pm_meaning.specs.Turns.{Turn, GoesOn, Halts, say_then}
+use Rattle.pm_meaning.specs.Assigning.{assign, unset, skip_defect}
+use Rattle.pm_meaning.specs.Delivering.{run_recipe}
 use Rattle.pm_meaning.specs.declared.command_line.CommandLine.{CommandLine}
 use Rattle.pm_meaning.specs.declared.process.Process.{Process}
 use Rattle.pm_meaning.specs.declared.process.End.{End}
-use Rattle.pm_meaning.specs.declared.process.End.TheVariants.{Delivered, FellOff, NoRc, NotBuilt}
+use Rattle.pm_meaning.specs.declared.process.End.TheVariants.{FellOff, NoRc, NotBuilt}
 
--- what is left to do: an rcfile to open, or a recipe whose one mailbox is this file
+-- what is left to do: an rcfile to open, or a statement
 pub data Item : Type 0 where
   Open : List ℕ → Item
-  Deliver : List ℕ → Item
+  Do : Tree → Item
 
--- the command line was read and these bytes came, or a process has so much left to do
+-- the command line was read in this environment and these bytes came, or a process has so much left to do
 pub data State : Type 0 where
-  Arrived : CommandLine → List ℕ → State
+  Arrived : CommandLine → Environ → List ℕ → State
   Running : List Item → Process → State
-
--- the text is said on `err`, and then this comes next
-abbrev pub say_then : List ℕ → Next State End → Plan (Next State End)
-say_then text next = and_then (ask (SayErr text)) (λ reply. Ends next)
 
 -- a mail filter takes the message as it is; otherwise a missing From line is added
 abbrev pub renewal : Bool → Renew
 renewal filter = if filter then Keep else AddMissing
 
--- making a From line isn't built yet
-abbrev pub prepare : CommandLine → List ℕ → Plan (Next State End)
-prepare line bytes =
-    if makes_line bytes (renewal line.filter) then Ends (Stop NotBuilt)
-    else Ends (Go (Running (Open line.rcfile ∷ []) (record { filter = line.filter; message = split_of bytes })))
+-- the process begins with its rcfile
+abbrev pub begun : CommandLine → Environ → Message → Next State End
+begun line env message = Go (Running (Open line.rcfile ∷ []) (first_process line.filter env message))
 
--- a mail filter ends without its rcfile; otherwise this is logged, and the default mailbox isn't built yet
-abbrev pub unread : List ℕ → Bool → Plan (Next State End)
-unread name filter = if filter then Ends (Stop NoRc) else say_then (couldnt_read_line name) (Stop NotBuilt)
+-- the From line has the moment that was told
+abbrev pub dated : CommandLine → Environ → List ℕ → Reply → Plan (Next State End)
+dated line env bytes (Now moment) = Ends (begun line env (prepared_of bytes (renewal line.filter) (login_name env) moment))
+dated line env bytes other = Ends (begun line env (split_of bytes))
 
-abbrev pub opened : Option (List ℕ) → List Item → Process → Plan (Next State End)
-opened (Some mailbox) rest p = Ends (Go (Running (Deliver mailbox ∷ rest) p))
-opened None rest p = Ends (Stop NotBuilt)
+abbrev pub prepare : CommandLine → Environ → List ℕ → Plan (Next State End)
+prepare line env bytes =
+    if makes_line bytes (renewal line.filter) then and_then (ask Moment) (dated line env bytes)
+    else Ends (begun line env (split_of bytes))
+
+-- a mail filter ends without its rcfile; otherwise this is told, and what is left comes
+abbrev pub unread : List ℕ → List Item → Process → Plan (Next State End)
+unread name rest p = if p.filter then Ends (Stop NoRc) else say_then (couldnt_read_line name) (Go (Running rest p))
+
+-- statements before what is left
+abbrev pub ahead : Trees → List Item → List Item
+ahead nil rest = rest
+ahead (cons tree trees) rest = Do tree ∷ ahead trees rest
 
 abbrev pub after_read : List ℕ → List Item → Process → Reply → Plan (Next State End)
-after_read name rest p (Content bytes) = opened (mailbox_of bytes) rest p
-after_read name rest p other = unread name p.filter
+after_read name rest p (Content bytes) = Ends (Go (Running (ahead (rc_of bytes) rest) (entered name p)))
+after_read name rest p other = unread name rest p
 
--- the bytes that a mailbox file gets
-abbrev pub mailbox_piece : Process → List ℕ
-mailbox_piece p = piece_of p.message Both MailboxFile false
+-- the default mailbox isn't built yet, and a mail filter has none unless it is given one
+abbrev pub has_default : Process → Bool
+has_default p = not p.filter || is_given (codes "DEFAULT") p || is_given (codes "ORGMAIL") p
 
--- a delivery ends the process; a folder isn't built yet; after a failed one the next recipe comes
-abbrev pub after_append : List ℕ → List Item → Process → Reply → Plan (Next State End)
-after_append mailbox rest p Done = Ends (Stop Delivered)
-after_append mailbox rest p IsFolder = Ends (Stop NotBuilt)
-after_append mailbox rest p (Torn count) = say_then (bytes_left_line count mailbox) (Go (Running rest p))
-after_append mailbox rest p other = say_then (couldnt_write_line mailbox) (Go (Running rest p))
-
--- a mail filter delivers nothing more; otherwise the default mailbox isn't built yet
 abbrev pub fall_off : Process → Plan (Next State End)
-fall_off p = if p.filter then say_then no_delivery_line (Stop FellOff) else Ends (Stop NotBuilt)
+fall_off p = if has_default p then Ends (Stop NotBuilt) else say_then no_delivery_line (Stop FellOff)
+
+abbrev pub statement : Tree → Process → Plan Turn
+statement (Assign name text) p = assign name text p
+statement (Unset name) p = unset name p
+statement (Recipe top act) p = run_recipe top act p
+statement (Defect line text) p = skip_defect text p
+
+abbrev pub next_of : List Item → Turn → Next State End
+next_of rest (GoesOn p) = Go (Running rest p)
+next_of rest (Halts end) = Stop end
 
 abbrev pub running : List Item → Process → Plan (Next State End)
 running [] p = fall_off p
 running (Open name ∷ rest) p = and_then (ask (ReadFile name)) (after_read name rest p)
-running (Deliver mailbox ∷ rest) p = and_then (ask (Append mailbox (mailbox_piece p))) (after_append mailbox rest p)
+running (Do tree ∷ rest) p = and_then (statement tree p) (λ turn. Ends (next_of rest turn))
 
 -- one step: the acts that it asks for, and what comes next
 abbrev pub step : State → Plan (Next State End)
-step (Arrived line bytes) = prepare line bytes
+step (Arrived line env bytes) = prepare line env bytes
 step (Running items p) = running items p

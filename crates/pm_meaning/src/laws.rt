@@ -11,7 +11,8 @@ pub fn one_end()
     ensures { OneEnd }
 {}
 
-/// A process ends as delivered only where its last act is an append that was done.
+/// A process ends as delivered only where its last acts are done appends of one piece to each file among a recipe's
+/// destinations.
 pub fn delivered_is_done()
     ensures { DeliveredIsDone }
 {}

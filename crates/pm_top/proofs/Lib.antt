@@ -1,4 +1,2 @@
-pub mod Letters
-pub mod Keeps
-pub mod RunLemmas
 pub mod TopLemmas
+pub mod PromiseLemmas

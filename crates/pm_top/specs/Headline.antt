@@ -1,6 +1,7 @@
 -- What the top call says of a run.
 use Rattle.std.specs.Prelude.{◌≡◌, ℕ, List, [], Some, None, String, codes}
 use Rattle.std.specs.declared.alloc.Global.{Global}
+use Rattle.pm_bytes.specs.declared.environment.Environ.{Environ}
 use Rattle.pm_host.specs.Told.{Tells, Rose}
 use Rattle.pm_host.specs.Streams.{StreamView}
 use Rattle.pm_host.specs.Runs.{after_calls}
@@ -73,14 +74,14 @@ pub record NotBegun (words : List (String Global)) (status : ℕ) (journal : Jou
 
 -- The process was left off for want of memory: the entries are those of a run of its meaning, the host took besides at
 -- most the calls of one unfinished act, and the line was said.
-pub record LeftOff (words : List (String Global)) (status : ℕ) (source source' : StreamView) (old journal : JournalState) (before after : View) : Type 0 where
+pub record LeftOff (words : List (String Global)) (env : Environ) (status : ℕ) (source source' : StreamView) (old journal : JournalState) (before after : View) : Type 0 where
   pub status_is : status ≡ status_number SystemError
   pub line : CommandLine
   pub read : command_line words ≡ Some line
   pub mail : List ℕ
   pub drained : Drained mail source source'
   pub middle : View
-  pub interrupted : Interrupted {X = End} step (Arrived line mail) old journal before middle
+  pub interrupted : Interrupted {X = End} step (Arrived line env mail) old journal before middle
   pub state : Tells (λ w v. v ≡ after_calls interrupted.left_off (after_entries interrupted.more interrupted.accounts.groups w)) before.host.world middle.host.world
   pub deliveries : Tells (λ w v. AllDelivered interrupted.more interrupted.accounts.groups w) before.host.world middle.host.world
   pub host_same : after.host ≡ middle.host
@@ -94,14 +95,14 @@ LastLine other before after = after ≡ before
 
 -- The message was read whole, and the journal is the meaning of the recipes over its replies; what was done is what it
 -- says.
-pub record Meant (words : List (String Global)) (status : ℕ) (source source' : StreamView) (journal : JournalState) (before after : View) : Type 0 where
+pub record Meant (words : List (String Global)) (env : Environ) (status : ℕ) (source source' : StreamView) (journal : JournalState) (before after : View) : Type 0 where
   pub line : CommandLine
   pub read : command_line words ≡ Some line
   pub mail : List ℕ
   pub drained : Drained mail source source'
   pub end : End
   pub status_is : status ≡ status_number (end_status end)
-  pub means : Means step (Arrived line mail) journal.entries end
+  pub means : Means step (Arrived line env mail) journal.entries end
   pub middle : View
   pub accounts : Accounts journal.entries before middle
   pub state : Tells (λ w v. v ≡ after_entries journal.entries accounts.groups w) before.host.world middle.host.world
@@ -111,21 +112,21 @@ pub record Meant (words : List (String Global)) (status : ℕ) (source source' :
   pub last : LastLine end middle.err after.err
 
 -- how a run went
-pub data Outcome (words : List (String Global)) (status : ℕ) (source source' : StreamView) (old journal : JournalState) (before after : View) : Type 0 where
-  bad_words : BadWords words status source source' journal before after → Outcome words status source source' old journal before after
-  read_fault : ReadFault words status source source' journal before after → Outcome words status source source' old journal before after
-  too_long : TooLong words status source source' journal before after → Outcome words status source source' old journal before after
-  not_begun : NotBegun words status journal before after → Outcome words status source source' old journal before after
-  left_off : LeftOff words status source source' old journal before after → Outcome words status source source' old journal before after
-  meant : Meant words status source source' journal before after → Outcome words status source source' old journal before after
+pub data Outcome (words : List (String Global)) (env : Environ) (status : ℕ) (source source' : StreamView) (old journal : JournalState) (before after : View) : Type 0 where
+  bad_words : BadWords words status source source' journal before after → Outcome words env status source source' old journal before after
+  read_fault : ReadFault words status source source' journal before after → Outcome words env status source source' old journal before after
+  too_long : TooLong words status source source' journal before after → Outcome words env status source source' old journal before after
+  not_begun : NotBegun words status journal before after → Outcome words env status source source' old journal before after
+  left_off : LeftOff words env status source source' old journal before after → Outcome words env status source source' old journal before after
+  meant : Meant words env status source source' journal before after → Outcome words env status source source' old journal before after
 
 -- the same for words that ask for this, whatever they are
-abbrev pub RunsLine : CommandLine → Status → StreamView → StreamView → JournalState → JournalState → View → View → Type 0
-RunsLine line status source source' old journal before after =
-    (words : List (String Global)) → command_line words ≡ Some line → Outcome words (status_number status) source source' old journal before after
+abbrev pub RunsLine : CommandLine → Environ → Status → StreamView → StreamView → JournalState → JournalState → View → View → Type 0
+RunsLine line env status source source' old journal before after =
+    (words : List (String Global)) → command_line words ≡ Some line → Outcome words env (status_number status) source source' old journal before after
 
 -- and for a source that gave this message
-abbrev pub RunsMail : CommandLine → List ℕ → Status → JournalState → JournalState → View → View → Type 0
-RunsMail line mail status old journal before after =
+abbrev pub RunsMail : CommandLine → Environ → List ℕ → Status → JournalState → JournalState → View → View → Type 0
+RunsMail line env mail status old journal before after =
     (words : List (String Global)) (source source' : StreamView) → command_line words ≡ Some line → Drained mail source source'
-    → Outcome words (status_number status) source source' old journal before after
+    → Outcome words env (status_number status) source source' old journal before after

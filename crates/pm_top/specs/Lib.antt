@@ -1,3 +1,3 @@
 pub mod Drain
-pub mod Steps
 pub mod Headline
+pub mod Promises

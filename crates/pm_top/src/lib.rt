@@ -3,14 +3,11 @@
 #![tactic(auto)]
 
 pub mod drain;
-pub mod rcform;
-pub mod run;
 #[cfg(test)]
 mod tests;
 pub mod top;
 pub mod words;
 
 pub use drain::{Mail, read_mail};
-pub use run::run_process;
 pub use top::procmail;
 pub use words::read_words;

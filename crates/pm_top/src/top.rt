@@ -2,15 +2,17 @@
 ghost use Rattle.std.specs.Prelude.{◌≡◌, []};
 ghost use Rattle.pm_journal.specs.Entries.{view_of};
 ghost use Rattle.pm_journal.specs.Held.{AllGivenBack};
-ghost use Rattle.pm_meaning.specs.Status.{end_status};
+ghost use Rattle.pm_meaning.specs.Status.{status_number, end_status};
 ghost use Rattle.pm_top.specs.Headline.{Outcome, RunsLine, RunsMail, SaysLine, LastLine, status_line};
+ghost use Rattle.pm_top.specs.Promises.{CameToEnd, HasMeaning, HasState, HasDelivered, Accounted, Refuses, LacksMemory};
 
-use crate::{Mail, read_mail, read_words, run_process};
+use crate::{Mail, read_mail, read_words};
 use pm_append::write_text;
 use pm_bytes::{Blob, Environ, Memory};
 use pm_host::{Child, Host, Sink, Source};
 use pm_journal::Journal;
 use pm_meaning::{CommandLine, End, Status, status_of};
+use pm_run::run_process;
 use std::alloc::Global;
 
 /// Reads the words and the message, carries out the recipes, notes each act in the journal, and answers the exit
@@ -27,22 +29,51 @@ pub fn procmail<S: Source, H: Host, O: Sink, E: Sink>(
 ) -> u8
     requires empty { journal.old.entries ≡ [] }
     requires no_child { (H.told host.old).child ≡ Child.NoChild }
-    ensures run { Outcome words.now result (S.told source.old) (S.told source.new) journal.old journal.new
+    ensures run { Outcome words.now env.now result (S.told source.old) (S.told source.new) journal.old journal.new
+        (view_of (H.told host.old) (O.told out.old) (E.told err.old)) (view_of (H.told host.new) (O.told out.new) (E.told err.new)) }
+    ensures meaning { CameToEnd result → HasMeaning words.now env.now result (S.told source.old) (S.told source.new) journal.new }
+    ensures state { HasState result journal.new
+        (view_of (H.told host.old) (O.told out.old) (E.told err.old)) (view_of (H.told host.new) (O.told out.new) (E.told err.new)) }
+    ensures deliveries { HasDelivered result journal.new
         (view_of (H.told host.old) (O.told out.old) (E.told err.old)) (view_of (H.told host.new) (O.told out.new) (E.told err.new)) }
     ensures locks { AllGivenBack journal.new.entries }
+    ensures causes { Accounted result journal.new
+        (view_of (H.told host.old) (O.told out.old) (E.told err.old)) (view_of (H.told host.new) (O.told out.new) (E.told err.new)) }
+    ensures refusals { Refuses words.now result (S.told source.old) (S.told source.new) journal.new
+        (view_of (H.told host.old) (O.told out.old) (E.told err.old)) (view_of (H.told host.new) (O.told out.new) (E.told err.new)) }
+    ensures memory { LacksMemory words.now env.now result (S.told source.old) (S.told source.new) journal.old journal.new
+        (view_of (H.told host.old) (O.told out.old) (E.told err.old)) (view_of (H.told host.new) (O.told out.new) (E.told err.new)) }
 {
-    let _ = env;
-    let status = match read_words(alloc, words) {
-        Ok(Some(line)) => run_line(alloc, line, source, host, out, err, journal),
+    let status = run_words(alloc, words, env, source, host, out, err, journal);
+    status.number()
+}
+
+fn run_words<S: Source, H: Host, O: Sink, E: Sink>(
+    alloc: Global,
+    words: &[String],
+    env: &Environ,
+    source: &mut S,
+    host: &mut H,
+    out: &O,
+    err: &mut E,
+    journal: &mut Journal,
+) -> Status
+    requires { journal.old.entries ≡ [] }
+    ensures run { Outcome words.now env.now (status_number result) (S.told source.old) (S.told source.new) journal.old journal.new
+        (view_of (H.told host.old) (O.told out.now) (E.told err.old)) (view_of (H.told host.new) (O.told out.now) (E.told err.new)) }
+    ensures locks { AllGivenBack journal.new.entries }
+{
+    match read_words(alloc, words) {
+        Ok(Some(line)) => run_line(alloc, line, env, source, host, out, err, journal),
         Ok(None) => refuse(err, Status::Usage),
         Err(Memory) => refuse(err, Status::SystemError),
-    };
-    status.number()
+    }
 }
 
 fn run_line<S: Source, H: Host, O: Sink, E: Sink>(
     alloc: Global,
     line: CommandLine,
+    env: &Environ,
     source: &mut S,
     host: &mut H,
     out: &O,
@@ -50,12 +81,12 @@ fn run_line<S: Source, H: Host, O: Sink, E: Sink>(
     journal: &mut Journal,
 ) -> Status
     requires empty { journal.old.entries ≡ [] }
-    ensures run { RunsLine line result (S.told source.old) (S.told source.new) journal.old journal.new
+    ensures run { RunsLine line env.now result (S.told source.old) (S.told source.new) journal.old journal.new
         (view_of (H.told host.old) (O.told out.now) (E.told err.old)) (view_of (H.told host.new) (O.told out.now) (E.told err.new)) }
     ensures locks { AllGivenBack journal.new.entries }
 {
     match read_mail(alloc, source) {
-        Ok(Mail::Bytes(bytes)) => run_mail(alloc, line, bytes, host, out, err, journal),
+        Ok(Mail::Bytes(bytes)) => run_mail(alloc, line, env, bytes, host, out, err, journal),
         Ok(Mail::TooMany) => refuse(err, Status::DataError),
         Ok(Mail::Failed) => refuse(err, Status::InputOutput),
         Err(Memory) => refuse(err, Status::SystemError),
@@ -65,6 +96,7 @@ fn run_line<S: Source, H: Host, O: Sink, E: Sink>(
 fn run_mail<H: Host, O: Sink, E: Sink>(
     alloc: Global,
     line: CommandLine,
+    env: &Environ,
     bytes: Blob,
     host: &mut H,
     out: &O,
@@ -72,11 +104,11 @@ fn run_mail<H: Host, O: Sink, E: Sink>(
     journal: &mut Journal,
 ) -> Status
     requires empty { journal.old.entries ≡ [] }
-    ensures run { RunsMail line bytes result journal.old journal.new
+    ensures run { RunsMail line env.now bytes result journal.old journal.new
         (view_of (H.told host.old) (O.told out.now) (E.told err.old)) (view_of (H.told host.new) (O.told out.now) (E.told err.new)) }
     ensures locks { AllGivenBack journal.new.entries }
 {
-    match run_process(alloc, line, bytes, host, out, err, journal) {
+    match run_process(alloc, line, env, bytes, host, out, err, journal) {
         Ok(end) => finish(err, end),
         Err(Memory) => refuse(err, Status::SystemError),
     }

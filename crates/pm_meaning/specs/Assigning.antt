@@ -1,0 +1,79 @@
+-- What assignments, unsettings and defects do.
+use Rattle.std.specs.Prelude.{ℕ, Bool, not, ◌&&◌, ◌||◌, List, [], ◌∷◌, codes, bytes_eq, if◌then◌else◌}
+use Rattle.std.specs.List.{list_any}
+use Rattle.pm_bytes.specs.Name.{is_usable}
+use Rattle.pm_bytes.specs.Path.{full_name}
+use Rattle.pm_host.specs.declared.answers.Looked.TheVariants.{Folder}
+use Rattle.pm_vars.specs.Table.{Table}
+use Rattle.pm_subst.specs.Values.{is_empty}
+use Rattle.pm_subst.specs.Words.{words_in}
+use Rattle.pm_subst.specs.declared.kinds.Mode.TheVariants.{One}
+use Rattle.pm_journal.specs.LogText.{skipped_line, unusable_name_line, couldnt_chdir_line}
+use Rattle.pm_journal.specs.declared.acts.Act.TheVariants.{Probe}
+use Rattle.pm_journal.specs.declared.acts.Reply.{Reply}
+use Rattle.pm_journal.specs.declared.acts.Reply.TheVariants.{Found}
+use Rattle.pm_meaning.specs.Plan.{Plan, Ends, and_then, ask}
+use Rattle.pm_meaning.specs.Changes.{with_variable, without_variable, with_base}
+use Rattle.pm_meaning.specs.Turns.{Turn, GoesOn, not_built, say_then, has_command, is_too_long, skip_value}
+use Rattle.pm_meaning.specs.declared.process.Process.{Process}
+
+abbrev pub is_one_of : List ℕ → List (List ℕ) → Bool
+is_one_of name names = list_any (λ other. bytes_eq name other) names
+
+-- locks, the log, and what happens at the end: assignments that aren't built yet
+abbrev pub is_later : List ℕ → Bool
+is_later name =
+    is_one_of name
+    (codes "LOCKFILE" ∷ codes "LOGFILE" ∷ codes "LOGABSTRACT" ∷ codes "TRAP" ∷ codes "EXITCODE" ∷ codes "DELIVERED" ∷ codes "LOG" ∷ codes "SHIFT" ∷ [])
+
+-- another rcfile, or another host's rcfiles: values that ask for what isn't built yet
+abbrev pub leads_elsewhere : List ℕ → List ℕ → Process → Bool
+leads_elsewhere name value p =
+    (bytes_eq name (codes "INCLUDERC") && not (is_empty value)) || bytes_eq name (codes "SWITCHRC")
+    || (bytes_eq name (codes "HOST") && not (bytes_eq value p.host_name))
+
+-- a text as one word
+abbrev pub first_word : List (List ℕ) → List ℕ
+first_word [] = []
+first_word (word ∷ words) = word
+
+abbrev pub value_in : Table → List ℕ → List ℕ
+value_in vars text = first_word (words_in One vars [] text)
+
+-- a name that isn't empty and can be a file's
+abbrev pub is_file_text : List ℕ → Bool
+is_file_text text = not (is_empty text) && is_usable text
+
+-- names are seen from a folder that is there, and from no other
+abbrev pub probed : List ℕ → Process → Reply → Plan Turn
+probed name p (Found Folder) = Ends (GoesOn (with_base name p))
+probed name p other = say_then (couldnt_chdir_line name) (GoesOn p)
+
+-- MAILDIR got this value
+abbrev pub change_folder : List ℕ → Process → Plan Turn
+change_folder value p =
+    if is_file_text value then and_then (ask (Probe (full_name p.base value))) (probed (full_name p.base value) p)
+    else say_then (unusable_name_line value) (GoesOn p)
+
+-- the variable is set, and then its effect comes
+abbrev pub assigned : List ℕ → List ℕ → Process → Plan Turn
+assigned name value p =
+    if leads_elsewhere name value p then not_built
+    else if bytes_eq name (codes "MAILDIR") then change_folder value (with_variable name value p)
+    else Ends (GoesOn (with_variable name value p))
+
+-- the value is expanded by the variables as they stand
+abbrev pub assign : List ℕ → List ℕ → Process → Plan Turn
+assign name text p =
+    if is_later name || has_command One text then not_built
+    else if is_too_long One text p.vars then skip_value One text p
+    else assigned name (value_in p.vars text) p
+
+-- giving a lock back and leaving an rcfile aren't built yet
+abbrev pub unset : List ℕ → Process → Plan Turn
+unset name p =
+    if bytes_eq name (codes "LOCKFILE") || bytes_eq name (codes "SWITCHRC") then not_built else Ends (GoesOn (without_variable name p))
+
+-- a line that isn't understood is told and skipped
+abbrev pub skip_defect : List ℕ → Process → Plan Turn
+skip_defect text p = say_then (skipped_line text) (GoesOn p)

@@ -1,0 +1,32 @@
+-- A choice that was made in a plan, and lines that are said.
+use Rattle.std.proofs.Common.{◌≡◌, Bool, true, false, List, ℕ, refl, sym, subst}
+use Rattle.std.specs.Prelude.{if◌then◌else◌}
+use Rattle.pm_journal.specs.JournalState.{JournalState}
+use Rattle.pm_journal.specs.Entries.{View}
+use Rattle.pm_journal.specs.declared.acts.Act.TheVariants.{SayErr}
+use Rattle.pm_meaning.specs.Plan.{Plan, Ends, ask}
+use Rattle.pm_meaning.specs.Executed.{Executes, OutOfMemory}
+use Rattle.pm_meaning.specs.Turns.{say_then}
+use Rattle.pm_meaning.proofs.OneAct.{executes_then}
+use Rattle.pm_meaning.proofs.WantsMemory.{executes_nothing, out_front}
+use Rattle.pm_run.specs.Acts.{Says}
+
+pub choose_then : {R : Type 0} (b : Bool) (p q : Plan R) (end : R) (x y : JournalState) (s t : View) → b ≡ true → Executes p end x y s t → Executes (if b then p else q) end x y s t
+choose_then b p q end x y s t e h = subst (λ v. Executes (if v then p else q) end x y s t) (sym e) h
+
+pub choose_else : {R : Type 0} (b : Bool) (p q : Plan R) (end : R) (x y : JournalState) (s t : View) → b ≡ false → Executes q end x y s t → Executes (if b then p else q) end x y s t
+choose_else b p q end x y s t e h = subst (λ v. Executes (if v then p else q) end x y s t) (sym e) h
+
+pub then_out : {R : Type 0} (b : Bool) (p q : Plan R) (x y : JournalState) (s t : View) → b ≡ true → OutOfMemory p x y s t → OutOfMemory (if b then p else q) x y s t
+then_out b p q x y s t e h = subst (λ v. OutOfMemory (if v then p else q) x y s t) (sym e) h
+
+pub else_out : {R : Type 0} (b : Bool) (p q : Plan R) (x y : JournalState) (s t : View) → b ≡ false → OutOfMemory q x y s t → OutOfMemory (if b then p else q) x y s t
+else_out b p q x y s t e h = subst (λ v. OutOfMemory (if v then p else q) x y s t) (sym e) h
+
+-- a text was said, and then this comes
+pub line_told : {R : Type 0} (line text : List ℕ) (next : R) (x y : JournalState) (a b : View) → text ≡ line → Says text x y a b → Executes (say_then line next) next x y a b
+line_told line text next x y a b t h =
+    executes_then (ask (SayErr line)) (λ reply. Ends next) h.reply next x y y a b b (subst (λ l. Executes (ask (SayErr l)) h.reply x y a b) t h.executes) (executes_nothing next y y b refl)
+
+pub line_out : {R : Type 0} (line text : List ℕ) (next : R) (x y : JournalState) (a b : View) → text ≡ line → OutOfMemory (ask (SayErr text)) x y a b → OutOfMemory (say_then line next) x y a b
+line_out line text next x y a b t h = out_front (ask (SayErr line)) (λ reply. Ends next) x y a b (subst (λ l. OutOfMemory (ask (SayErr l)) x y a b) t h)

@@ -1,0 +1,5 @@
+pub mod Acts
+pub mod Expanding
+pub mod Ends
+pub mod Names
+pub mod Stretches

@@ -1,0 +1,51 @@
+//! Texts expanded by the variables of a process. Running programs isn't built yet, so a text has no command here.
+ghost use Rattle.std.specs.Prelude.{◌≡◌, false, IfOk};
+ghost use Rattle.pm_meaning.specs.Assigning.{first_word as first_of};
+ghost use Rattle.pm_meaning.specs.Turns.{has_command};
+ghost use Rattle.pm_run.specs.Expanding.{IsExpansion};
+
+use pm_bytes::{Blob, Memory};
+use pm_subst::{ExpandRefused, Mode, commands, expand};
+use pm_vars::Vars;
+use std::alloc::Global;
+
+/// The words of a text, or the length of its expansion in bytes where it is over 1,048,576.
+#[derive(Drop)]
+pub enum Expansion {
+    Words(Vec<Blob>),
+    TooLong(u64),
+}
+
+/// Whether the text has a backquoted command.
+pub fn runs_command(alloc: Global, text: &[u8], mode: Mode) -> Result<bool, Memory>
+    ensures { IfOk result (λ runs. runs ≡ has_command mode text.now) }
+{
+    let commands = commands(alloc, text, mode)?;
+    Ok(!commands.is_empty())
+}
+
+pub fn expand_text(
+    alloc: Global,
+    text: &[u8],
+    mode: Mode,
+    vars: &Vars,
+) -> Result<Expansion, Memory>
+    requires { has_command mode text.now ≡ false }
+    ensures { IfOk result (λ expansion. IsExpansion mode text.now vars.now expansion) }
+{
+    match expand(alloc, text, mode, vars, &[]) {
+        Ok(words) => Ok(Expansion::Words(words)),
+        Err(ExpandRefused::Overflow { length }) => Ok(Expansion::TooLong(length)),
+        Err(ExpandRefused::Memory) => Err(Memory),
+    }
+}
+
+/// The first of the words, empty where there is none.
+pub fn first_word(alloc: Global, words: Vec<Blob>) -> Blob
+    ensures { result ≡ first_of words.items }
+{
+    match words.into_iter().next() {
+        Some(word) => word,
+        None => Blob::empty(alloc),
+    }
+}
