@@ -2,6 +2,7 @@
 ghost use Rattle.std.specs.Prelude.{◌≡◌, ℕ, ◌+◌, ◌<◌, ◌≤◌, ◌⊎◌, ◌↔◌, IsTrue, IsFalse, length, vec_len, slice_get, Some, None};
 ghost use Rattle.pm_match.specs.Automaton.{Edge};
 ghost use Rattle.pm_match.specs.Labels.{rank, NoneBefore, Below, IsLower, weight, InRange, ComesFrom, KeepsBelow, IsClosed};
+ghost use Rattle.pm_match.specs.Starts.{IsEmpty};
 
 use crate::atoms::{passes_at, takes_byte};
 use crate::step::Step;
@@ -135,7 +136,7 @@ pub fn clear(labels: &mut Vec<Option<Label>>)
 }
 
 /// Hands the label of a state on to a state of the next place.
-fn hand_over(labels: &[Option<Label>], from: usize, next: &mut Vec<Option<Label>>, to: usize)
+pub fn hand_over(labels: &[Option<Label>], from: usize, next: &mut Vec<Option<Label>>, to: usize)
     requires from { from < length labels.now }
     requires to { to < vec_len next.old }
     ensures sound { (r v : ℕ) → Below next.new.items r v → Below next.old.items r v ⊎ ((r ≡ to) × Below labels.now from v) }
@@ -212,6 +213,18 @@ fn is_from(label: Label, old: Label) -> bool
     ensures { IsTrue result ↔ rank label ≤ rank old }
 {
     label.start < old.start || label.start == old.start && label.cut <= old.cut
+}
+
+/// Whether no state has a label.
+pub fn is_empty(labels: &[Option<Label>]) -> bool
+    ensures { IsTrue result → IsEmpty labels.now }
+{
+    for had in labels {
+        if let Some(_) = had {
+            return false;
+        }
+    }
+    true
 }
 
 /// Whether no state has a label before this one.
