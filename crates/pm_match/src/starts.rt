@@ -31,17 +31,15 @@ fn lacks(table: &Vec<bool>, byte: u8) -> bool
     !table[byte as usize]
 }
 
-/// Whether the tables say no to the place.
+/// Whether the tables say no to a place inside the area.
 fn is_excluded(starts: &Starts, area: &[u8], place: usize) -> bool
     requires inner { vec_len starts.now.inner ≡ 256 }
     requires first { vec_len starts.now.first ≡ 256 }
     requires second { vec_len starts.now.second ≡ 256 }
-    requires place { place < length area.now }
+    requires behind { 0 < place }
+    requires before { place + 1 < length area.now }
     ensures { IsTrue result → Excluded starts.now area.now place }
 {
-    if place == 0 || area.len() - place < 2 {
-        return false;
-    }
     if lacks(&starts.first, area[place]) {
         return true;
     }
@@ -61,8 +59,12 @@ fn skip(starts: &Starts, area: &[u8], from: usize) -> usize
     ensures within { result ≤ length area.now }
     ensures excluded { (i : ℕ) → from ≤ i → i < result → Excluded starts.now area.now i }
 {
+    if from == 0 {
+        return from;
+    }
+    let last = area.len() - 1;
     let mut place = from;
-    while place < area.len() {
+    while place < last {
         if !is_excluded(starts, area, place) {
             return place;
         }

@@ -4,6 +4,8 @@ use Rattle.pm_match.proofs.starts.skip.Goals as goal
 
 pub loop-place-preserved : goal.loop-place-preserved
 loop-place-preserved c = record {
+  end = c.loop-place.invariant.end;
+  behind = c.loop-place.invariant.behind;
   after = omega arith;
   within = omega arith;
   excluded = λ i low high.
