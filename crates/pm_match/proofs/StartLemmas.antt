@@ -151,25 +151,62 @@ table_more p exit labels table m b len is takes ended k v lacks = ⊎_elim
     (λ new. (subst (λ n. NoneTakes p labels n) (sym (new.0 ∙ len)) (takes new.1), ended new.1 v))
     (pushed table m k lacks)
 
--- the tables of these three lists of labels
-module _ (p : List Step) (entry exit : ℕ) (inner first second : List (Option Label))
+-- the tables of these four lists of labels
+module _ (p : List Step) (entry exit : ℕ) (inner first second third : List (Option Label))
     (inner_entry : Below inner entry 0) (inner_is : IsClosed p (0 ∷ 0 ∷ []) 1 inner)
     (first_entry : Below first entry 0) (first_is : IsClosed p (10 ∷ 0 ∷ []) 1 first)
     (second_exit : (v : ℕ) → Below first exit v → Below second exit v)
     (second_read : (q v : ℕ) (t : Test) (x : ℕ) → slice_get p q ≡ Some (Take t x) → Below first q v → Below second x v)
-    (second_is : IsClosed p (10 ∷ 0 ∷ []) 1 second) (s : Starts)
-    (inner_table : IsTable p exit inner s.inner.items) (first_table : IsTable p exit first s.first.items) (second_table : IsTable p exit second s.second.items) where
+    (second_is : IsClosed p (10 ∷ 0 ∷ []) 1 second)
+    (third_exit : (v : ℕ) → Below second exit v → Below third exit v)
+    (third_read : (q v : ℕ) (t : Test) (x : ℕ) → slice_get p q ≡ Some (Take t x) → Below second q v → Below third x v)
+    (third_is : IsClosed p (10 ∷ 0 ∷ []) 1 third) (s : Starts)
+    (inner_table : IsTable p exit inner s.inner.items) (first_table : IsTable p exit first s.first.items)
+    (second_table : IsTable p exit second s.second.items) (third_table : IsTable p exit third s.third.items) where
+  module _ (area : List ℕ) (i : ℕ) (behind : 0 < i) (before : i + 2 < length area) (n j : ℕ) (run : Run p area exit j n entry i) where
+    here : i < length area
+    here = omega (arith, before)
+
+    next : i + 1 < length area
+    next = omega (arith, before)
+
+    -- the run ends here, or goes on with this byte
+    step : Below first exit 0 ⊎ GoesOnBy p area exit i j 0 first
+    step = first_read p area exit i first (line_closed area i behind here p first first_is) n entry j 0 run first_entry
+
+    -- the same of the next place
+    step_next : Below second exit 0 ⊎ GoesOnBy p area exit (i + 1) j 0 second
+    step_next = ⊎_elim
+        (λ ended. inl (second_exit 0 ended))
+        (λ on. first_read p area exit (i + 1) second (line_closed area (i + 1) (omega arith) next p second second_is)
+        on.count on.next j 0 on.run (second_read on.state 0 (on.reading).test on.next (on.reading).is on.below))
+        step
+
+    no_second : Lacks s.second.items (slice_index area (i + 1)) → ⊥
+    no_second lacks = ⊎_elim
+        (λ ended. (second_table (slice_index area (i + 1)) 0 lacks).1 (second_exit 0 ended))
+        (λ on. none_here p area exit (i + 1) second (line_closed area (i + 1) (omega arith) next p second second_is) s.second.items second_table lacks next
+        on.count on.next j 0 on.run (second_read on.state 0 (on.reading).test on.next (on.reading).is on.below))
+        step
+
+    no_third : Lacks s.third.items (slice_index area (i + 1 + 1)) → ⊥
+    no_third lacks = ⊎_elim
+        (λ ended. (third_table (slice_index area (i + 1 + 1)) 0 lacks).1 (third_exit 0 ended))
+        (λ on. none_here p area exit (i + 1 + 1) third (line_closed area (i + 1 + 1) (omega arith) (omega (arith, before)) p third third_is) s.third.items third_table lacks (omega (arith, before))
+        on.count on.next j 0 on.run (third_read on.state 0 (on.reading).test on.next (on.reading).is on.below))
+        step_next
+
   pub none_excluded : (area : List ℕ) (i n j : ℕ) → Excluded s area i → Run p area exit j n entry i → ⊥
   none_excluded area i n j x run =
       let within : i < length area = omega (arith, x.before) in
       ⊎_elim
       (λ lacks. none_here p area exit i first (line_closed area i x.behind within p first first_is) s.first.items first_table lacks within n entry j 0 run first_entry)
       (λ more. ⊎_elim
-      (λ lacks. ⊎_elim
-      (λ ended. (second_table (slice_index area (i + 1)) 0 lacks).1 (second_exit 0 ended))
-      (λ on. none_here p area exit (i + 1) second (line_closed area (i + 1) (omega arith) x.before p second second_is) s.second.items second_table lacks x.before
-      on.count on.next j 0 on.run (second_read on.state 0 (on.reading).test on.next (on.reading).is on.below))
-      (first_read p area exit i first (line_closed area i x.behind within p first first_is) n entry j 0 run first_entry))
+      (λ lacks. no_second area i x.behind x.before n j run lacks)
+      (λ most. ⊎_elim
+      (λ lacks. no_third area i x.behind x.before n j run
+      (let two : i + 2 ≡ i + 1 + 1 = omega arith in subst (λ k. Lacks s.third.items (slice_index area k)) two lacks))
       (λ lacks. none_here p area exit i inner (inner_closed area i x.behind within p lacks.0 inner inner_is) s.inner.items inner_table lacks.1 within n entry j 0 run inner_entry)
+      most)
       more)
       x.lacks

@@ -29,8 +29,8 @@ IsTable p exit labels table = (b v : ℕ) → Lacks table b → NoneTakes p labe
 -- the tables say no to place i
 pub record Excluded (s : Starts) (area : List ℕ) (i : ℕ) : Type 0 where
   pub behind : 0 < i
-  pub before : i + 1 < length area
-  pub lacks : Lacks s.first.items (slice_index area i) ⊎ Lacks s.second.items (slice_index area (i + 1))
+  pub before : i + 2 < length area
+  pub lacks : Lacks s.first.items (slice_index area i) ⊎ Lacks s.second.items (slice_index area (i + 1)) ⊎ Lacks s.third.items (slice_index area (i + 2))
       ⊎ ((slice_index area (i - 1) ≢ 10) × Lacks s.inner.items (slice_index area i))
 
 -- the tables have all bytes, and say no only where no run from the entry to the end begins
@@ -38,6 +38,7 @@ pub record IsStarts (p : List Step) (entry exit : ℕ) (s : Starts) : Type 0 whe
   pub inner : length s.inner.items ≡ 256
   pub first : length s.first.items ≡ 256
   pub second : length s.second.items ≡ 256
+  pub third : length s.third.items ≡ 256
   pub none : (area : List ℕ) (i n j : ℕ) → Excluded s area i → Run p area exit j n entry i → ⊥
 
 -- the search goes on where it is, or, with no run on its way and nothing found, past places to which the tables say no

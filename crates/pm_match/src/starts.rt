@@ -14,6 +14,8 @@ pub struct Starts {
     pub first: Vec<bool>,
     /// The second byte.
     pub second: Vec<bool>,
+    /// The third byte.
+    pub third: Vec<bool>,
 }
 
 /// Where the search is: no match begins before the base.
@@ -36,14 +38,18 @@ fn is_excluded(starts: &Starts, area: &[u8], place: usize) -> bool
     requires inner { vec_len starts.now.inner ≡ 256 }
     requires first { vec_len starts.now.first ≡ 256 }
     requires second { vec_len starts.now.second ≡ 256 }
+    requires third { vec_len starts.now.third ≡ 256 }
     requires behind { 0 < place }
-    requires before { place + 1 < length area.now }
+    requires before { place + 2 < length area.now }
     ensures { IsTrue result → Excluded starts.now area.now place }
 {
     if lacks(&starts.first, area[place]) {
         return true;
     }
     if lacks(&starts.second, area[place + 1]) {
+        return true;
+    }
+    if lacks(&starts.third, area[place + 2]) {
         return true;
     }
     area[place - 1] != b'\n' && lacks(&starts.inner, area[place])
@@ -54,15 +60,16 @@ fn skip(starts: &Starts, area: &[u8], from: usize) -> usize
     requires inner { vec_len starts.now.inner ≡ 256 }
     requires first { vec_len starts.now.first ≡ 256 }
     requires second { vec_len starts.now.second ≡ 256 }
+    requires third { vec_len starts.now.third ≡ 256 }
     requires from { from ≤ length area.now }
     ensures after { from ≤ result }
     ensures within { result ≤ length area.now }
     ensures excluded { (i : ℕ) → from ≤ i → i < result → Excluded starts.now area.now i }
 {
-    if from == 0 {
+    if from == 0 || area.len() < 2 {
         return from;
     }
-    let last = area.len() - 1;
+    let last = area.len() - 2;
     let mut place = from;
     while place < last {
         if !is_excluded(starts, area, place) {
@@ -86,6 +93,7 @@ pub fn go_on(
     requires inner { vec_len starts.now.inner ≡ 256 }
     requires first { vec_len starts.now.first ≡ 256 }
     requires second { vec_len starts.now.second ≡ 256 }
+    requires third { vec_len starts.now.third ≡ 256 }
     requires place { place ≤ length area.now }
     ensures { GoesOn starts.now best left_labels.now right_labels.now area.now base place result }
 {

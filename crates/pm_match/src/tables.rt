@@ -168,12 +168,15 @@ pub fn starts_of(
     let inner_labels = reached(alloc, steps, entry, &[0, 0])?;
     let first_labels = reached(alloc, steps, entry, &[10, 0])?;
     let second_labels = reached_behind(alloc, steps, &first_labels, exit, &[10, 0])?;
+    let third_labels = reached_behind(alloc, steps, &second_labels, exit, &[10, 0])?;
     let inner = table_of(alloc, steps, &inner_labels, exit)?;
     let first = table_of(alloc, steps, &first_labels, exit)?;
     let second = table_of(alloc, steps, &second_labels, exit)?;
+    let third = table_of(alloc, steps, &third_labels, exit)?;
     Ok(Starts {
         inner,
         first,
         second,
+        third,
     })
 }

@@ -4,7 +4,7 @@ use Rattle.pm_match.proofs.starts.skip.Given as goal
 
 abbrev pub invariant-loop-place : goal.invariant-loop-place
 invariant-loop-place l = record {
-  end : l.last + 1 ≡ length l.area;
+  end : l.last + 2 ≡ length l.area;
   behind : 0 < l.from;
   after : l.from ≤ l.place;
   within : l.place ≤ length l.area;
