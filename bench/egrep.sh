@@ -1,5 +1,6 @@
 #!/usr/bin/env bash
-# How long searches for regular expressions take. No proof says this, and the merge gate doesn't run it.
+# How long searches for regular expressions take. No proof says this, and the merge gate doesn't run it. Counting takes
+# some minutes.
 #
 # The first table has what a byte of the area costs at two sizes: it must not grow with the area. The second has the
 # instructions that a byte and expression cost on ordinary lines, for expressions that don't match there.
