@@ -1,6 +1,6 @@
 # Each target works on a fresh checkout with nothing built.
 
-.PHONY: build demo check clean
+.PHONY: build demo bench check clean
 
 # bin/procmail, built once its crates are proved. The build ends by starting the program without words, which is a
 # usage error (64).
@@ -15,6 +15,10 @@ demo: build
 	@folder=$$(mktemp -d) && cp examples/one-mailbox.rc $$folder/rc && cd $$folder && \
 	    $(CURDIR)/bin/procmail ./rc < $(CURDIR)/examples/message && cat mbox; \
 	    status=$$?; rm -rf $$folder; exit $$status
+
+# How long searches take. It isn't part of the check.
+bench:
+	@bash bench/egrep.sh
 
 check:
 	@bash .ci/run

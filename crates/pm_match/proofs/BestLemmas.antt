@@ -20,7 +20,7 @@ module _ (fold : Bool) (p : List Step) (area : List ℕ) where
       (s, j, subst (λ x. Edge p area x i s j) (sym h.0) (subst (λ x. Edge p area r x s j) (sym h.1) e), (refl, refl))
   run_more (suc n) q i r k s j h e = (h.0, h.1, h.2, run_more n h.0 h.1 r k s j h.3 e)
 
-  run_of : (entry s n q i : ℕ) → Reach p area entry s n q i → Run p area q i n entry s
+  pub run_of : (entry s n q i : ℕ) → Reach p area entry s n q i → Run p area q i n entry s
   run_of entry s zero q i h = (sym h.0, sym h.1)
   run_of entry s (suc n) q i h = run_more n entry s h.0 h.1 q i (run_of entry s n h.0 h.1 h.2) h.3
 

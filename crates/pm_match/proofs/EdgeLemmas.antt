@@ -1,5 +1,5 @@
 -- The edges of each kind of step that read nothing.
-use Rattle.std.proofs.Common.{◌≡◌, ◌⊎◌, ℕ, ◌+◌, ◌<◌, true, List, Option, Some, length, refl, sym, ◌∙◌, subst, ap, inl, inr, ⊎_elim, get_or, arith}
+use Rattle.std.proofs.Common.{◌≡◌, ◌⊎◌, ℕ, ◌+◌, ◌<◌, true, List, Option, Some, None, length, refl, sym, ◌∙◌, subst, ap, inl, inr, ⊎_elim, get_or, arith}
 use Rattle.std.specs.Prelude.{slice_get}
 use Rattle.std.proofs.lemmas.Option.{slice_get-get_or}
 use Rattle.pm_match.specs.declared.step.Test.{Test}
@@ -101,3 +101,6 @@ module _ (p : List Step) (area : List ℕ) (q i : ℕ) where
 
 pub read_byte : (area : List ℕ) (i : ℕ) → i < length area → slice_get area i ≡ Some (get_or area i 0)
 read_byte area i h = slice_get-get_or area i 0 h
+
+pub no_label : (labels : List (Option Label)) (q v : ℕ) → slice_get labels q ≡ Some None → Below labels q v → ⊥
+no_label labels q v none b = let wrong : Some None ≡ Some (Some b.label) = sym none ∙ b.is in cc

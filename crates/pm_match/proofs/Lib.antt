@@ -11,7 +11,9 @@ pub mod LabelLemmas
 pub mod EdgeLemmas
 pub mod CloseLemmas
 pub mod FindLemmas
+pub mod StartLemmas
 pub mod BestLemmas
+pub mod SkipLemmas
 pub mod EngineLemmas
 pub mod CountLemmas
 pub mod JoinLemmas

@@ -3,6 +3,7 @@ pub mod Automaton
 pub mod Postfix
 pub mod Labels
 pub mod Finding
+pub mod Starts
 pub mod Search
 pub mod Found
 pub mod Engine

@@ -151,42 +151,33 @@ fn apply(
     match op {
         Op::Nothing => {
             let part = nothing(program)?;
-            parts.push(part)?;
-            Ok(())
+            Ok(parts.push(part)?)
         }
         Op::One(atom) => {
             let part = one(program, Test::One(atom, fold))?;
-            parts.push(part)?;
-            Ok(())
+            Ok(parts.push(part)?)
         }
-        Op::Range(first, last) => {
-            ranges.push(Step::Range(first, last))?;
-            Ok(())
-        }
+        Op::Range(first, last) => Ok(ranges.push(Step::Range(first, last))?),
         Op::Set(is_negated) => {
             let part = set(program, ranges, is_negated, fold)?;
-            parts.push(part)?;
-            Ok(())
+            Ok(parts.push(part)?)
         }
         Op::Seq => {
             let right = parts.pop().unwrap();
             let left = parts.pop().unwrap();
             let part = join(program, left, right);
-            parts.push(part)?;
-            Ok(())
+            Ok(parts.push(part)?)
         }
         Op::Either => {
             let right = parts.pop().unwrap();
             let left = parts.pop().unwrap();
             let part = choose(program, left, right)?;
-            parts.push(part)?;
-            Ok(())
+            Ok(parts.push(part)?)
         }
         Op::Repeat(times) => {
             let inner = parts.pop().unwrap();
             let part = repeat(program, times, inner)?;
-            parts.push(part)?;
-            Ok(())
+            Ok(parts.push(part)?)
         }
     }
 }

@@ -4,9 +4,11 @@ ghost use Rattle.pm_regex.specs.Re.{Re};
 ghost use Rattle.pm_match.specs.Automaton.{Built};
 ghost use Rattle.pm_match.specs.Labels.{rank, NoneBefore, Below, InRange};
 ghost use Rattle.pm_match.specs.Finding.{IsBestBefore, IsFirst, IsHeld, IsArrived, LeftSeed, RightSeed, Opens, right_seed};
+ghost use Rattle.pm_match.specs.Starts.{IsStarts};
 
 use crate::build::Program;
 use crate::labels::{Label, advance, clear, close, none_before, none_through, relax};
+use crate::starts::{Starts, go_on};
 use crate::step::Step;
 use std::mem;
 
@@ -162,6 +164,7 @@ fn is_final(
 
 /// The first match from a place on: the least start, for it the least cut, and for both the greatest end.
 pub fn find(
+    starts: &Starts,
     left: &Program,
     right: &Program,
     left_labels: &mut Vec<Option<Label>>,
@@ -171,6 +174,7 @@ pub fn find(
     area: &[u8],
     from: usize,
 ) -> Option<Match>
+    requires starts { IsStarts left.now.steps.items left.now.entry left.now.exit starts.now }
     requires left_range { InRange left.now.steps.items }
     requires left_len { vec_len left_labels.old ≡ length left.now.steps.items }
     requires left_next_len { vec_len left_next.old ≡ length left.now.steps.items }
@@ -191,10 +195,12 @@ pub fn find(
         → IsFirst fold l r area.now from result }
 {
     let mut best = None;
+    let mut base = from;
+    let mut place = from;
     clear(left_labels);
     clear(right_labels);
-    for place in from..area.len() {
-        let met = visit(left, right, left_labels, right_labels, area, from, place);
+    while place < area.len() {
+        let met = visit(left, right, left_labels, right_labels, area, base, place);
         best = better(best, met, place);
         if is_final(best, left_labels, right_labels) {
             return best;
@@ -203,6 +209,17 @@ pub fn find(
         mem::swap(left_labels, left_next);
         advance(&right.steps, right_labels, right_next, area, place);
         mem::swap(right_labels, right_next);
+        let on = go_on(
+            starts,
+            best,
+            left_labels,
+            right_labels,
+            area,
+            base,
+            place + 1,
+        );
+        base = on.base;
+        place = on.place;
     }
     let met = visit(
         left,
@@ -210,7 +227,7 @@ pub fn find(
         left_labels,
         right_labels,
         area,
-        from,
+        base,
         area.len(),
     );
     better(best, met, area.len())

@@ -2,6 +2,7 @@
 ghost use Rattle.std.specs.Prelude.{◌≡◌, ℕ, ◌+◌, ◌<◌, ◌≤◌, ◌⊎◌, ◌↔◌, IsTrue, IsFalse, length, vec_len, slice_get, Some, None};
 ghost use Rattle.pm_match.specs.Automaton.{Edge};
 ghost use Rattle.pm_match.specs.Labels.{rank, NoneBefore, Below, IsLower, weight, InRange, ComesFrom, KeepsBelow, IsClosed};
+ghost use Rattle.pm_match.specs.Starts.{IsEmpty};
 
 use crate::atoms::{passes_at, takes_byte};
 use crate::step::Step;
@@ -60,7 +61,7 @@ fn hand_on(labels: &mut Vec<Option<Label>>, from: usize, to: usize) -> bool
 }
 
 /// Hands the label of a state on along its edges that read nothing, and says whether that changed a label.
-fn pass_on(
+fn pass_from(
     steps: &[Step],
     labels: &mut Vec<Option<Label>>,
     area: &[u8],
@@ -89,6 +90,32 @@ fn pass_on(
         }
         Step::Take(test, next) => passes_at(test, area, place) && hand_on(labels, state, next),
         Step::Range(_, _) => false,
+    }
+}
+
+/// The same, with a quick answer for a state that has no label.
+fn pass_on(
+    steps: &[Step],
+    labels: &mut Vec<Option<Label>>,
+    area: &[u8],
+    place: usize,
+    state: usize,
+) -> bool
+    requires program { InRange steps.now }
+    requires same_len { vec_len labels.old ≡ length steps.now }
+    requires state { state < length steps.now }
+    requires place { place ≤ length area.now }
+    ensures sound { (r v : ℕ) → Below labels.new.items r v →
+        Below labels.old.items r v ⊎ (Below labels.old.items state v × Edge steps.now area.now state place r place) }
+    ensures kept { (r v : ℕ) → Below labels.old.items r v → Below labels.new.items r v }
+    ensures reached { (r v : ℕ) → Edge steps.now area.now state place r place → Below labels.old.items state v → Below labels.new.items r v }
+    ensures len { vec_len labels.new ≡ vec_len labels.old }
+    ensures fewer { IsTrue result → weight labels.new.items < weight labels.old.items }
+    ensures same { IsFalse result → labels.new.items ≡ labels.old.items }
+{
+    match labels[state] {
+        None => false,
+        Some(_) => pass_from(steps, labels, area, place, state),
     }
 }
 
@@ -135,7 +162,7 @@ pub fn clear(labels: &mut Vec<Option<Label>>)
 }
 
 /// Hands the label of a state on to a state of the next place.
-fn hand_over(labels: &[Option<Label>], from: usize, next: &mut Vec<Option<Label>>, to: usize)
+pub fn hand_over(labels: &[Option<Label>], from: usize, next: &mut Vec<Option<Label>>, to: usize)
     requires from { from < length labels.now }
     requires to { to < vec_len next.old }
     ensures sound { (r v : ℕ) → Below next.new.items r v → Below next.old.items r v ⊎ ((r ≡ to) × Below labels.now from v) }
@@ -152,7 +179,7 @@ fn hand_over(labels: &[Option<Label>], from: usize, next: &mut Vec<Option<Label>
 }
 
 /// Hands the label of a state on to the next place, where the state takes the byte.
-fn step_on(
+fn step_from(
     steps: &[Step],
     labels: &[Option<Label>],
     next: &mut Vec<Option<Label>>,
@@ -184,6 +211,32 @@ fn step_on(
     }
 }
 
+/// The same, with nothing to do for a state that has no label.
+fn step_on(
+    steps: &[Step],
+    labels: &[Option<Label>],
+    next: &mut Vec<Option<Label>>,
+    area: &[u8],
+    place: usize,
+    state: usize,
+)
+    requires program { InRange steps.now }
+    requires same_len { length labels.now ≡ length steps.now }
+    requires same_next { vec_len next.old ≡ length steps.now }
+    requires state { state < length steps.now }
+    requires place { place < length area.now }
+    ensures sound { (r v : ℕ) → Below next.new.items r v →
+        Below next.old.items r v ⊎ (Below labels.now state v × Edge steps.now area.now state place r (place + 1)) }
+    ensures kept { KeepsBelow next.old.items next.new.items }
+    ensures reached { (r v : ℕ) → Edge steps.now area.now state place r (place + 1) → Below labels.now state v → Below next.new.items r v }
+    ensures len { vec_len next.new ≡ vec_len next.old }
+{
+    match labels[state] {
+        None => {}
+        Some(_) => step_from(steps, labels, next, area, place, state),
+    }
+}
+
 /// The labels at the next place that this place's byte leads to.
 pub fn advance(
     steps: &[Step],
@@ -212,6 +265,18 @@ fn is_from(label: Label, old: Label) -> bool
     ensures { IsTrue result ↔ rank label ≤ rank old }
 {
     label.start < old.start || label.start == old.start && label.cut <= old.cut
+}
+
+/// Whether no state has a label.
+pub fn is_empty(labels: &[Option<Label>]) -> bool
+    ensures { IsTrue result → IsEmpty labels.now }
+{
+    for had in labels {
+        if let Some(_) = had {
+            return false;
+        }
+    }
+    true
 }
 
 /// Whether no state has a label before this one.

@@ -8,7 +8,9 @@ mod engine;
 mod find;
 mod labels;
 mod search;
+mod starts;
 mod step;
+mod tables;
 #[cfg(test)]
 mod tests;
 

@@ -3,13 +3,16 @@
 use crate::build::{Program, build};
 use crate::find::{Match, find};
 use crate::labels::Label;
+use crate::starts::Starts;
+use crate::tables::starts_of;
 use pm_bytes::Memory;
 use pm_regex::Op;
 use std::alloc::Global;
 
-/// Two automata, with room for a label of each state at two places.
+/// Two automata, with the tables of where the first begins, and with room for a label of each state at two places.
 #[derive(Drop)]
 pub struct Search {
+    starts: Starts,
     left: Program,
     left_labels: Vec<Option<Label>>,
     left_next: Vec<Option<Label>>,
@@ -33,11 +36,13 @@ impl Search {
     {
         let left = build(alloc, left, fold)?;
         let right = build(alloc, right, fold)?;
+        let starts = starts_of(alloc, &left.steps, left.entry, left.exit)?;
         let left_labels = vec![in alloc; None; left.steps.len()]?;
         let left_next = vec![in alloc; None; left.steps.len()]?;
         let right_labels = vec![in alloc; None; right.steps.len()]?;
         let right_next = vec![in alloc; None; right.steps.len()]?;
         Ok(Search {
+            starts,
             left,
             left_labels,
             left_next,
@@ -55,6 +60,7 @@ impl Search {
         ensures first { (l r : Re) (fold : Bool) → Runs self.old l r fold → IsFirst fold l r area.now from result }
     {
         find(
+            &self.starts,
             &self.left,
             &self.right,
             &mut self.left_labels,

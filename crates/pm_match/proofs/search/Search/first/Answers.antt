@@ -2,6 +2,7 @@ use Rattle.pm_match.proofs.search.Search.first.Goals as goal
 
 pub returns-clause-kept : goal.returns-clause-kept
 returns-clause-kept c = λ l r fold h. record {
+  starts = h.starts;
   left = h.left;
   left_labels = c.find.ensures.left_labels;
   left_next = c.find.ensures.left_next;

@@ -1,0 +1,48 @@
+-- Where no match begins.
+use Rattle.std.specs.Prelude.{◌≡◌, ◌≢◌, ℕ, ◌+◌, ◌-◌, ◌<◌, ◌≤◌, ◌⊎◌, Bool, false, List, length, Option, Some, None, slice_get, slice_index}
+use Rattle.pm_match.specs.declared.step.Test.{Test}
+use Rattle.pm_match.specs.declared.step.Step.{Step}
+use Rattle.pm_match.specs.declared.step.Step.TheVariants.{Take}
+use Rattle.pm_match.specs.declared.labels.Label.{Label}
+use Rattle.pm_match.specs.declared.find.Match.{Match}
+use Rattle.pm_match.specs.declared.starts.Starts.{Starts}
+use Rattle.pm_match.specs.declared.starts.Places.{Places}
+use Rattle.pm_match.specs.Automaton.{takes, Run}
+use Rattle.pm_match.specs.Labels.{Below}
+
+-- no state has a label
+abbrev pub IsEmpty : List (Option Label) → Type 0
+IsEmpty labels = (q v : ℕ) → Below labels q v → ⊥
+
+-- the table says no to the byte
+abbrev pub Lacks : List Bool → ℕ → Type 0
+Lacks table b = slice_get table b ≡ Some false
+
+-- no state with a label takes the byte
+abbrev pub NoneTakes : List Step → List (Option Label) → ℕ → Type 0
+NoneTakes p labels b = (q v : ℕ) (t : Test) (x : ℕ) → slice_get p q ≡ Some (Take t x) → Below labels q v → takes p t b ≡ false
+
+-- where the table says no to a byte, no state with a label takes it, and the last state has none
+abbrev pub IsTable : List Step → ℕ → List (Option Label) → List Bool → Type 0
+IsTable p exit labels table = (b v : ℕ) → Lacks table b → NoneTakes p labels b × (Below labels exit v → ⊥)
+
+-- the tables say no to place i
+pub record Excluded (s : Starts) (area : List ℕ) (i : ℕ) : Type 0 where
+  pub behind : 0 < i
+  pub before : i + 2 < length area
+  pub lacks : Lacks s.first.items (slice_index area i) ⊎ Lacks s.second.items (slice_index area (i + 1)) ⊎ Lacks s.third.items (slice_index area (i + 2))
+      ⊎ ((slice_index area (i - 1) ≢ 10) × Lacks s.inner.items (slice_index area i))
+
+-- the tables have all bytes, and say no only where no run from the entry to the end begins
+pub record IsStarts (p : List Step) (entry exit : ℕ) (s : Starts) : Type 0 where
+  pub inner : length s.inner.items ≡ 256
+  pub first : length s.first.items ≡ 256
+  pub second : length s.second.items ≡ 256
+  pub third : length s.third.items ≡ 256
+  pub none : (area : List ℕ) (i n j : ℕ) → Excluded s area i → Run p area exit j n entry i → ⊥
+
+-- the search goes on where it is, or, with no run on its way and nothing found, past places to which the tables say no
+abbrev pub GoesOn : Starts → Option Match → List (Option Label) → List (Option Label) → List ℕ → ℕ → ℕ → Places → Type 0
+GoesOn s best left right area base place r = (r ≡ record { base = base; place = place })
+    ⊎ ((best ≡ None) × IsEmpty left × IsEmpty right × (r.base ≡ r.place) × (place ≤ r.place) × (r.place ≤ length area)
+    × ((i : ℕ) → place ≤ i → i < r.place → Excluded s area i))

@@ -1,0 +1,109 @@
+//! Where the search goes past places at which no match begins.
+ghost use Rattle.std.specs.Prelude.{◌≡◌, ℕ, ◌+◌, ◌<◌, ◌≤◌, ◌↔◌, IsTrue, length, vec_len};
+ghost use Rattle.pm_match.specs.Starts.{Lacks, Excluded, GoesOn};
+
+use crate::find::Match;
+use crate::labels::{Label, is_empty};
+
+/// Which bytes can stand at the front of a match.
+#[derive(Drop)]
+pub struct Starts {
+    /// The first byte, where the one before isn't a newline.
+    pub inner: Vec<bool>,
+    /// The first byte, whatever stands before.
+    pub first: Vec<bool>,
+    /// The second byte.
+    pub second: Vec<bool>,
+    /// The third byte.
+    pub third: Vec<bool>,
+}
+
+/// Where the search is: no match begins before the base.
+#[derive(Clone, Copy, PartialEq, Eq, Debug, Drop)]
+pub struct Places {
+    pub base: usize,
+    pub place: usize,
+}
+
+/// Whether the table says no to the byte.
+fn lacks(table: &Vec<bool>, byte: u8) -> bool
+    requires { vec_len table.now ≡ 256 }
+    ensures { IsTrue result → Lacks table.now.items byte }
+{
+    !table[byte as usize]
+}
+
+/// Whether the tables say no to a place inside the area.
+fn is_excluded(starts: &Starts, area: &[u8], place: usize) -> bool
+    requires inner { vec_len starts.now.inner ≡ 256 }
+    requires first { vec_len starts.now.first ≡ 256 }
+    requires second { vec_len starts.now.second ≡ 256 }
+    requires third { vec_len starts.now.third ≡ 256 }
+    requires behind { 0 < place }
+    requires before { place + 2 < length area.now }
+    ensures { IsTrue result → Excluded starts.now area.now place }
+{
+    if lacks(&starts.first, area[place]) {
+        return true;
+    }
+    if lacks(&starts.second, area[place + 1]) {
+        return true;
+    }
+    if lacks(&starts.third, area[place + 2]) {
+        return true;
+    }
+    area[place - 1] != b'\n' && lacks(&starts.inner, area[place])
+}
+
+/// The next place to which the tables don't say no.
+fn skip(starts: &Starts, area: &[u8], from: usize) -> usize
+    requires inner { vec_len starts.now.inner ≡ 256 }
+    requires first { vec_len starts.now.first ≡ 256 }
+    requires second { vec_len starts.now.second ≡ 256 }
+    requires third { vec_len starts.now.third ≡ 256 }
+    requires from { from ≤ length area.now }
+    ensures after { from ≤ result }
+    ensures within { result ≤ length area.now }
+    ensures excluded { (i : ℕ) → from ≤ i → i < result → Excluded starts.now area.now i }
+{
+    if from == 0 || area.len() < 2 {
+        return from;
+    }
+    let last = area.len() - 2;
+    let mut place = from;
+    while place < last {
+        if !is_excluded(starts, area, place) {
+            return place;
+        }
+        place += 1;
+    }
+    place
+}
+
+/// Where the search goes on: where it is, or, with no run on its way and nothing found, at the next place where a match can begin.
+pub fn go_on(
+    starts: &Starts,
+    best: Option<Match>,
+    left_labels: &[Option<Label>],
+    right_labels: &[Option<Label>],
+    area: &[u8],
+    base: usize,
+    place: usize,
+) -> Places
+    requires inner { vec_len starts.now.inner ≡ 256 }
+    requires first { vec_len starts.now.first ≡ 256 }
+    requires second { vec_len starts.now.second ≡ 256 }
+    requires third { vec_len starts.now.third ≡ 256 }
+    requires place { place ≤ length area.now }
+    ensures { GoesOn starts.now best left_labels.now right_labels.now area.now base place result }
+{
+    if best.is_none() && is_empty(left_labels) && is_empty(right_labels) {
+        let next = skip(starts, area, place);
+        Places {
+            base: next,
+            place: next,
+        }
+    } else {
+        Places { base, place }
+    }
+}
