@@ -4,3 +4,7 @@ pub mod Covers
 pub mod Joined
 pub mod Trim
 pub mod Digits
+pub mod Runs
+pub mod Forms
+pub mod Shapes
+pub mod Pieces

@@ -12,3 +12,5 @@ pub mod Spans
 pub mod Build
 pub mod Builder
 pub mod Refusal
+pub mod Words
+pub mod Spells
