@@ -15,9 +15,7 @@ use Rattle.pm_recipe.specs.Places.{joins_at, ends_at, place_after, joins_before,
 use Rattle.pm_recipe.specs.Colon.{word_length, is_unclosed, begins_recipe, has_lock, lock_part, behind_lock, behind_flags, behind_colon}
 use Rattle.pm_recipe.specs.Front.{front_of, piece, gap, line_front, skipped, unclosed, assignment, ends_name, behind_name, name_width, named, colon_front, statement_of, opens, ends_line, behind_equals, captures, capture, other_action, brace, recipe_line, deepest}
 use Rattle.pm_recipe.specs.Spans.{newlines}
-use Rattle.pm_recipe.specs.Words.{belongs, IsRun, IsLine, AreBlanks, IsName, AreJoins, in_line, in_join}
-use Rattle.pm_recipe.specs.Spells.{IsRest, IsGap, IsMarked, IsWhole, IsOpened, IsNamed, IsSetting, IsCapture, IsLoneName, IsColonLine, IsSkipped, Spells}
-use Rattle.pm_recipe.specs.Spells.IsGap.{Space, Join, Comment}
+use Rattle.pm_recipe.specs.Words.{belongs, IsRun, IsLine, AreBlanks, IsName, AreJoins, in_line, in_join, IsRest}
 use Rattle.pm_recipe.proofs.Runs.{run, run-length, not_not}
 
 pub equal : (a b : ℕ) → nat_eq a b ≡ true → a ≡ b

@@ -6,5 +6,10 @@ pub mod Trim
 pub mod Digits
 pub mod Runs
 pub mod Forms
+pub mod WordRuns
+pub mod Quoted
+pub mod Worded
+pub mod Taking
 pub mod Shapes
 pub mod Pieces
+pub mod OneCut

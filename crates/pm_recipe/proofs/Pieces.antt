@@ -7,7 +7,7 @@ use Rattle.pm_recipe.specs.Spans.{span_of, spans, line_past, newlines, situation
 use Rattle.pm_recipe.specs.Build.{rc_of, tree_of_spans}
 use Rattle.pm_recipe.specs.Spells.{Piece, IsCut, pieces, pieces_of, end_of, tree_of_pieces, Spells}
 use Rattle.pm_recipe.proofs.Cut.{line-newlines}
-use Rattle.pm_recipe.proofs.Shapes.{Stands, front-stands}
+use Rattle.pm_recipe.proofs.Shapes.{front-stands, front-spells}
 
 -- the spans of a text are those of its pieces
 spans-pieces : (skip line : ℕ) (situation : Situation) (text : List ℕ)
@@ -45,7 +45,7 @@ cut-behind zero line situation (byte ∷ bytes) =
     (cut-behind (front.taken - 1) (line_past byte line) (situation_after front.kind line situation) bytes)) in
     let some : 0 < length (take front.taken (byte ∷ bytes)) = subst (λ xs. 0 < length xs) starts (omega arith) in
     subst (λ n. IsCut n situation (pieces zero line situation (byte ∷ bytes)) (byte ∷ bytes)) here
-    (drop front.taken (byte ∷ bytes), sym (take-append-drop front.taken (byte ∷ bytes)), refl, some, stands.1, more)
+    (drop front.taken (byte ∷ bytes), sym (take-append-drop front.taken (byte ∷ bytes)), refl, some, front-spells situation (byte ∷ bytes) front refl stands, more)
 
 pub cut-text : (text : List ℕ) → IsCut 1 start (pieces_of text) text
 cut-text text = cut-behind 0 1 start text

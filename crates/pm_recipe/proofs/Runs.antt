@@ -22,7 +22,7 @@ none-of false true false = refl
 none-of false false true = refl
 none-of false false false = refl
 
-once : (byte : ℕ) (x y : Bool) → ((nat_eq byte BACKSLASH && x) && not (y && nat_eq byte NEWLINE)) ≡ (nat_eq byte BACKSLASH && x)
+pub once : (byte : ℕ) (x y : Bool) → ((nat_eq byte BACKSLASH && x) && not (y && nat_eq byte NEWLINE)) ≡ (nat_eq byte BACKSLASH && x)
 once byte x y = grind (arith, nat_tests)
 
 module _ (place : Place) (allowed : ℕ → Bool) (joins : joins_at place ≡ true) (stays : (byte : ℕ) → place_after place byte ≡ place)

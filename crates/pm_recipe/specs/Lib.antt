@@ -13,4 +13,5 @@ pub mod Build
 pub mod Builder
 pub mod Refusal
 pub mod Words
+pub mod Quotes
 pub mod Spells

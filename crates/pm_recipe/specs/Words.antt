@@ -1,10 +1,11 @@
 -- Runs of bytes in the words of the language: names, blanks and lines, with joins in them.
-use Rattle.std.specs.Prelude.{ℕ, List, [], ◌∷◌, ◌++◌, ◌≡◌, nat_eq, Bool, true, false, not, ◌&&◌, ◌||◌}
+use Rattle.std.specs.Prelude.{ℕ, List, [], ◌∷◌, ◌++◌, ◌≡◌, nat_eq, if◌then◌else◌, Bool, true, false, not, ◌&&◌, ◌||◌}
 use Rattle.pm_bytes.specs.Letter.{is_blank_byte}
 use Rattle.pm_recipe.specs.Bytes.{is_name_byte}
 use Rattle.pm_recipe.specs.Joins.{is_join}
+use Rattle.pm_recipe.specs.Front.{ends_line}
 use Rattle.pm_recipe.specs.Spans.{newlines}
-use Rattle.pm_recipe.specs.declared.bytes.TheConstants.{NEWLINE, BACKSLASH}
+use Rattle.pm_recipe.specs.declared.bytes.TheConstants.{NEWLINE, BACKSLASH, COLON, HASH}
 
 -- a byte is allowed, or is the backslash or the newline of a join
 abbrev pub belongs : (ℕ → Bool) → ℕ → ℕ → List ℕ → Bool
@@ -36,3 +37,36 @@ IsName text behind = IsRun is_name_byte 0 text behind
 
 abbrev pub AreJoins : ℕ → List ℕ → List ℕ → Type 0
 AreJoins before text behind = IsRun in_join before text behind
+
+-- whether a byte is one of a join
+abbrev pub joins : ℕ → ℕ → List ℕ → Bool
+joins before byte bytes = is_join byte bytes || (nat_eq before BACKSLASH && nat_eq byte NEWLINE)
+
+-- a run of words, in which it counts whether a word can begin: behind a blank, joins apart
+abbrev pub AreWords : (Bool → ℕ → Bool) → Bool → ℕ → List ℕ → List ℕ → Type 0
+AreWords allowed fresh before [] [] = Unit {0}
+AreWords allowed fresh before [] (byte ∷ bytes) = belongs (allowed fresh) before byte bytes ≡ false
+AreWords allowed fresh before (byte ∷ text) behind =
+    (belongs (allowed fresh) before byte (text ++ behind) ≡ true)
+    × AreWords allowed (if joins before byte (text ++ behind) then fresh else is_blank_byte byte) byte text behind
+
+-- among flags: any byte but a newline, a colon, and a `#` that begins a word
+abbrev pub in_flags : Bool → ℕ → Bool
+in_flags fresh byte = not (nat_eq byte NEWLINE || nat_eq byte COLON || (fresh && nat_eq byte HASH))
+
+-- in a text to a line's end: any byte but a newline, and a `#` that begins a word
+abbrev pub in_words : Bool → ℕ → Bool
+in_words fresh byte = not (nat_eq byte NEWLINE || (fresh && nat_eq byte HASH))
+
+-- the rest of a line, up to its newline as written
+pub record IsRest (text : List ℕ) (behind : List ℕ) : Type 0 where
+  pub inside : newlines text ≡ 0
+  pub ends : ends_line behind ≡ true
+
+-- words, and then a comment or nothing, to a line's end
+pub record IsTail (fresh : Bool) (before : ℕ) (text : List ℕ) (behind : List ℕ) : Type 0 where
+  pub words : List ℕ
+  pub comment : List ℕ
+  pub text_is : text ≡ words ++ comment
+  pub worded : AreWords in_words fresh before words (comment ++ behind)
+  pub rest : IsRest comment behind

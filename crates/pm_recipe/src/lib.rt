@@ -20,7 +20,7 @@ mod reader;
 mod tests;
 mod tree;
 
-pub use laws::spans_cut;
+pub use laws::{one_cut, spans_cut};
 pub use reader::{RcRefused, read_rc, spans_cover};
 pub use tree::{
     Action, Condition, Flags, Rc, Recipe, Statement, Statements, Weight, copy_statements,
