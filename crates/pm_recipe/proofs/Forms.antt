@@ -1,22 +1,17 @@
 -- What stands at the front of a text spells its kind.
-use Rattle.std.proofs.Common.{◌≡◌, ◌+◌, ◌-◌, ◌<◌, ◌≤◌, ℕ, zero, suc, Bool, true, false, not, ◌&&◌, ◌||◌, cond, nat_eq, nat_le, nat_lt, List, [], ◌∷◌, ◌++◌, refl, ap, sym, ◌∙◌, length, take, drop, arith, subst, slice_range}
-use Rattle.std.proofs.lemmas.List.{take-append-drop, drop-drop, take_all, drop_all}
+use Rattle.std.proofs.Common.{◌≡◌, ◌+◌, ◌≤◌, ℕ, zero, suc, Bool, true, false, not, ◌&&◌, ◌||◌, cond, nat_eq, List, [], ◌∷◌, ◌++◌, refl, ap, sym, ◌∙◌, length, take, drop, arith, subst}
 use Rattle.std.proofs.lemmas.Bool.{cond_both}
 use Rattle.std.proofs.lemmas.Bool.Decides.{nat_tests}
 use Rattle.pm_bytes.specs.Letter.{is_blank_byte}
-use Rattle.pm_recipe.specs.Bytes.{begins_with, is_space, is_name_start, is_name_byte}
-use Rattle.pm_recipe.specs.declared.bytes.TheConstants.{NEWLINE, HASH, STAR, OPEN, CLOSE, COLON, EQUALS, BAR, BANG, BACKSLASH}
+use Rattle.pm_recipe.specs.Bytes.{begins_with, is_name_byte}
+use Rattle.pm_recipe.specs.declared.bytes.TheConstants.{NEWLINE, HASH}
 use Rattle.pm_recipe.specs.declared.places.Place.{Place}
 use Rattle.pm_recipe.specs.declared.places.Place.TheVariants as place
-use Rattle.pm_recipe.specs.declared.fronts.Front.{Front}
-use Rattle.pm_recipe.specs.declared.fronts.Situation.{Situation}
-use Rattle.pm_recipe.specs.declared.fronts.Kind.TheVariants as kind
-use Rattle.pm_recipe.specs.Places.{joins_at, ends_at, place_after, joins_before, place_behind, reach_of, far, behind}
-use Rattle.pm_recipe.specs.Colon.{word_length, is_unclosed, begins_recipe, has_lock, lock_part, behind_lock, behind_flags, behind_colon}
-use Rattle.pm_recipe.specs.Front.{front_of, piece, gap, line_front, skipped, unclosed, assignment, ends_name, behind_name, name_width, named, colon_front, statement_of, opens, ends_line, behind_equals, captures, capture, other_action, brace, recipe_line, deepest}
+use Rattle.pm_recipe.specs.Places.{ends_at, place_after, joins_before, place_behind, reach_of, far, behind}
+use Rattle.pm_recipe.specs.Front.{ends_line}
 use Rattle.pm_recipe.specs.Spans.{newlines}
-use Rattle.pm_recipe.specs.Words.{belongs, IsRun, IsLine, AreBlanks, IsName, AreJoins, in_line, in_join, IsRest}
-use Rattle.pm_recipe.proofs.Runs.{run, run-length, not_not}
+use Rattle.pm_recipe.specs.Words.{IsLine, AreBlanks, IsName, AreJoins, in_line, in_join, IsRest}
+use Rattle.pm_recipe.proofs.Runs.{run, not_not}
 
 pub equal : (a b : ℕ) → nat_eq a b ≡ true → a ≡ b
 equal a b h = grind (arith, nat_tests)

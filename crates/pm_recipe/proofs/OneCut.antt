@@ -1,7 +1,6 @@
 -- A text has one cut.
-use Rattle.std.proofs.Common.{◌≡◌, ◌+◌, ◌-◌, ◌<◌, ◌≤◌, ℕ, zero, suc, Bool, true, false, not, ◌&&◌, ◌||◌, cond, nat_eq, List, [], ◌∷◌, ◌++◌, refl, ap, sym, ◌∙◌, length, take, drop, arith, subst, slice_range}
+use Rattle.std.proofs.Common.{◌≡◌, ◌+◌, ◌-◌, ◌<◌, ℕ, zero, suc, false, List, [], ◌∷◌, ◌++◌, refl, ap, sym, ◌∙◌, length, take, drop, arith, subst, slice_range}
 use Rattle.std.proofs.lemmas.List.{take-append-drop, take_at, drop_at}
-use Rattle.pm_recipe.specs.declared.bytes.TheConstants.{CLOSE, COLON}
 use Rattle.pm_recipe.specs.declared.places.Place.TheVariants as place
 use Rattle.pm_recipe.specs.declared.fronts.Front.{Front}
 use Rattle.pm_recipe.specs.declared.fronts.Situation.{Situation}
@@ -9,10 +8,10 @@ use Rattle.pm_recipe.specs.declared.fronts.Kind.{Kind}
 use Rattle.pm_recipe.specs.declared.fronts.Kind.TheVariants as kind
 use Rattle.pm_recipe.specs.Places.{far}
 use Rattle.pm_recipe.specs.Front.{front_of}
-use Rattle.pm_recipe.specs.Spans.{Span, span_of, newlines, line_past, situation_after, start}
+use Rattle.pm_recipe.specs.Spans.{span_of, newlines, line_past, situation_after, start}
 use Rattle.pm_recipe.specs.Build.{rc_of}
-use Rattle.pm_recipe.specs.Words.{IsLine, IsRest, IsTail}
-use Rattle.pm_recipe.specs.Spells.{HasForm, HasNone, IsBroken, IsSkipped, IsMailbox, IsJunk, goes_on, Spells, Piece, IsCut, pieces, pieces_of, tree_of_pieces}
+use Rattle.pm_recipe.specs.Words.{IsLine}
+use Rattle.pm_recipe.specs.Spells.{HasNone, IsBroken, IsSkipped, IsMailbox, IsJunk, goes_on, Spells, Piece, IsCut, pieces, pieces_of, tree_of_pieces}
 use Rattle.pm_recipe.specs.Spells.IsSkipped.{Broken, Other}
 use Rattle.pm_recipe.proofs.Cut.{line-newlines}
 use Rattle.pm_recipe.proofs.WordRuns.{rest-length, tail-length, true-false}

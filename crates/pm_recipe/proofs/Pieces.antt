@@ -1,11 +1,11 @@
 -- The pieces of a text are a cut of it, and their spans are the text's.
-use Rattle.std.proofs.Common.{◌≡◌, ◌+◌, ◌-◌, ◌<◌, ℕ, zero, suc, cond, nat_eq, Bool, true, false, List, [], ◌∷◌, ◌++◌, refl, ap, sym, ◌∙◌, length, take, drop, map, arith, subst}
+use Rattle.std.proofs.Common.{◌≡◌, ◌+◌, ◌-◌, ◌<◌, ℕ, zero, suc, List, [], ◌∷◌, ◌++◌, refl, ap, sym, ◌∙◌, length, take, drop, map, arith, subst}
 use Rattle.std.proofs.lemmas.List.{take-append-drop}
 use Rattle.pm_recipe.specs.declared.fronts.Situation.{Situation}
 use Rattle.pm_recipe.specs.Front.{front_of}
 use Rattle.pm_recipe.specs.Spans.{span_of, spans, line_past, newlines, situation_after, closings, start}
 use Rattle.pm_recipe.specs.Build.{rc_of, tree_of_spans}
-use Rattle.pm_recipe.specs.Spells.{Piece, IsCut, pieces, pieces_of, end_of, tree_of_pieces, Spells}
+use Rattle.pm_recipe.specs.Spells.{IsCut, pieces, pieces_of, end_of, tree_of_pieces}
 use Rattle.pm_recipe.proofs.Cut.{line-newlines}
 use Rattle.pm_recipe.proofs.Shapes.{front-stands, front-spells}
 

@@ -1,15 +1,12 @@
 -- A reader of words comes as far as a word goes, and no quote is open there.
-use Rattle.std.proofs.Common.{◌≡◌, ◌+◌, ℕ, zero, suc, Bool, true, false, not, ◌&&◌, ◌||◌, cond, nat_eq, List, [], ◌∷◌, ◌++◌, refl, ap, sym, ◌∙◌, length, arith, subst, ◌⊎◌, inl, inr}
-use Rattle.std.proofs.lemmas.Bool.{cond_both}
-use Rattle.std.proofs.lemmas.Bool.Decides.{nat_tests}
+use Rattle.std.proofs.Common.{◌≡◌, ◌+◌, ℕ, Bool, true, false, not, ◌&&◌, cond, nat_eq, List, [], ◌∷◌, ◌++◌, refl, ap, sym, ◌∙◌, length, arith, subst}
 use Rattle.pm_recipe.specs.Bytes.{begins_with, is_space}
-use Rattle.pm_recipe.specs.declared.bytes.TheConstants.{HASH, SINGLE, DOUBLE, BACKQUOTE, BACKSLASH}
+use Rattle.pm_recipe.specs.declared.bytes.TheConstants.{SINGLE, DOUBLE, BACKQUOTE, BACKSLASH}
 use Rattle.pm_recipe.specs.declared.places.Place.{Place}
 use Rattle.pm_recipe.specs.declared.places.Place.TheVariants as place
-use Rattle.pm_recipe.specs.Places.{joins_at, ends_at, place_after, joins_before, place_behind, reach_of, rest_of, is_quote, far}
-use Rattle.pm_recipe.specs.Front.{ends_name}
-use Rattle.pm_recipe.specs.Quotes.{Mark, Inner, Part, marks_text, inners_text, word_text, are_marks, are_inners, are_single, are_parts, IsWord}
-use Rattle.pm_recipe.proofs.Forms.{equal, and-left, and-right, no}
+use Rattle.pm_recipe.specs.Places.{joins_at, ends_at, place_after, joins_before, reach_of, rest_of}
+use Rattle.pm_recipe.specs.Quotes.{Mark, Inner, Part, marks_text, inners_text, word_text, are_marks, are_inners, are_single, are_parts}
+use Rattle.pm_recipe.proofs.Forms.{equal, and-left, and-right}
 
 -- from one place at a text a reader comes to another at the rest of it
 pub record Goes (first : Place) (text : List ℕ) (second : Place) (rest : List ℕ) : Type 0 where

@@ -1,33 +1,31 @@
 -- What stands at the front of a text is spelled as its kind is.
 use Rattle.std.proofs.Common.{◌≡◌, ◌+◌, ◌-◌, ◌<◌, ◌≤◌, ℕ, zero, suc, Bool, true, false, not, ◌&&◌, ◌||◌, cond, nat_eq, nat_le, nat_lt, List, [], ◌∷◌, ◌++◌, refl, ap, sym, ◌∙◌, length, take, drop, arith, subst, slice_range, length-drop}
-use Rattle.std.proofs.lemmas.List.{take-append-drop, drop-drop, take_at, drop_at, length-append, append_assoc, append-nil, length-take-le, take_all, drop_all}
-use Rattle.std.proofs.lemmas.Bool.{cond_both, cond-true, cond-false}
+use Rattle.std.proofs.lemmas.List.{take-append-drop, drop-drop, drop_at, take_all, drop_all}
+use Rattle.std.proofs.lemmas.Bool.{cond_both}
 use Rattle.std.proofs.lemmas.Bool.Decides.{nat_tests}
 use Rattle.pm_bytes.specs.Letter.{is_blank_byte}
 use Rattle.pm_recipe.specs.Bytes.{begins_with, is_space, is_name_start, is_name_byte, is_digit}
 use Rattle.pm_recipe.specs.declared.bytes.TheConstants.{NEWLINE, HASH, STAR, OPEN, CLOSE, COLON, EQUALS, BAR, BANG, BACKSLASH}
-use Rattle.pm_recipe.specs.declared.places.Place.{Place}
 use Rattle.pm_recipe.specs.declared.places.Place.TheVariants as place
 use Rattle.pm_recipe.specs.declared.fronts.Front.{Front}
 use Rattle.pm_recipe.specs.declared.fronts.Situation.{Situation}
 use Rattle.pm_recipe.specs.declared.fronts.Kind.{Kind}
 use Rattle.pm_recipe.specs.declared.fronts.Kind.TheVariants as kind
-use Rattle.pm_recipe.specs.Places.{joins_at, ends_at, place_after, joins_before, place_behind, reach_of, far, behind}
-use Rattle.pm_recipe.specs.Colon.{word_length, is_unclosed, begins_recipe, has_lock, lock_part, behind_lock, behind_zero, behind_flags, behind_colon}
-use Rattle.pm_recipe.specs.Front.{front_of, piece, gap, line_front, skipped, unclosed, assignment, ends_name, behind_name, name_width, named, colon_front, statement_of, opens, ends_line, behind_equals, captures, capture, other_action, brace, recipe_line, deepest}
-use Rattle.pm_recipe.specs.Spans.{newlines}
-use Rattle.pm_recipe.specs.Words.{belongs, IsRun, IsLine, AreBlanks, IsName, AreJoins, in_line, in_join, AreWords, in_flags, IsRest, IsTail}
+use Rattle.pm_recipe.specs.Places.{reach_of, far, behind}
+use Rattle.pm_recipe.specs.Colon.{word_length, is_unclosed, begins_recipe, has_lock, lock_part, behind_lock, behind_flags, behind_colon}
+use Rattle.pm_recipe.specs.Front.{front_of, piece, gap, line_front, ends_name, behind_name, name_width, named, statement_of, opens, ends_line, behind_equals, captures, capture, brace, recipe_line, deepest}
+use Rattle.pm_recipe.specs.Words.{belongs, IsRun, IsLine, AreBlanks, IsName, AreJoins, in_line}
 use Rattle.pm_recipe.specs.Quotes.{IsValue}
-use Rattle.pm_recipe.specs.Spells.{IsGap, IsMarked, IsOpened, IsNamed, IsSet, IsSetting, IsCapture, IsLoneName, IsHead, IsLockHead, IsColonLine, HasForm, HasNone, IsBroken, IsUnclosed, IsSkipped, IsMailbox, IsJunk, goes_on, Spells}
+use Rattle.pm_recipe.specs.Spells.{IsGap, IsMarked, IsOpened, IsNamed, IsSet, IsHead, IsLockHead, IsColonLine, HasForm, HasNone, IsBroken, IsUnclosed, IsMailbox, IsJunk, Spells}
 use Rattle.pm_recipe.specs.Spells.IsBroken.{Value, Lock}
 use Rattle.pm_recipe.specs.Spells.IsSkipped.{Broken, Other}
 use Rattle.pm_recipe.specs.Spells.IsGap.{Space, Join, Comment}
 use Rattle.pm_recipe.specs.Spells.IsColonLine.{Plain, Locked}
-use Rattle.pm_recipe.proofs.Runs.{run, run-length, not_not, go}
+use Rattle.pm_recipe.proofs.Runs.{run, not_not, go}
 use Rattle.pm_recipe.proofs.WordRuns.{flags-run, tail-run, true-false, line-ends}
 use Rattle.pm_recipe.proofs.Worded.{value-read, read-value}
-use Rattle.pm_recipe.proofs.Forms.{equal, and-left, and-right, no, line-run, blanks-run, name-run, joins-run, take-add, begins-cons, three, rest-run, within}
-use Rattle.pm_recipe.proofs.Taking.{Takes, taken, known, known-head, to-value, other-name, blanks-are, blanks-far, line-far}
+use Rattle.pm_recipe.proofs.Forms.{equal, and-left, and-right, line-run, blanks-run, name-run, joins-run, begins-cons, three, rest-run}
+use Rattle.pm_recipe.proofs.Taking.{taken, known, known-head, to-value, other-name, blanks-are, blanks-far}
 
 -- what a span is apart from what has no form
 abbrev pub Shape : Situation → Kind → List ℕ → List ℕ → List ℕ → List ℕ → Type 0

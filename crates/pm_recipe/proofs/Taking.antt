@@ -1,30 +1,27 @@
 -- What has a form of the language is what stands at the front of the text.
-use Rattle.std.proofs.Common.{◌≡◌, ◌+◌, ◌-◌, ◌<◌, ◌≤◌, ℕ, zero, suc, Bool, true, false, not, ◌&&◌, ◌||◌, cond, nat_eq, nat_le, nat_lt, List, [], ◌∷◌, ◌++◌, refl, ap, sym, ◌∙◌, length, take, drop, arith, subst, slice_range, length-drop}
-use Rattle.std.proofs.lemmas.List.{take-append-drop, drop-drop, take_at, drop_at, length-append, append_assoc, append-nil, length-take-le}
-use Rattle.std.proofs.lemmas.Bool.{cond_both, cond-true, cond-false}
+use Rattle.std.proofs.Common.{◌≡◌, ◌+◌, ◌-◌, ◌<◌, ◌≤◌, ℕ, suc, Bool, true, false, not, ◌&&◌, ◌||◌, cond, nat_eq, nat_le, nat_lt, List, [], ◌∷◌, ◌++◌, refl, ap, sym, ◌∙◌, length, take, drop, arith, subst, slice_range}
+use Rattle.std.proofs.lemmas.List.{take-append-drop, drop-drop, take_at, drop_at, length-append, append-nil, length-take-le}
+use Rattle.std.proofs.lemmas.Bool.{cond-true, cond-false}
 use Rattle.std.proofs.lemmas.Bool.Decides.{nat_tests}
 use Rattle.pm_bytes.specs.Letter.{is_blank_byte}
-use Rattle.pm_recipe.specs.Bytes.{begins_with, is_space, is_name_start, is_name_byte, is_digit}
+use Rattle.pm_recipe.specs.Bytes.{begins_with, is_space, is_name_start, is_name_byte}
 use Rattle.pm_recipe.specs.declared.bytes.TheConstants.{NEWLINE, HASH, STAR, OPEN, CLOSE, COLON, EQUALS, BAR, BANG, BACKSLASH}
-use Rattle.pm_recipe.specs.declared.places.Place.{Place}
 use Rattle.pm_recipe.specs.declared.places.Place.TheVariants as place
 use Rattle.pm_recipe.specs.declared.fronts.Front.{Front}
 use Rattle.pm_recipe.specs.declared.fronts.Situation.{Situation}
 use Rattle.pm_recipe.specs.declared.fronts.Kind.{Kind}
 use Rattle.pm_recipe.specs.declared.fronts.Kind.TheVariants as kind
-use Rattle.pm_recipe.specs.Places.{joins_at, ends_at, place_after, joins_before, place_behind, reach_of, far, behind}
-use Rattle.pm_recipe.specs.Colon.{word_length, is_unclosed, begins_recipe, has_lock, lock_part, behind_lock, behind_zero, behind_flags, behind_colon}
-use Rattle.pm_recipe.specs.Front.{front_of, piece, gap, line_front, skipped, unclosed, assignment, ends_name, behind_name, name_width, named, colon_front, statement_of, opens, ends_line, behind_equals, captures, capture, other_action, brace, recipe_line, deepest}
-use Rattle.pm_recipe.specs.Spans.{newlines}
-use Rattle.pm_recipe.specs.Words.{belongs, IsRun, IsLine, AreBlanks, IsName, AreJoins, in_line, in_join, AreWords, in_flags, IsRest, IsTail}
-use Rattle.pm_recipe.specs.Quotes.{IsValue}
-use Rattle.pm_recipe.specs.Spells.{IsGap, IsMarked, IsOpened, IsNamed, IsSet, IsSetting, IsCapture, IsLoneName, IsHead, IsLockHead, IsColonLine, HasForm}
+use Rattle.pm_recipe.specs.Places.{far, behind}
+use Rattle.pm_recipe.specs.Colon.{word_length, is_unclosed, begins_recipe, has_lock, lock_part, behind_lock, behind_flags, behind_colon}
+use Rattle.pm_recipe.specs.Front.{front_of, piece, gap, line_front, ends_name, behind_name, name_width, named, colon_front, opens, ends_line, behind_equals, captures, capture, brace, deepest}
+use Rattle.pm_recipe.specs.Words.{belongs, IsLine, AreBlanks, IsName, AreJoins, in_line, in_join}
+use Rattle.pm_recipe.specs.Spells.{IsGap, IsMarked, IsOpened, IsNamed, IsSet, IsSetting, IsCapture, IsLoneName, IsHead, IsColonLine, HasForm}
 use Rattle.pm_recipe.specs.Spells.IsGap.{Space, Join, Comment}
 use Rattle.pm_recipe.specs.Spells.IsColonLine.{Plain, Locked}
-use Rattle.pm_recipe.proofs.Runs.{run, run-length, not_not}
-use Rattle.pm_recipe.proofs.WordRuns.{flags-length, rest-length, tail-length, line-ends, true-false, not-allowed}
+use Rattle.pm_recipe.proofs.Runs.{run-length, not_not}
+use Rattle.pm_recipe.proofs.WordRuns.{flags-length, rest-length, tail-length, line-ends, true-false}
 use Rattle.pm_recipe.proofs.Worded.{value-read}
-use Rattle.pm_recipe.proofs.Forms.{equal, and-left, and-right, no, line-run, blanks-run, within}
+use Rattle.pm_recipe.proofs.Forms.{equal, no, blanks-run, within}
 
 -- a front takes these bytes of a text, with this name and text
 pub record Takes (front : Front) (kind : Kind) (name : List ℕ) (text : List ℕ) (bytes : List ℕ) (whole : List ℕ) : Type 0 where

@@ -1,19 +1,17 @@
 -- A reader of flags, or of a text to a line's end, comes as far as the words go.
-use Rattle.std.proofs.Common.{◌≡◌, ◌+◌, ℕ, zero, suc, Bool, true, false, not, ◌&&◌, ◌||◌, cond, nat_eq, List, [], ◌∷◌, ◌++◌, refl, ap, sym, ◌∙◌, length, take, drop, arith, subst}
+use Rattle.std.proofs.Common.{◌≡◌, ◌+◌, ℕ, suc, Bool, true, false, not, ◌&&◌, ◌||◌, cond, nat_eq, List, [], ◌∷◌, ◌++◌, refl, ap, sym, ◌∙◌, length, take, drop, arith, subst}
 use Rattle.std.proofs.lemmas.List.{take-append-drop, append_assoc, length-append}
-use Rattle.std.proofs.lemmas.Bool.{cond_both}
-use Rattle.std.proofs.lemmas.Bool.Decides.{nat_tests}
 use Rattle.pm_bytes.specs.Letter.{is_blank_byte}
 use Rattle.pm_recipe.specs.declared.bytes.TheConstants.{NEWLINE, BACKSLASH, COLON, HASH}
 use Rattle.pm_recipe.specs.declared.places.Place.{Place}
 use Rattle.pm_recipe.specs.declared.places.Place.TheVariants as place
 use Rattle.pm_recipe.specs.Bytes.{begins_with}
-use Rattle.pm_recipe.specs.Places.{joins_at, ends_at, place_after, joins_before, place_behind, reach_of, far}
+use Rattle.pm_recipe.specs.Places.{joins_at, ends_at, place_after, joins_before, reach_of, far}
 use Rattle.pm_recipe.specs.Front.{ends_line}
 use Rattle.pm_recipe.specs.Spans.{newlines}
-use Rattle.pm_recipe.specs.Words.{belongs, IsRun, IsLine, AreWords, joins, in_flags, in_words, in_line, IsRest, IsTail}
+use Rattle.pm_recipe.specs.Words.{belongs, IsLine, AreWords, joins, in_flags, in_words, in_line, IsRest, IsTail}
 use Rattle.pm_recipe.proofs.Runs.{once, not_not}
-use Rattle.pm_recipe.proofs.Forms.{equal, and-left, and-right, no, rest-run}
+use Rattle.pm_recipe.proofs.Forms.{equal, no, rest-run}
 
 pub true-false : {A : Type 0} → true ≡ false → A
 true-false h = absurd (grind arith)

@@ -1,19 +1,18 @@
 -- Where no quote is left open, what a reader of words reads is a word.
-use Rattle.std.proofs.Common.{◌≡◌, ◌+◌, ◌≤◌, ℕ, zero, suc, Bool, true, false, not, ◌&&◌, ◌||◌, cond, nat_eq, List, [], ◌∷◌, ◌++◌, refl, ap, sym, ◌∙◌, length, take, drop, arith, subst, ◌⊎◌, inl, inr}
-use Rattle.std.proofs.lemmas.Bool.{cond_both}
+use Rattle.std.proofs.Common.{◌≡◌, ◌+◌, ℕ, Bool, true, false, not, ◌&&◌, cond, nat_eq, List, [], ◌∷◌, ◌++◌, refl, ap, sym, ◌∙◌, length, take, drop, arith, subst, ◌⊎◌, inl, inr}
 use Rattle.std.proofs.lemmas.Bool.Decides.{nat_tests}
 use Rattle.std.proofs.lemmas.List.{take_at, drop_at, length-append, append_assoc, take-append-drop}
 use Rattle.pm_recipe.specs.Bytes.{begins_with, is_space}
 use Rattle.pm_recipe.specs.declared.bytes.TheConstants.{HASH, SINGLE, DOUBLE, BACKQUOTE, BACKSLASH}
 use Rattle.pm_recipe.specs.declared.places.Place.{Place}
 use Rattle.pm_recipe.specs.declared.places.Place.TheVariants as place
-use Rattle.pm_recipe.specs.Places.{joins_at, ends_at, place_after, joins_before, place_behind, reach_of, rest_of, is_quote, far}
+use Rattle.pm_recipe.specs.Places.{joins_before, place_behind, reach_of, rest_of, is_quote, far}
 use Rattle.pm_recipe.specs.Colon.{word_length, is_unclosed}
 use Rattle.pm_recipe.specs.Front.{ends_name}
 use Rattle.pm_recipe.specs.Quotes.{Mark, Inner, Part, marks_text, inners_text, word_text, are_marks, are_inners, are_single, are_parts, IsWord, IsValue}
 use Rattle.pm_recipe.specs.Quotes.IsValue.{Empty, Word}
-use Rattle.pm_recipe.proofs.Forms.{equal, and-left, and-right, no}
-use Rattle.pm_recipe.proofs.Quoted.{Goes, on, byte-on, taken-on, plain-on, double-plain-on, word-on, is-false}
+use Rattle.pm_recipe.proofs.Forms.{equal}
+use Rattle.pm_recipe.proofs.Quoted.{taken-on, plain-on, double-plain-on, word-on}
 
 -- a text that a word begins
 pub record Reads (text : List ℕ) : Type 0 where

@@ -1,5 +1,5 @@
 -- A word of an rcfile in the words of the language: bytes, bytes behind a backslash, and quotes.
-use Rattle.std.specs.Prelude.{ℕ, List, [], ◌∷◌, ◌++◌, ◌≡◌, nat_eq, Bool, true, false, not, ◌&&◌, ◌||◌, ◌⊎◌}
+use Rattle.std.specs.Prelude.{ℕ, List, [], ◌∷◌, ◌++◌, ◌≡◌, nat_eq, Bool, true, false, not, ◌&&◌, ◌⊎◌}
 use Rattle.pm_recipe.specs.Bytes.{begins_with, is_space}
 use Rattle.pm_recipe.specs.Front.{ends_name}
 use Rattle.pm_recipe.specs.declared.bytes.TheConstants.{HASH, SINGLE, DOUBLE, BACKQUOTE, BACKSLASH}

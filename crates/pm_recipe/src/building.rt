@@ -302,6 +302,83 @@ impl Builder {
         self.put(Statement::Defect { line, text })
     }
 
+    /// A mailbox as the action.
+    fn end_mailbox(&mut self, text: &[u8]) -> Result<(), Memory>
+        ensures levels { self.new.levels.items ≡ self.old.levels.items }
+        ensures begun { IfOk result (λ _. self.new.begun ≡ None) }
+        ensures joins { IfOk result (λ _. (lists : List Trees) → joins self.new lists
+            ≡ joins self.old (settled (begun_of self.old.begun) (acts (Act.Mailbox (unjoined text.now)) lists))) }
+    {
+        let text = without_joins(self.alloc, text)?;
+        self.end_recipe(Action::Mailbox(text))?;
+        Ok(())
+    }
+
+    /// A forward as the action.
+    fn end_forward(&mut self, text: &[u8]) -> Result<(), Memory>
+        ensures levels { self.new.levels.items ≡ self.old.levels.items }
+        ensures begun { IfOk result (λ _. self.new.begun ≡ None) }
+        ensures joins { IfOk result (λ _. (lists : List Trees) → joins self.new lists
+            ≡ joins self.old (settled (begun_of self.old.begun) (acts (Act.Forward (unjoined text.now)) lists))) }
+    {
+        let text = without_joins(self.alloc, text)?;
+        self.end_recipe(Action::Forward(text))?;
+        Ok(())
+    }
+
+    /// A pipe as the action.
+    fn end_pipe(&mut self, text: &[u8]) -> Result<(), Memory>
+        ensures levels { self.new.levels.items ≡ self.old.levels.items }
+        ensures begun { IfOk result (λ _. self.new.begun ≡ None) }
+        ensures joins { IfOk result (λ _. (lists : List Trees) → joins self.new lists
+            ≡ joins self.old (settled (begun_of self.old.begun) (acts (Act.Pipe (program_line text.now)) lists))) }
+    {
+        let line = read_program(self.alloc, text)?;
+        self.end_recipe(Action::Pipe(line))?;
+        Ok(())
+    }
+
+    /// A capture as the action.
+    fn end_capture(&mut self, name: &[u8], text: &[u8]) -> Result<(), Memory>
+        ensures levels { self.new.levels.items ≡ self.old.levels.items }
+        ensures begun { IfOk result (λ _. self.new.begun ≡ None) }
+        ensures joins { IfOk result (λ _. (lists : List Trees) → joins self.new lists
+            ≡ joins self.old (settled (begun_of self.old.begun) (acts (Act.Capture (unjoined name.now) (program_line text.now)) lists))) }
+    {
+        let name = without_joins(self.alloc, name)?;
+        let line = read_program(self.alloc, text)?;
+        self.end_recipe(Action::Capture { name, line })?;
+        Ok(())
+    }
+
+    /// The recipe that has begun opens a block.
+    fn open_begun(&mut self) -> Result<(), Memory>
+        requires { IsSome self.old.begun }
+        ensures levels { IfOk result (λ _. length self.new.levels.items ≡ length self.old.levels.items + 1) }
+        ensures begun { self.new.begun ≡ None }
+        ensures joins { IfOk result (λ _. (lists : List Trees) → joins self.new lists
+            ≡ joins self.old (settled (begun_of self.old.begun) (acts (Act.Block (first lists)) (others lists)))) }
+    {
+        match self.begun.take() {
+            None => unreachable!(),
+            Some(begun) => self.open(begun),
+        }
+    }
+
+    /// The innermost block ends.
+    fn close_innermost(&mut self) -> Result<(), Memory>
+        requires block { 0 < length self.old.levels.items }
+        requires begun { self.old.begun ≡ None }
+        ensures levels { IfOk result (λ _. length self.new.levels.items + 1 ≡ length self.old.levels.items) }
+        ensures begun { self.new.begun ≡ None }
+        ensures joins { IfOk result (λ _. (lists : List Trees) → joins self.new lists ≡ joins self.old (nil ∷ lists)) }
+    {
+        match self.levels.pop_front() {
+            None => unreachable!(),
+            Some(level) => self.close(level),
+        }
+    }
+
     /// The span that stands in front.
     pub fn take(&mut self, kind: Kind, line: u64, name: &[u8], text: &[u8]) -> Result<(), Memory>
         requires begun { kind ≡ Kind.Open → IsSome self.old.begun }
@@ -313,35 +390,16 @@ impl Builder {
         match kind {
             Kind::Gap => Ok(()),
             Kind::Condition => self.condition(text),
-            Kind::Mailbox => {
-                let text = without_joins(self.alloc, text)?;
-                self.end_recipe(Action::Mailbox(text))
-            }
-            Kind::Pipe => {
-                let line = read_program(self.alloc, text)?;
-                self.end_recipe(Action::Pipe(line))
-            }
-            Kind::Capture => {
-                let name = without_joins(self.alloc, name)?;
-                let line = read_program(self.alloc, text)?;
-                self.end_recipe(Action::Capture { name, line })
-            }
-            Kind::Forward => {
-                let text = without_joins(self.alloc, text)?;
-                self.end_recipe(Action::Forward(text))
-            }
+            Kind::Mailbox => self.end_mailbox(text),
+            Kind::Pipe => self.end_pipe(text),
+            Kind::Capture => self.end_capture(name, text),
+            Kind::Forward => self.end_forward(text),
             Kind::WriteOut => self.end_recipe(Action::WriteOut),
-            Kind::Open => match self.begun.take() {
-                None => unreachable!(),
-                Some(begun) => self.open(begun),
-            },
+            Kind::Open => self.open_begun(),
             Kind::TooDeep => self.fail_recipe(line, text),
             Kind::Close => {
                 self.give_up()?;
-                match self.levels.pop_front() {
-                    None => unreachable!(),
-                    Some(level) => self.close(level),
-                }
+                self.close_innermost()
             }
             Kind::Colon => {
                 self.give_up()?;
