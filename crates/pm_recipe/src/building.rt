@@ -5,7 +5,7 @@ ghost use Rattle.pm_recipe.specs.Tree.{Trees, nil};
 ghost use Rattle.pm_recipe.specs.View.{tree_of, act_of};
 ghost use Rattle.pm_recipe.specs.Joins.{unjoined};
 ghost use Rattle.pm_recipe.specs.Weights.{condition_of};
-ghost use Rattle.pm_recipe.specs.Build.{Ahead, put, recipe_of, ended, top_of, head_of, missing, with_condition, with_junk, first, others, program_line, acts, fails};
+ghost use Rattle.pm_recipe.specs.Build.{Ahead, put, recipe_of, ended, top_of, head_of, missing, with_condition, with_junk, first, others, program_line, acts, fails, plain};
 ghost use Rattle.pm_recipe.specs.Build.Ending.{Acts};
 ghost use Rattle.pm_recipe.specs.Builder.{built_of, begun_of, joins, joined, level_of, settled, whole, Suits};
 ghost use Rattle.pm_recipe.specs.Spans.{Span, situation_after};
@@ -367,16 +367,30 @@ impl Builder {
 
     /// The innermost block ends.
     fn close_innermost(&mut self) -> Result<(), Memory>
-        requires block { 0 < length self.old.levels.items }
-        requires begun { self.old.begun ≡ None }
+        requires { 0 < length self.old.levels.items }
         ensures levels { IfOk result (λ _. length self.new.levels.items + 1 ≡ length self.old.levels.items) }
         ensures begun { self.new.begun ≡ None }
-        ensures joins { IfOk result (λ _. (lists : List Trees) → joins self.new lists ≡ joins self.old (nil ∷ lists)) }
+        ensures joins { IfOk result (λ _. (lists : List Trees) → joins self.new lists
+            ≡ joins self.old (settled (begun_of self.old.begun) (plain (nil ∷ lists)))) }
     {
+        self.give_up()?;
         match self.levels.pop_front() {
             None => unreachable!(),
             Some(level) => self.close(level),
         }
+    }
+
+    /// The recipe of the next colon line begins.
+    fn begin_next(&mut self, line: u64, text: &[u8]) -> Result<(), Memory>
+        ensures levels { self.new.levels.items ≡ self.old.levels.items }
+        ensures begun { IfOk result (λ _. is_some self.new.begun ≡ true) }
+        ensures joins { IfOk result (λ _. (ahead : Ahead) → joins self.new (settled (begun_of self.new.begun) ahead)
+            ≡ joins self.old (settled (begun_of self.old.begun)
+            (plain (with_junk line text.now (put (recipe_of (head_of line text.now) [] ahead.recipe) ahead.lists))))) }
+    {
+        self.give_up()?;
+        self.begin(line, text)?;
+        Ok(())
     }
 
     /// The span that stands in front.
@@ -397,14 +411,8 @@ impl Builder {
             Kind::WriteOut => self.end_recipe(Action::WriteOut),
             Kind::Open => self.open_begun(),
             Kind::TooDeep => self.fail_recipe(line, text),
-            Kind::Close => {
-                self.give_up()?;
-                self.close_innermost()
-            }
-            Kind::Colon => {
-                self.give_up()?;
-                self.begin(line, text)
-            }
+            Kind::Close => self.close_innermost(),
+            Kind::Colon => self.begin_next(line, text),
             Kind::Assign => {
                 self.give_up()?;
                 self.assign(name, text)
