@@ -1,5 +1,5 @@
 -- A process is delivered only by done appends to all of a recipe's destinations.
-use Rattle.std.proofs.Common.{◌≡◌, ◌<◌, ℕ, zero, suc, Bool, true, false, not, List, [], ◌∷◌, ◌++◌, length, Option, Some, None, refl, sym, ap, ◌∙◌, subst, append_assoc, append-nil, arith}
+use Rattle.std.proofs.Common.{◌≡◌, ◌<◌, ℕ, zero, suc, Bool, true, false, not, List, [], ◌∷◌, ◌++◌, length, Option, Some, refl, sym, ap, ◌∙◌, subst, append_assoc, append-nil, arith}
 use Rattle.std.specs.Prelude.{if◌then◌else◌, codes, ◌||◌, bytes_eq}
 use Rattle.std.specs.List.{list_any}
 use Rattle.pm_bytes.specs.Path.{full_name}
@@ -7,7 +7,7 @@ use Rattle.pm_bytes.specs.declared.environment.Environ.{Environ}
 use Rattle.pm_host.specs.declared.answers.Looked.TheVariants.{Folder as LookedFolder}
 use Rattle.pm_message.specs.FromLine.{makes_line}
 use Rattle.pm_message.specs.Split.{split_of}
-use Rattle.pm_recipe.specs.Tree.{Top, Act as Action, Mailbox, Tree, Assign, Unset, Recipe, Defect}
+use Rattle.pm_recipe.specs.Tree.{Act as Action, Mailbox, Tree, Assign, Unset, Recipe, Defect}
 use Rattle.pm_recipe.specs.declared.tree.Flags.{Flags}
 use Rattle.pm_subst.specs.Words.{words_in}
 use Rattle.pm_subst.specs.declared.kinds.Mode.{Mode}
@@ -23,9 +23,9 @@ use Rattle.pm_meaning.specs.Walking.{Next, Stop, Go, walk, Means}
 use Rattle.pm_meaning.specs.Changes.{with_variable, with_base, without_variable, stored_in}
 use Rattle.pm_meaning.specs.Turns.{Turn, GoesOn, Halts, not_built, say_then, has_command, is_too_long, skip_value}
 use Rattle.pm_meaning.specs.Assigning.{is_later, leads_elsewhere, value_in, is_file_text, probed, change_folder, assigned, assign, unset}
-use Rattle.pm_meaning.specs.Delivering.{is_plain, mailbox_piece, is_folder_name, after_append, is_nothing, file_at, all_stored, file_all, are_file_texts, deliver_to, deliver, act_on, run_recipe}
+use Rattle.pm_meaning.specs.Delivering.{is_plain, mailbox_piece, is_folder_name, after_append, is_nothing, file_at, file_all, are_file_texts, deliver_to, deliver, act_on}
 use Rattle.pm_meaning.specs.Running.{State, Arrived, Running, Item, Open, Do, step, renewal, begun, dated, unread, after_read, has_default, fall_off, statement, next_of}
-use Rattle.pm_meaning.specs.Laws.{with_file, files_of, AreDone, DeliversLast}
+use Rattle.pm_meaning.specs.Laws.{files_of, AreDone, DeliversLast}
 use Rattle.pm_meaning.specs.declared.command_line.CommandLine.{CommandLine}
 use Rattle.pm_meaning.specs.declared.process.Process.{Process}
 use Rattle.pm_meaning.specs.declared.process.Filed.{Filed}

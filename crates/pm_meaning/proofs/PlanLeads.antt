@@ -1,10 +1,8 @@
 -- A plan of which some was carried out.
-use Rattle.std.proofs.Common.{◌≡◌, List, [], ◌++◌, inl, inr, refl, sym, ap, ◌∙◌, subst, append_assoc, append-nil}
+use Rattle.std.proofs.Common.{[], ◌++◌, inl, inr, sym, ap, ◌∙◌, subst, append_assoc, append-nil}
 use Rattle.pm_journal.specs.JournalState.{JournalState}
 use Rattle.pm_journal.specs.Entries.{View}
 use Rattle.pm_journal.proofs.AccountsJoin.{accounts_join, accounts_none}
-use Rattle.pm_journal.specs.declared.acts.Act.{Act}
-use Rattle.pm_journal.specs.declared.acts.Entry.{Entry}
 use Rattle.pm_meaning.specs.Plan.{Plan, and_then, Plays, Wants}
 use Rattle.pm_meaning.specs.Executed.{Executes, OutOfMemory, LeadsTo}
 use Rattle.pm_meaning.proofs.PlanJoin.{plays_then, wants_then}

@@ -9,7 +9,7 @@ use Rattle.pm_recipe.specs.declared.fronts.Kind.TheVariants.{Close, Missing}
 use Rattle.pm_recipe.specs.Front.{front_of}
 use Rattle.pm_recipe.specs.Spans.{Span, spans, span_of, situation_after, line_past, newlines, bare, ends, missed}
 
-line-newlines : (byte line : ℕ) (bytes : List ℕ) → line_past byte line + newlines bytes ≡ line + newlines (byte ∷ bytes)
+pub line-newlines : (byte line : ℕ) (bytes : List ℕ) → line_past byte line + newlines bytes ≡ line + newlines (byte ∷ bytes)
 line-newlines byte line bytes = by (nat_eq byte NEWLINE)
   where
     by : (b : Bool) → cond b (line + 1) line + newlines bytes ≡ line + cond b (newlines bytes + 1) (newlines bytes)

@@ -4,3 +4,12 @@ pub mod Covers
 pub mod Joined
 pub mod Trim
 pub mod Digits
+pub mod Runs
+pub mod Forms
+pub mod WordRuns
+pub mod Quoted
+pub mod Worded
+pub mod Taking
+pub mod Shapes
+pub mod Pieces
+pub mod OneCut

@@ -12,3 +12,6 @@ pub mod Spans
 pub mod Build
 pub mod Builder
 pub mod Refusal
+pub mod Words
+pub mod Quotes
+pub mod Spells

@@ -5,7 +5,7 @@ ghost use Rattle.pm_recipe.specs.Tree.{Trees, nil};
 ghost use Rattle.pm_recipe.specs.View.{tree_of, act_of};
 ghost use Rattle.pm_recipe.specs.Joins.{unjoined};
 ghost use Rattle.pm_recipe.specs.Weights.{condition_of};
-ghost use Rattle.pm_recipe.specs.Build.{Ahead, put, recipe_of, ended, top_of, head_of, missing, with_condition, with_junk, first, others, program_line, acts, fails};
+ghost use Rattle.pm_recipe.specs.Build.{Ahead, put, recipe_of, ended, top_of, head_of, missing, with_condition, with_junk, first, others, program_line, acts, fails, plain};
 ghost use Rattle.pm_recipe.specs.Build.Ending.{Acts};
 ghost use Rattle.pm_recipe.specs.Builder.{built_of, begun_of, joins, joined, level_of, settled, whole, Suits};
 ghost use Rattle.pm_recipe.specs.Spans.{Span, situation_after};
@@ -302,6 +302,97 @@ impl Builder {
         self.put(Statement::Defect { line, text })
     }
 
+    /// A mailbox as the action.
+    fn end_mailbox(&mut self, text: &[u8]) -> Result<(), Memory>
+        ensures levels { self.new.levels.items ≡ self.old.levels.items }
+        ensures begun { IfOk result (λ _. self.new.begun ≡ None) }
+        ensures joins { IfOk result (λ _. (lists : List Trees) → joins self.new lists
+            ≡ joins self.old (settled (begun_of self.old.begun) (acts (Act.Mailbox (unjoined text.now)) lists))) }
+    {
+        let text = without_joins(self.alloc, text)?;
+        self.end_recipe(Action::Mailbox(text))?;
+        Ok(())
+    }
+
+    /// A forward as the action.
+    fn end_forward(&mut self, text: &[u8]) -> Result<(), Memory>
+        ensures levels { self.new.levels.items ≡ self.old.levels.items }
+        ensures begun { IfOk result (λ _. self.new.begun ≡ None) }
+        ensures joins { IfOk result (λ _. (lists : List Trees) → joins self.new lists
+            ≡ joins self.old (settled (begun_of self.old.begun) (acts (Act.Forward (unjoined text.now)) lists))) }
+    {
+        let text = without_joins(self.alloc, text)?;
+        self.end_recipe(Action::Forward(text))?;
+        Ok(())
+    }
+
+    /// A pipe as the action.
+    fn end_pipe(&mut self, text: &[u8]) -> Result<(), Memory>
+        ensures levels { self.new.levels.items ≡ self.old.levels.items }
+        ensures begun { IfOk result (λ _. self.new.begun ≡ None) }
+        ensures joins { IfOk result (λ _. (lists : List Trees) → joins self.new lists
+            ≡ joins self.old (settled (begun_of self.old.begun) (acts (Act.Pipe (program_line text.now)) lists))) }
+    {
+        let line = read_program(self.alloc, text)?;
+        self.end_recipe(Action::Pipe(line))?;
+        Ok(())
+    }
+
+    /// A capture as the action.
+    fn end_capture(&mut self, name: &[u8], text: &[u8]) -> Result<(), Memory>
+        ensures levels { self.new.levels.items ≡ self.old.levels.items }
+        ensures begun { IfOk result (λ _. self.new.begun ≡ None) }
+        ensures joins { IfOk result (λ _. (lists : List Trees) → joins self.new lists
+            ≡ joins self.old (settled (begun_of self.old.begun) (acts (Act.Capture (unjoined name.now) (program_line text.now)) lists))) }
+    {
+        let name = without_joins(self.alloc, name)?;
+        let line = read_program(self.alloc, text)?;
+        self.end_recipe(Action::Capture { name, line })?;
+        Ok(())
+    }
+
+    /// The recipe that has begun opens a block.
+    fn open_begun(&mut self) -> Result<(), Memory>
+        requires { IsSome self.old.begun }
+        ensures levels { IfOk result (λ _. length self.new.levels.items ≡ length self.old.levels.items + 1) }
+        ensures begun { self.new.begun ≡ None }
+        ensures joins { IfOk result (λ _. (lists : List Trees) → joins self.new lists
+            ≡ joins self.old (settled (begun_of self.old.begun) (acts (Act.Block (first lists)) (others lists)))) }
+    {
+        match self.begun.take() {
+            None => unreachable!(),
+            Some(begun) => self.open(begun),
+        }
+    }
+
+    /// The innermost block ends.
+    fn close_innermost(&mut self) -> Result<(), Memory>
+        requires { 0 < length self.old.levels.items }
+        ensures levels { IfOk result (λ _. length self.new.levels.items + 1 ≡ length self.old.levels.items) }
+        ensures begun { self.new.begun ≡ None }
+        ensures joins { IfOk result (λ _. (lists : List Trees) → joins self.new lists
+            ≡ joins self.old (settled (begun_of self.old.begun) (plain (nil ∷ lists)))) }
+    {
+        self.give_up()?;
+        match self.levels.pop_front() {
+            None => unreachable!(),
+            Some(level) => self.close(level),
+        }
+    }
+
+    /// The recipe of the next colon line begins.
+    fn begin_next(&mut self, line: u64, text: &[u8]) -> Result<(), Memory>
+        ensures levels { self.new.levels.items ≡ self.old.levels.items }
+        ensures begun { IfOk result (λ _. is_some self.new.begun ≡ true) }
+        ensures joins { IfOk result (λ _. (ahead : Ahead) → joins self.new (settled (begun_of self.new.begun) ahead)
+            ≡ joins self.old (settled (begun_of self.old.begun)
+            (plain (with_junk line text.now (put (recipe_of (head_of line text.now) [] ahead.recipe) ahead.lists))))) }
+    {
+        self.give_up()?;
+        self.begin(line, text)?;
+        Ok(())
+    }
+
     /// The span that stands in front.
     pub fn take(&mut self, kind: Kind, line: u64, name: &[u8], text: &[u8]) -> Result<(), Memory>
         requires begun { kind ≡ Kind.Open → IsSome self.old.begun }
@@ -313,40 +404,15 @@ impl Builder {
         match kind {
             Kind::Gap => Ok(()),
             Kind::Condition => self.condition(text),
-            Kind::Mailbox => {
-                let text = without_joins(self.alloc, text)?;
-                self.end_recipe(Action::Mailbox(text))
-            }
-            Kind::Pipe => {
-                let line = read_program(self.alloc, text)?;
-                self.end_recipe(Action::Pipe(line))
-            }
-            Kind::Capture => {
-                let name = without_joins(self.alloc, name)?;
-                let line = read_program(self.alloc, text)?;
-                self.end_recipe(Action::Capture { name, line })
-            }
-            Kind::Forward => {
-                let text = without_joins(self.alloc, text)?;
-                self.end_recipe(Action::Forward(text))
-            }
+            Kind::Mailbox => self.end_mailbox(text),
+            Kind::Pipe => self.end_pipe(text),
+            Kind::Capture => self.end_capture(name, text),
+            Kind::Forward => self.end_forward(text),
             Kind::WriteOut => self.end_recipe(Action::WriteOut),
-            Kind::Open => match self.begun.take() {
-                None => unreachable!(),
-                Some(begun) => self.open(begun),
-            },
+            Kind::Open => self.open_begun(),
             Kind::TooDeep => self.fail_recipe(line, text),
-            Kind::Close => {
-                self.give_up()?;
-                match self.levels.pop_front() {
-                    None => unreachable!(),
-                    Some(level) => self.close(level),
-                }
-            }
-            Kind::Colon => {
-                self.give_up()?;
-                self.begin(line, text)
-            }
+            Kind::Close => self.close_innermost(),
+            Kind::Colon => self.begin_next(line, text),
             Kind::Assign => {
                 self.give_up()?;
                 self.assign(name, text)

@@ -10,7 +10,7 @@ use std::test::Fail;
 /// An rcfile, and the statements in so many blocks of it, as `show` writes them.
 type Case = (&'static str, usize, &'static str);
 
-const STATEMENTS: [Case; 20] = [
+const STATEMENTS: [Case; 22] = [
     ("", 0, ""),
     ("# only\n\n \t# notes", 0, ""),
     ("A=b", 0, "A=b;"),
@@ -19,6 +19,8 @@ const STATEMENTS: [Case; 20] = [
     ("A=x\\\ny\n", 0, "A=x\\\ny;"),
     ("A=x \\\n B=y\n", 0, "A=x;B=y;"),
     ("A\\\nB=x\n", 0, "AB=x;"),
+    ("_a1=x A_9 = y\n", 0, "_a1=x;A_9=y;"),
+    ("A=\"`b\"\n`c\"d'\"'\n", 0, "A=\"`b\"\n`c\"d'\"';"),
     ("A=a\\ b C=\\' D=x\n", 0, "A=a\\ b;C=\\';D=x;"),
     (
         "A=\"x\ny\" B='\n' C=`a\nb`\n",
@@ -37,8 +39,9 @@ const STATEMENTS: [Case; 20] = [
     ("1=x\n", 0, "!1 1=x;"),
 ];
 
-const COLON_LINES: [Case; 15] = [
+const COLON_LINES: [Case; 16] = [
     (":0\nbox", 0, ": >box;"),
+    (":0: \t\nbox", 0, ":: >box;"),
     (":0 Bc:\nbox\n", 0, ":Bc: >box;"),
     (
         ":0 H B D h b f c w W i r A a E e\nbox\n",
@@ -59,7 +62,7 @@ const COLON_LINES: [Case; 15] = [
     (":0\n:0\nbox\n", 0, "!1 :0;: >box;"),
 ];
 
-const CONDITIONS: [Case; 13] = [
+const CONDITIONS: [Case; 19] = [
     (
         ":0\n\n# note\n* one # two \n\n*three\n \nbox # x\n",
         0,
@@ -72,6 +75,20 @@ const CONDITIONS: [Case; 13] = [
         ": *! B ?? $ a  b >box;",
     ),
     (":0\n* 1^1 $ a\\\n  b\nbox\n", 0, ": *1^1 $ a  b >box;"),
+    (
+        ":0\n \t* ! \\\n  B ?? \\\n  $ a\\\n  b\n\tbox\n",
+        0,
+        ": *! B ?? $ a  b >box;",
+    ),
+    (":0\n* 1^-1 x\nbox\n", 0, ": *bad x >box;"),
+    (":0\n* 1^.5 x\nbox\n", 0, ": *bad x >box;"),
+    (":0\n* +3^+1 x\nbox\n", 0, ": *3^1 x >box;"),
+    (
+        ":0\n* -2147483647^1\tx\nbox\n",
+        0,
+        ": *-2147483647^1 x >box;",
+    ),
+    (":0\n* -^1 x\nbox\n", 0, ": *-^1 x >box;"),
     (":0\n* a $ a\\\n  b\nbox\n", 0, ": *a $ ab >box;"),
     (":0\n* 1^1 B ?? ^.*$\nbox\n", 0, ": *1^1 B ?? ^.*$ >box;"),
     (":0\n* -2^0\nbox\n", 0, ": *-2^0  >box;"),
@@ -87,12 +104,13 @@ const CONDITIONS: [Case; 13] = [
     (":0\n* 1^1x\nbox\n", 0, ": *1^1x >box;"),
 ];
 
-const ACTIONS: [Case; 21] = [
+const ACTIONS: [Case; 22] = [
     (":0\n! a b \\\n c\n", 0, ": @ a b  c;"),
     (":0\n|\n", 0, ": stdout;"),
     (":0\n|  \t\n", 0, ": stdout;"),
     (":0\n|  cmd -x \\\n  y\n", 0, ": |cmd -x   y;"),
     (":0\nX = | cmd\n", 0, ": X|cmd;"),
+    (":0\nX=|\n", 0, ": X|;"),
     (":0\nX=y\n", 0, ": >X=y;"),
     (":0\n$X/a\\\nb\n", 0, ": >$X/ab;"),
     (":0 c\n}\n", 0, "!1 :0 c;!2 };"),
@@ -178,7 +196,11 @@ fn show_action(out: &mut Vec<u8>, action: &Action) -> Result<(), Memory> {
     Ok(())
 }
 
-fn show_statement(alloc: Global, out: &mut Vec<u8>, statement: &Statement) -> Result<(), Memory> {
+pub fn show_statement(
+    alloc: Global,
+    out: &mut Vec<u8>,
+    statement: &Statement,
+) -> Result<(), Memory> {
     match statement {
         Statement::Assign { name, value } => {
             out.extend_from_slice(name.as_slice())?;
@@ -252,7 +274,7 @@ fn actions(rt: HostRuntime) -> Result<(), Fail> {
 }
 
 // A text many times.
-fn many(alloc: Global, text: &[u8], times: usize) -> Result<Vec<u8>, Memory> {
+pub fn many(alloc: Global, text: &[u8], times: usize) -> Result<Vec<u8>, Memory> {
     let mut out = Vec::new(alloc);
     for _ in 0..times {
         out.extend_from_slice(text)?;
@@ -299,7 +321,8 @@ fn at_depth(alloc: Global, text: &[u8], depth: usize) -> Result<Vec<u8>, Memory>
 fn a_thousand_blocks_and_one_more(rt: HostRuntime) -> Result<(), Fail> {
     let alloc = rt.alloc();
     let mut text = many(alloc, b":0\n{\n", 1000)?;
-    let more = many(alloc, b":0\n{\n", 1001)?;
+    let mut more = many(alloc, b":0\n{\n", 1001)?;
+    more.extend_from_slice(b"A=b\n")?;
     text.extend_from_slice(b"A=b\n")?;
     text.extend_from_slice(many(alloc, b"}\n", 1000)?.as_slice())?;
     assert_eq!(rt;

@@ -1,5 +1,5 @@
 -- A file that was read in one act, or in part.
-use Rattle.std.proofs.Common.{◌≡◌, List, ℕ, Option, Result, Ok, Err, IfOk, OnErr, refl, sym, ap, ◌∙◌}
+use Rattle.std.proofs.Common.{◌≡◌, List, ℕ, Option, Result, Ok, Err, IfOk, OnErr, ap, ◌∙◌}
 use Rattle.pm_bytes.specs.declared.error.Memory.{Memory}
 use Rattle.pm_host.specs.Told.{HostView}
 use Rattle.pm_host.specs.Streams.{StreamView}
@@ -8,7 +8,6 @@ use Rattle.pm_append.specs.ReadsFile.{LeavesReading}
 use Rattle.pm_journal.specs.JournalState.{JournalState}
 use Rattle.pm_journal.specs.Entries.{view_of}
 use Rattle.pm_journal.specs.declared.acts.Act.TheVariants.{ReadFile}
-use Rattle.pm_journal.specs.declared.acts.Reply.{Reply}
 use Rattle.pm_meaning.specs.Plan.{Ends, ask}
 use Rattle.pm_meaning.specs.Executed.{OutOfMemory}
 use Rattle.pm_meaning.proofs.Lines.{act_after_room}

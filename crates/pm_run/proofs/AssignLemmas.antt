@@ -1,5 +1,5 @@
 -- Assignments in plans.
-use Rattle.std.proofs.Common.{◌≡◌, ◌≢◌, Bool, true, false, List, ℕ, Option, Some, None, Result, Ok, Err, IfOk, OnErr, refl, sym, ap, ◌∙◌, subst}
+use Rattle.std.proofs.Common.{◌≡◌, ◌≢◌, Bool, true, false, List, ℕ, Some, None, Result, Ok, Err, IfOk, OnErr, refl, sym, ap, ◌∙◌, subst}
 use Rattle.std.specs.Prelude.{if◌then◌else◌, bytes_eq, codes, ◌||◌}
 use Rattle.pm_bytes.specs.Path.{full_name}
 use Rattle.pm_host.specs.declared.answers.Looked.{Looked}
@@ -12,7 +12,7 @@ use Rattle.pm_journal.specs.declared.acts.Reply.TheVariants.{Found}
 use Rattle.pm_vars.specs.Table.{Table}
 use Rattle.pm_vars.specs.Variables.{with_value}
 use Rattle.pm_subst.specs.declared.kinds.Mode.TheVariants.{One}
-use Rattle.pm_meaning.specs.Plan.{Plan, Ends, and_then, ask}
+use Rattle.pm_meaning.specs.Plan.{Ends, and_then, ask}
 use Rattle.pm_meaning.specs.Executed.{Executes, OutOfMemory}
 use Rattle.pm_meaning.specs.Changes.{with_variable, with_base}
 use Rattle.pm_meaning.specs.Turns.{Turn, GoesOn, Halts, say_then, not_built, is_too_long, has_command, skip_value}

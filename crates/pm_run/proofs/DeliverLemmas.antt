@@ -1,5 +1,5 @@
 -- Recipes that deliver, in plans.
-use Rattle.std.proofs.Common.{◌≡◌, ◌≢◌, Bool, true, false, not, List, ℕ, [], refl, sym, ap, ◌∙◌, subst}
+use Rattle.std.proofs.Common.{◌≡◌, ◌≢◌, true, false, not, List, ℕ, [], refl, sym, ap, ◌∙◌, subst}
 use Rattle.std.specs.Prelude.{if◌then◌else◌}
 use Rattle.std.specs.List.{list_any}
 use Rattle.pm_journal.specs.JournalState.{JournalState}
@@ -13,7 +13,7 @@ use Rattle.pm_recipe.specs.declared.tree.Action.{Action}
 use Rattle.pm_recipe.specs.declared.tree.Action.TheVariants.{Mailbox, Pipe, Capture, Forward, WriteOut, Block}
 use Rattle.pm_subst.specs.Words.{words_in}
 use Rattle.pm_subst.specs.declared.kinds.Mode.TheVariants.{Many}
-use Rattle.pm_meaning.specs.Plan.{Plan, Ends, ask}
+use Rattle.pm_meaning.specs.Plan.{Plan, ask}
 use Rattle.pm_meaning.specs.Executed.{Executes, OutOfMemory}
 use Rattle.pm_meaning.specs.Turns.{Turn, GoesOn, Halts, say_then, not_built, is_too_long, has_command, skip_value}
 use Rattle.pm_meaning.specs.Delivering.{is_plain, is_folder_name, are_file_texts, file_all, deliver_to, deliver, act_on, run_recipe}

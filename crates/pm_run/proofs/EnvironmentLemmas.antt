@@ -1,5 +1,5 @@
 -- A search in an environment.
-use Rattle.std.proofs.Common.{◌≡◌, true, false, List, ℕ, Some, ◌∷◌, map, drop, ap, ◌∙◌}
+use Rattle.std.proofs.Common.{◌≡◌, true, false, List, ℕ, Some, ◌∷◌, map, ap, ◌∙◌}
 use Rattle.std.specs.Prelude.{if◌then◌else◌, bytes_eq}
 use Rattle.pm_bytes.specs.declared.environment.Pair.{Pair}
 use Rattle.pm_vars.specs.Variables.{value_of, variable_of}

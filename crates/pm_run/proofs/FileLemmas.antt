@@ -1,7 +1,6 @@
 -- Deliveries to files in plans.
-use Rattle.std.proofs.Common.{◌≡◌, ◌≢◌, ◌<◌, ◌≤◌, ◌+◌, Bool, true, false, Option, List, ℕ, [], ◌∷◌, length, drop, get_or, refl, sym, ap, ◌∙◌, subst}
+use Rattle.std.proofs.Common.{◌≡◌, ◌≢◌, ◌<◌, ◌≤◌, ◌+◌, true, false, Option, List, ℕ, ◌∷◌, length, drop, get_or, refl, sym, ap, ◌∙◌, subst}
 use Rattle.std.proofs.lemmas.List.{at_drop_more, at_drop_all}
-use Rattle.std.specs.Prelude.{if◌then◌else◌}
 use Rattle.pm_journal.specs.JournalState.{JournalState}
 use Rattle.pm_journal.specs.Entries.{View}
 use Rattle.pm_journal.specs.Appending.{append_reply}
@@ -25,7 +24,7 @@ use Rattle.pm_meaning.proofs.WantsMemory.{executes_nothing, out_then, out_front,
 use Rattle.pm_meaning.proofs.PlanLeads.{leads_on, leads_to_end, leads_to_want}
 use Rattle.pm_run.specs.Acts.{Says}
 use Rattle.pm_run.specs.Ends.{turn_of, failure_line}
-use Rattle.pm_run.proofs.Choices.{choose_then, choose_else, then_out, else_out, line_told, line_out}
+use Rattle.pm_run.proofs.Choices.{choose_then, choose_else, else_out, line_told, line_out}
 
 -- an append that failed is told
 failed_plan : (name : List ℕ) (end : AppendEnd) → end ≢ Done → end ≢ IsFolder → say_then (failure_line end name) Failed ≡ after_append name (append_reply end)

@@ -1,11 +1,11 @@
 -- The steps of a process, one after the other.
-use Rattle.std.proofs.Common.{◌≡◌, ◌≢◌, Bool, true, false, List, ℕ, [], ◌∷◌, Option, Some, None, refl, sym, ap, ◌∙◌, subst}
-use Rattle.std.specs.Prelude.{if◌then◌else◌, ℤ}
+use Rattle.std.proofs.Common.{◌≡◌, true, false, List, ℕ, [], ◌∷◌, Option, Some, None, refl, sym, ap, ◌∙◌, subst}
+use Rattle.std.specs.Prelude.{ℤ}
 use Rattle.pm_bytes.specs.declared.environment.Environ.{Environ}
 use Rattle.pm_message.specs.FromLine.{makes_line, prepared_of}
 use Rattle.pm_message.specs.Split.{split_of}
 use Rattle.pm_message.specs.declared.head.Message.{Message}
-use Rattle.pm_recipe.specs.Tree.{Trees, nil, cons}
+use Rattle.pm_recipe.specs.Tree.{Trees}
 use Rattle.pm_recipe.specs.View.{tree_of, trees_of}
 use Rattle.pm_recipe.specs.declared.tree.Statement.{Statement}
 use Rattle.pm_recipe.specs.declared.tree.Statement.TheVariants.{Unset}
@@ -18,13 +18,13 @@ use Rattle.pm_journal.specs.LogText.{couldnt_read_line, no_delivery_line}
 use Rattle.pm_journal.specs.declared.acts.Act.TheVariants.{ReadFile, SayErr, Moment}
 use Rattle.pm_journal.specs.declared.acts.Reply.{Reply}
 use Rattle.pm_journal.specs.declared.acts.Reply.TheVariants.{Content, Now}
-use Rattle.pm_meaning.specs.Plan.{Plan, Ends, and_then, ask}
+use Rattle.pm_meaning.specs.Plan.{Ends, and_then, ask}
 use Rattle.pm_meaning.specs.Executed.{Executes, OutOfMemory}
 use Rattle.pm_meaning.specs.FirstValues.{login_name, first_process}
 use Rattle.pm_meaning.specs.Changes.{entered}
 use Rattle.pm_meaning.specs.Turns.{Turn, GoesOn, Halts, say_then}
 use Rattle.pm_meaning.specs.Walking.{Next, Stop, Go, Reaches, Completes, Interrupted}
-use Rattle.pm_meaning.specs.Running.{State, Arrived, Running, Item, Open, Do, step, renewal, begun, dated, unread, ahead, after_read, has_default, fall_off, statement, next_of}
+use Rattle.pm_meaning.specs.Running.{State, Arrived, Running, Item, Do, step, renewal, begun, dated, unread, ahead, after_read, has_default, fall_off, statement, next_of}
 use Rattle.pm_meaning.specs.declared.command_line.CommandLine.{CommandLine}
 use Rattle.pm_meaning.specs.declared.process.Process.{Process}
 use Rattle.pm_meaning.specs.declared.process.End.{End}
@@ -33,7 +33,7 @@ use Rattle.pm_meaning.proofs.OneAct.{executes_then}
 use Rattle.pm_meaning.proofs.WantsMemory.{executes_nothing, out_then, out_front, out_anywhere}
 use Rattle.pm_meaning.proofs.WalkJoin.{reaches_then, completes_then, interrupted_then}
 use Rattle.pm_run.specs.Acts.{Says, Reads}
-use Rattle.pm_run.specs.Ends.{turn_of, opening}
+use Rattle.pm_run.specs.Ends.{opening}
 use Rattle.pm_run.proofs.Choices.{choose_then, choose_else, then_out, else_out, line_told, line_out}
 
 abbrev Onward : Type 0
@@ -75,9 +75,9 @@ pub rcfile_read : (name shown rc text : List ℕ) (content : Option (List ℕ)) 
 rcfile_read name shown rc text content statements p q x y a b h some t is same e =
     let next : Trees → Process → Onward = λ s r. Go (Running (ahead s []) r) in
     let last : Executes (after_read name [] p h.reply) (next statements q) y y b b =
-      subst (λ plan. Executes plan (next statements q) y y b b) (after_content name rc p h.reply (sym some ∙ h.content_is))
-      (subst (λ s. Executes (Ends (next s (entered name p))) (next statements q) y y b b) (is ∙ ap rc_of t)
-      (subst (λ r. Executes (Ends (next statements r)) (next statements q) y y b b) (e ∙ ap (λ n. entered n p) same) (executes_nothing (next statements q) y y b refl))) in
+    subst (λ plan. Executes plan (next statements q) y y b b) (after_content name rc p h.reply (sym some ∙ h.content_is))
+    (subst (λ s. Executes (Ends (next s (entered name p))) (next statements q) y y b b) (is ∙ ap rc_of t)
+    (subst (λ r. Executes (Ends (next statements r)) (next statements q) y y b b) (e ∙ ap (λ n. entered n p) same) (executes_nothing (next statements q) y y b refl))) in
     executes_then (ask (ReadFile name)) (after_read name [] p) h.reply (next statements q) x y y a b b h.executes last
 
 pub read_then_wants : (name : List ℕ) (content : Option (List ℕ)) (p : Process) (x y : JournalState) (a b : View) → Reads name content x y a b → OutOfMemory (step (opening name p)) x y a b

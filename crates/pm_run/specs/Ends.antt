@@ -8,7 +8,6 @@ use Rattle.pm_meaning.specs.Walking.{Next, Stop, Go}
 use Rattle.pm_meaning.specs.Running.{State, Running, Open, ahead}
 use Rattle.pm_meaning.specs.declared.process.Process.{Process}
 use Rattle.pm_meaning.specs.declared.process.End.{End}
-use Rattle.pm_meaning.specs.declared.command_line.CommandLine.{CommandLine}
 use Rattle.pm_run.specs.declared.process.Opened.{Opened}
 use Rattle.pm_run.specs.declared.process.Opened.TheVariants.{Read, Ended}
 

@@ -126,7 +126,16 @@ fn deliver_to_words<H: Host, O: Sink, E: Sink>(
             if names_folder(names.as_slice()) {
                 return Ok(Some(End::NotBuilt));
             }
-            file_in_all(alloc, flags, names.as_slice(), process, host, out, err, journal)
+            file_in_all(
+                alloc,
+                flags,
+                names.as_slice(),
+                process,
+                host,
+                out,
+                err,
+                journal,
+            )
         }
     }
 }

@@ -24,12 +24,7 @@ pub fn runs_command(alloc: Global, text: &[u8], mode: Mode) -> Result<bool, Memo
     Ok(!commands.is_empty())
 }
 
-pub fn expand_text(
-    alloc: Global,
-    text: &[u8],
-    mode: Mode,
-    vars: &Vars,
-) -> Result<Expansion, Memory>
+pub fn expand_text(alloc: Global, text: &[u8], mode: Mode, vars: &Vars) -> Result<Expansion, Memory>
     requires { has_command mode text.now ≡ false }
     ensures { IfOk result (λ expansion. IsExpansion mode text.now vars.now expansion) }
 {

@@ -67,7 +67,12 @@ fn set_place(alloc: Global, vars: &mut Vars, filter: bool, env: &Environ) -> Res
     ensures { IfOk result (λ _. vars.new ≡ record vars.old { variables = all_set (place_values filter env.now) vars.old.variables }) }
 {
     set(alloc, vars, b"HOST", env.host_name.as_str().as_bytes())?;
-    set(alloc, vars, b"MAILDIR", start_folder(filter, env).as_bytes())
+    set(
+        alloc,
+        vars,
+        b"MAILDIR",
+        start_folder(filter, env).as_bytes(),
+    )
 }
 
 // A mail filter has no default mailbox.

@@ -1,7 +1,6 @@
 use Rattle.std.proofs.Common.{refl, sym, ◌∙◌}
 use Rattle.pm_meaning.proofs.WantsMemory.{on_err, out_anywhere}
-use Rattle.pm_run.proofs.AssignLemmas.{ok_map, err_map}
-use Rattle.pm_run.proofs.DeliverLemmas.{texts_unusable, texts_unusable_out, folder_among, filed_to_all, filed_to_all_out}
+use Rattle.pm_run.proofs.DeliverLemmas.{texts_unusable_out, folder_among}
 use Rattle.pm_run.proofs.delivering.deliver_to_words.Goals as goal
 
 pub returns-in_err-usable_names-clause-memory : goal.returns-in_err-usable_names-clause-memory

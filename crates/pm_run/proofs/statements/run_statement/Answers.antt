@@ -1,4 +1,3 @@
-use Rattle.std.proofs.Common.{refl}
 use Rattle.pm_run.proofs.AssignLemmas.{ok_map, err_map}
 use Rattle.pm_run.proofs.ProcessLemmas.{by_text, by_text_out, unset_done}
 use Rattle.pm_run.proofs.statements.run_statement.Goals as goal
