@@ -5,3 +5,4 @@ mod protocol;
 mod refusals;
 mod setup;
 mod shown;
+mod statements;

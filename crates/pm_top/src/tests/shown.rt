@@ -58,5 +58,6 @@ fn call_text(call: &Call) -> &'static str {
         Call::Append { .. } => "append ",
         Call::Cut { .. } => "cut ",
         Call::Remove { .. } => "remove ",
+        Call::Now => "now ",
     }
 }
