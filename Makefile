@@ -12,8 +12,8 @@ build:
 
 # The example message goes where the example rcfile says, in a fresh folder.
 demo: build
-	@folder=$$(mktemp -d) && cp examples/one-mailbox.rc $$folder/rc && cd $$folder && \
-	    $(CURDIR)/bin/procmail ./rc < $(CURDIR)/examples/message && cat mbox; \
+	@folder=$$(mktemp -d) && cp examples/copies.rc $$folder/rc && cd $$folder && \
+	    $(CURDIR)/bin/procmail ./rc < $(CURDIR)/examples/message && ls && cat mbox && cmp mbox archive-mbox; \
 	    status=$$?; rm -rf $$folder; exit $$status
 
 # How long searches take. It isn't part of the check.
