@@ -1,4 +1,5 @@
-//! Runs that end before a delivery: words, messages and rcfiles that aren't read, and forms that aren't built.
+//! Runs without a delivery: words, messages and rcfiles that aren't read, forms that aren't built, and rcfiles that
+//! come to their end.
 ghost use Rattle.std.specs.Prelude.{None};
 
 use super::setup::{MAIL, PIECE, RC, Stands, host_with, left_text, mail_for, rcfile_of, run};
@@ -152,31 +153,37 @@ fn look_and_reads(alloc: Global, count: u16) -> Result<String, AllocError> {
 }
 
 #[test]
-fn an_rcfile_of_another_form_delivers_nothing(rt: HostRuntime) -> Result<(), Fail> {
+fn a_form_that_is_not_built_ends_the_run_at_once(rt: HostRuntime) -> Result<(), Fail> {
     let alloc = rt.alloc();
-    for (words, rc, calls) in [
-        ("./rc", "", "look read "),
-        ("./rc", "\n", "look read read "),
-        ("./rc", ":0\n", "look read read "),
-        ("./rc", ":0\n\n", "look read read "),
-        ("./rc", ":0\nmbox", "look read read "),
-        ("./rc", ":0\nmbox\n\n", "look read read "),
-        ("./rc", ":0 c\nmbox\n", "look read read "),
-        ("-m\nrc", ":0 c\nmbox\n", "look read read "),
-        ("./rc", ":0:\nmbox\n", "look read read "),
-        ("./rc", " :0\nmbox\n", "look read read "),
-        ("./rc", ":0\r\nmbox\n", "look read read "),
-        ("./rc", ":0\nmd/\n", "look read read "),
-        ("-m\nrc", ":0\nmd/.\n", "look read read "),
-        ("./rc", ":0\n/dev/null\n", "look read read "),
-        ("./rc", ":0\na b\n", "look read read "),
-        ("./rc", ":0\n$a\n", "look read read "),
-        ("./rc", ":0\n|a\n", "look read read "),
-        ("./rc", ":0\n!a\n", "look read read "),
+    for (words, rc) in [
+        ("./rc", ":0:\nmbox\n"),
+        ("-m\nrc", ":0:\nmbox\n"),
+        ("./rc", ":0 c:\nmbox\n"),
+        ("./rc", ":0\n* a\nmbox\n"),
+        ("./rc", ":0 A\nmbox\n"),
+        ("./rc", ":0 a\nmbox\n"),
+        ("./rc", ":0 E\nmbox\n"),
+        ("./rc", ":0 e\nmbox\n"),
+        ("./rc", ":0\nmd/\n"),
+        ("-m\nrc", ":0\nmd/.\n"),
+        ("./rc", ":0\nmbox md/\n"),
+        ("./rc", ":0\n|a\n"),
+        ("./rc", ":0\n|\n"),
+        ("./rc", ":0\n!a\n"),
+        ("./rc", ":0\na=|b\n"),
+        ("./rc", ":0\n{\n}\n"),
+        ("./rc", ":0\n`a`\n"),
+        ("./rc", "a=`b`\n"),
+        ("-m\nrc", "LOGFILE=a\n:0\nmbox\n"),
+        ("./rc", "INCLUDERC=a\n:0\nmbox\n"),
+        ("./rc", "HOST=other\n:0\nmbox\n"),
+        ("./rc", "SWITCHRC=\n:0\nmbox\n"),
+        ("./rc", "LOCKFILE\n:0\nmbox\n"),
     ] {
         let rcfile = rcfile_of(words);
         let entries = format!(in alloc; "ReadFile {rcfile} Content {rc:?}\n")?;
-        let want = left_text(alloc, 78, entries.as_str(), "", Some("old\n"), calls)?;
+        let (entries, old) = (entries.as_str(), Some("old\n"));
+        let want = left_text(alloc, 78, entries, "", old, "look read read ")?;
         let mailbox = Stands::File("old\n");
         let mut host = host_with(alloc, rcfile, Stands::File(rc), "mbox", mailbox)?;
         let (mail, _) = mail_for(words);
@@ -188,17 +195,78 @@ fn an_rcfile_of_another_form_delivers_nothing(rt: HostRuntime) -> Result<(), Fai
 }
 
 #[test]
-fn a_mail_that_lacks_its_from_line(rt: HostRuntime) -> Result<(), Fail> {
+fn a_run_that_comes_to_the_end_of_its_rcfile(rt: HostRuntime) -> Result<(), Fail> {
     let alloc = rt.alloc();
-    let want = left_text(alloc, 78, "", "", Some("old\n"), "")?;
-    for mail in ["", "A: b\n\nhi\n", "From: a@b\n\nhi\n", "\nFrom a@b\n"] {
+    for (words, rc, status, line, calls) in [
+        ("./rc", "", 78, "", "look read "),
+        ("./rc", "\n", 78, "", "look read read "),
+        (
+            "./rc",
+            ":0\n",
+            78,
+            "procmail: Skipped \":0\"\n",
+            "look read read ",
+        ),
+        (
+            "./rc",
+            ":0\n\n",
+            78,
+            "procmail: Skipped \":0\"\n",
+            "look read read ",
+        ),
+        (
+            "./rc",
+            ":0\n$a\n",
+            78,
+            "procmail: Unusable name \"$a\"\n",
+            "look read read ",
+        ),
+        (
+            "-m\nrc",
+            "\n",
+            73,
+            "procmail: No delivery was made\n",
+            "look read read ",
+        ),
+        ("-m\nrc", "DEFAULT=mbox\n", 78, "", "look read read "),
+        ("-m\nrc", "ORGMAIL=mbox\n", 78, "", "look read read "),
+        (
+            "-m\nrc",
+            "DEFAULT=\n",
+            73,
+            "procmail: No delivery was made\n",
+            "look read read ",
+        ),
+    ] {
+        let want = what_an_end_leaves(alloc, words, rc, status, line, calls)?;
+        let rcfile = rcfile_of(words);
         let mailbox = Stands::File("old\n");
-        let mut host = host_with(alloc, "./rc", Stands::File(RC), "mbox", mailbox)?;
+        let mut host = host_with(alloc, rcfile, Stands::File(rc), "mbox", mailbox)?;
+        let (mail, _) = mail_for(words);
         let mut source = MemorySource::new(alloc, mail.as_bytes(), None)?;
-        let ran = run(alloc, "./rc", &mut source, &mut host, "mbox", None)?;
-        assert_eq!(rt; ran.as_str(), want.as_str(), "{mail:?}");
+        let ran = run(alloc, words, &mut source, &mut host, "mbox", None)?;
+        assert_eq!(rt; ran.as_str(), want.as_str());
     }
     Ok(())
+}
+
+// What a run leaves that reads its rcfile and says this line, unless it is empty.
+fn what_an_end_leaves(
+    alloc: Global,
+    words: &str,
+    rc: &str,
+    status: u8,
+    line: &str,
+    calls: &str,
+) -> Result<String, AllocError> {
+    let rcfile = rcfile_of(words);
+    let said = if line.is_empty() {
+        String::new(alloc)
+    } else {
+        format!(in alloc; "SayErr {line:?} Wrote\n")?
+    };
+    let entries = format!(in alloc; "ReadFile {rcfile} Content {rc:?}\n{said}")?;
+    left_text(alloc, status, entries.as_str(), line, Some("old\n"), calls)
 }
 
 #[test]

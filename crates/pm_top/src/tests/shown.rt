@@ -18,6 +18,7 @@ pub fn entries_text(alloc: Global, entries: &[Entry]) -> Result<String, AllocErr
 fn act_text(alloc: Global, act: &Act) -> Result<String, AllocError> {
     match act {
         Act::ReadFile { name } => format!(in alloc; "ReadFile {}", name.as_str()),
+        Act::Probe { name } => format!(in alloc; "Probe {}", name.as_str()),
         Act::Append { name, piece } => {
             format!(in alloc; "Append {} {:?}", name.as_str(), text_of(piece.as_slice()))
         }
