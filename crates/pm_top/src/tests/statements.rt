@@ -242,7 +242,11 @@ fn a_value_that_is_too_long(rt: HostRuntime) -> Result<(), Fail> {
     let more = format!(in alloc; "A={long}\nB=$A${{A}}x\n:0\nm$PROCMAIL_OVERFLOW$B\n")?;
     let want =
         "0\nSayErr Wrote\nAppend myes P Done\nerr \"procmail: Value of 1048577 bytes is too long\\n\"\nmyes P\n";
-    compare(&rt, alloc, more.as_str(), "myes", want)
+    compare(&rt, alloc, more.as_str(), "myes", want)?;
+    let twice = format!(in alloc; "A={long}x\nB=$A$A\n:0\nm$PROCMAIL_OVERFLOW$B\n")?;
+    let want =
+        "0\nSayErr Wrote\nAppend myes P Done\nerr \"procmail: Value of 1048578 bytes is too long\\n\"\nmyes P\n";
+    compare(&rt, alloc, twice.as_str(), "myes", want)
 }
 
 #[test]
