@@ -1,17 +1,7 @@
 #!/usr/bin/env bash
 # Deliveries by the built program on real files: a mailbox gets each message whole, and a message of 1 MB does too.
 set -eu
-cd "$(dirname "$0")/.."
-make -s build
-program=$PWD/bin/procmail
-folder=$(mktemp -d)
-trap 'rm -rf "$folder"' EXIT
-cd "$folder"
-
-fail() {
-    echo "deliver: $1" >&2
-    exit 1
-}
+. "$(dirname "$0")/common.bash"
 
 printf ':0\nmbox\n' > rc
 printf 'old\n' > mbox

@@ -1,18 +1,9 @@
 #!/usr/bin/env bash
 # A mailbox that can't grow, or can't be opened, is byte for byte as it was, and the log says so.
 set -eu
-cd "$(dirname "$0")/.."
-make -s build
-program=$PWD/bin/procmail
-folder=$(mktemp -d)
+. "$(dirname "$0")/common.bash"
 mounted=
 trap '[ -z "$mounted" ] || umount "$mounted" 2>/dev/null || true; rm -rf "$folder"' EXIT
-cd "$folder"
-
-fail() {
-    echo "full: $1" >&2
-    exit 1
-}
 
 # The mailbox is as before, the status is 78, and this was said.
 unchanged() {

@@ -1,17 +1,7 @@
 #!/usr/bin/env bash
 # Rcfiles of variables, copies and defects, run by the built program on real files.
 set -eu
-cd "$(dirname "$0")/.."
-make -s build
-program=$PWD/bin/procmail
-folder=$(mktemp -d)
-trap 'rm -rf "$folder"' EXIT
-cd "$folder"
-
-fail() {
-    echo "recipes: $1" >&2
-    exit 1
-}
+. "$(dirname "$0")/common.bash"
 
 printf 'From a@b Thu Jan  1 00:00:00 1970\nA: b\n\nhi\n' > message
 printf 'From a@b Thu Jan  1 00:00:00 1970\nA: b\n\nhi\n\n' > piece
