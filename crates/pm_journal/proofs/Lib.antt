@@ -8,3 +8,10 @@ pub mod KeepsJoin
 pub mod LocksLeft
 pub mod DeliveriesHold
 pub mod Causes
+pub mod PlanJoin
+pub mod ActPlans
+pub mod WantsMemory
+pub mod WalkJoin
+pub mod PlanLeads
+pub mod FirstActs
+pub mod KeepingActs

@@ -18,8 +18,8 @@ use Rattle.pm_journal.specs.declared.acts.Act.TheVariants.{Append, Probe, Moment
 use Rattle.pm_journal.specs.declared.acts.Reply.{Reply}
 use Rattle.pm_journal.specs.declared.acts.Reply.TheVariants.{Content, Found, Done, IsFolder, Torn, Now}
 use Rattle.pm_journal.specs.declared.acts.Entry.{Entry}
-use Rattle.pm_meaning.specs.Plan.{Plan, Ends, Asks, and_then, ask, Plays}
-use Rattle.pm_meaning.specs.Walking.{Next, Stop, Go, walk, Means}
+use Rattle.pm_journal.specs.Plan.{Plan, Ends, Asks, and_then, ask, Plays}
+use Rattle.pm_journal.specs.Walking.{Next, Stop, Go, walk, Means}
 use Rattle.pm_meaning.specs.Changes.{with_variable, with_base, without_variable, stored_in}
 use Rattle.pm_meaning.specs.Turns.{Turn, GoesOn, Halts, not_built, say_then, has_command, is_too_long, skip_value}
 use Rattle.pm_meaning.specs.Assigning.{is_later, leads_elsewhere, value_in, is_file_text, probed, change_folder, assigned, assign, unset}

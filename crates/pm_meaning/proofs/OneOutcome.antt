@@ -2,8 +2,8 @@
 use Rattle.std.proofs.Common.{◌≡◌, ℕ, zero, suc, List, [], ◌∷◌, Option, Some, None}
 use Rattle.pm_journal.specs.declared.acts.Act.{Act}
 use Rattle.pm_journal.specs.declared.acts.Entry.{Entry}
-use Rattle.pm_meaning.specs.Plan.{Plan, Ends, Asks, and_then, Plays, Wants}
-use Rattle.pm_meaning.specs.Walking.{Next, Stop, Go, walk, Means}
+use Rattle.pm_journal.specs.Plan.{Plan, Ends, Asks, and_then, Plays, Wants}
+use Rattle.pm_journal.specs.Walking.{Next, Stop, Go, walk, Means}
 use Rattle.pm_meaning.specs.Running.{State, step}
 use Rattle.pm_meaning.specs.declared.process.End.{End}
 

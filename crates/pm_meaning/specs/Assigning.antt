@@ -12,7 +12,7 @@ use Rattle.pm_journal.specs.LogText.{skipped_line, unusable_name_line, couldnt_c
 use Rattle.pm_journal.specs.declared.acts.Act.TheVariants.{Probe}
 use Rattle.pm_journal.specs.declared.acts.Reply.{Reply}
 use Rattle.pm_journal.specs.declared.acts.Reply.TheVariants.{Found}
-use Rattle.pm_meaning.specs.Plan.{Plan, Ends, and_then, ask}
+use Rattle.pm_journal.specs.Plan.{Plan, Ends, and_then, ask}
 use Rattle.pm_meaning.specs.Changes.{with_variable, without_variable, with_base}
 use Rattle.pm_meaning.specs.Turns.{Turn, GoesOn, not_built, say_then, has_command, is_too_long, skip_value}
 use Rattle.pm_meaning.specs.declared.process.Process.{Process}

@@ -14,7 +14,7 @@ use Rattle.pm_journal.specs.LogText.{couldnt_write_line, bytes_left_line, unusab
 use Rattle.pm_journal.specs.declared.acts.Act.TheVariants.{Append}
 use Rattle.pm_journal.specs.declared.acts.Reply.{Reply}
 use Rattle.pm_journal.specs.declared.acts.Reply.TheVariants.{Done, IsFolder, Torn}
-use Rattle.pm_meaning.specs.Plan.{Plan, Ends, and_then, ask}
+use Rattle.pm_journal.specs.Plan.{Plan, Ends, and_then, ask}
 use Rattle.pm_meaning.specs.Changes.{stored_in}
 use Rattle.pm_meaning.specs.Turns.{Turn, GoesOn, Halts, not_built, say_then, has_command, is_too_long, skip_value}
 use Rattle.pm_meaning.specs.Assigning.{is_file_text}

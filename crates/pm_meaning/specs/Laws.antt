@@ -2,10 +2,10 @@
 use Rattle.std.specs.Prelude.{◌≡◌, ◌<◌, ℕ, List, [], ◌∷◌, ◌++◌, length, if◌then◌else◌}
 use Rattle.pm_bytes.specs.Path.{full_name}
 use Rattle.pm_bytes.specs.declared.environment.Environ.{Environ}
-use Rattle.pm_meaning.specs.Plan.{Plan, Plays, Wants}
+use Rattle.pm_journal.specs.Plan.{Plan, Plays, Wants}
 use Rattle.pm_meaning.specs.Delivering.{is_nothing}
 use Rattle.pm_meaning.specs.Running.{State, Arrived, step}
-use Rattle.pm_meaning.specs.Walking.{Next, Means}
+use Rattle.pm_journal.specs.Walking.{Next, Means}
 use Rattle.pm_meaning.specs.declared.command_line.CommandLine.{CommandLine}
 use Rattle.pm_meaning.specs.declared.process.End.{End}
 use Rattle.pm_meaning.specs.declared.process.End.TheVariants.{Delivered}

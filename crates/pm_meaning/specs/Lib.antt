@@ -1,6 +1,3 @@
-pub mod Plan
-pub mod Executed
-pub mod Walking
 pub mod CommandLine
 pub mod FirstValues
 pub mod Changes

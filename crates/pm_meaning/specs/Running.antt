@@ -12,8 +12,8 @@ use Rattle.pm_journal.specs.LogText.{couldnt_read_line, no_delivery_line}
 use Rattle.pm_journal.specs.declared.acts.Act.TheVariants.{ReadFile, Moment}
 use Rattle.pm_journal.specs.declared.acts.Reply.{Reply}
 use Rattle.pm_journal.specs.declared.acts.Reply.TheVariants.{Content, Now}
-use Rattle.pm_meaning.specs.Plan.{Plan, Ends, and_then, ask}
-use Rattle.pm_meaning.specs.Walking.{Next, Stop, Go}
+use Rattle.pm_journal.specs.Plan.{Plan, Ends, and_then, ask}
+use Rattle.pm_journal.specs.Walking.{Next, Stop, Go}
 use Rattle.pm_meaning.specs.FirstValues.{login_name, first_process}
 use Rattle.pm_meaning.specs.Changes.{entered, is_given}
 use Rattle.pm_meaning.specs.Turns.{Turn, GoesOn, Halts, say_then}

@@ -6,7 +6,7 @@ use Rattle.pm_subst.specs.Words.{size_in}
 use Rattle.pm_subst.specs.declared.kinds.Mode.{Mode}
 use Rattle.pm_journal.specs.LogText.{value_too_long_line}
 use Rattle.pm_journal.specs.declared.acts.Act.TheVariants.{SayErr}
-use Rattle.pm_meaning.specs.Plan.{Plan, Ends, and_then, ask}
+use Rattle.pm_journal.specs.Plan.{Plan, Ends, and_then, ask}
 use Rattle.pm_meaning.specs.Changes.{overflowed}
 use Rattle.pm_meaning.specs.declared.process.Process.{Process}
 use Rattle.pm_meaning.specs.declared.process.End.{End}

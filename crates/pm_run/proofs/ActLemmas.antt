@@ -8,10 +8,10 @@ use Rattle.pm_append.specs.ReadsFile.{LeavesReading}
 use Rattle.pm_journal.specs.JournalState.{JournalState}
 use Rattle.pm_journal.specs.Entries.{view_of}
 use Rattle.pm_journal.specs.declared.acts.Act.TheVariants.{ReadFile}
-use Rattle.pm_meaning.specs.Plan.{Ends, ask}
-use Rattle.pm_meaning.specs.Executed.{OutOfMemory}
-use Rattle.pm_meaning.proofs.Lines.{act_after_room}
-use Rattle.pm_meaning.proofs.WantsMemory.{out_left_off}
+use Rattle.pm_journal.specs.Plan.{Ends, ask}
+use Rattle.pm_journal.specs.Executed.{OutOfMemory}
+use Rattle.pm_journal.proofs.FirstActs.{act_after_room}
+use Rattle.pm_journal.proofs.WantsMemory.{out_left_off}
 use Rattle.pm_run.specs.Acts.{Reads}
 
 pub file_read : (name : List ℕ) (result : Result (Option (List ℕ)) Memory) (x w y : JournalState) (host host' : HostView) (err : StreamView) (count : ℕ) (out : StreamView) → out.faults ≡ count → w.entries ≡ x.entries

@@ -12,15 +12,15 @@ use Rattle.pm_journal.specs.declared.acts.Reply.TheVariants.{Found}
 use Rattle.pm_vars.specs.Table.{Table}
 use Rattle.pm_vars.specs.Variables.{with_value}
 use Rattle.pm_subst.specs.declared.kinds.Mode.TheVariants.{One}
-use Rattle.pm_meaning.specs.Plan.{Ends, and_then, ask}
-use Rattle.pm_meaning.specs.Executed.{Executes, OutOfMemory}
+use Rattle.pm_journal.specs.Plan.{Ends, and_then, ask}
+use Rattle.pm_journal.specs.Executed.{Executes, OutOfMemory}
 use Rattle.pm_meaning.specs.Changes.{with_variable, with_base}
 use Rattle.pm_meaning.specs.Turns.{Turn, GoesOn, Halts, say_then, not_built, is_too_long, has_command, skip_value}
 use Rattle.pm_meaning.specs.Assigning.{is_file_text, is_later, leads_elsewhere, value_in, probed, change_folder, assigned, assign}
 use Rattle.pm_meaning.specs.declared.process.Process.{Process}
 use Rattle.pm_meaning.specs.declared.process.End.TheVariants.{NotBuilt}
-use Rattle.pm_meaning.proofs.OneAct.{executes_then}
-use Rattle.pm_meaning.proofs.WantsMemory.{executes_nothing, out_then, out_anywhere}
+use Rattle.pm_journal.proofs.ActPlans.{executes_then}
+use Rattle.pm_journal.proofs.WantsMemory.{executes_nothing, out_then, out_anywhere}
 use Rattle.pm_run.specs.Acts.{Says}
 use Rattle.pm_run.specs.Names.{file_name_of}
 use Rattle.pm_run.proofs.Choices.{choose_then, choose_else, then_out, else_out, line_told, line_out}

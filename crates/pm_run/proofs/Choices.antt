@@ -4,11 +4,11 @@ use Rattle.std.specs.Prelude.{if◌then◌else◌}
 use Rattle.pm_journal.specs.JournalState.{JournalState}
 use Rattle.pm_journal.specs.Entries.{View}
 use Rattle.pm_journal.specs.declared.acts.Act.TheVariants.{SayErr}
-use Rattle.pm_meaning.specs.Plan.{Plan, Ends, ask}
-use Rattle.pm_meaning.specs.Executed.{Executes, OutOfMemory}
+use Rattle.pm_journal.specs.Plan.{Plan, Ends, ask}
+use Rattle.pm_journal.specs.Executed.{Executes, OutOfMemory}
 use Rattle.pm_meaning.specs.Turns.{say_then}
-use Rattle.pm_meaning.proofs.OneAct.{executes_then}
-use Rattle.pm_meaning.proofs.WantsMemory.{executes_nothing, out_front}
+use Rattle.pm_journal.proofs.ActPlans.{executes_then}
+use Rattle.pm_journal.proofs.WantsMemory.{executes_nothing, out_front}
 use Rattle.pm_run.specs.Acts.{Says}
 
 pub choose_then : {R : Type 0} (b : Bool) (p q : Plan R) (end : R) (x y : JournalState) (s t : View) → b ≡ true → Executes p end x y s t → Executes (if b then p else q) end x y s t

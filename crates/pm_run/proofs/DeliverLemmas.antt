@@ -13,13 +13,13 @@ use Rattle.pm_recipe.specs.declared.tree.Action.{Action}
 use Rattle.pm_recipe.specs.declared.tree.Action.TheVariants.{Mailbox, Pipe, Capture, Forward, WriteOut, Block}
 use Rattle.pm_subst.specs.Words.{words_in}
 use Rattle.pm_subst.specs.declared.kinds.Mode.TheVariants.{Many}
-use Rattle.pm_meaning.specs.Plan.{Plan, ask}
-use Rattle.pm_meaning.specs.Executed.{Executes, OutOfMemory}
+use Rattle.pm_journal.specs.Plan.{Plan, ask}
+use Rattle.pm_journal.specs.Executed.{Executes, OutOfMemory}
 use Rattle.pm_meaning.specs.Turns.{Turn, GoesOn, Halts, say_then, not_built, is_too_long, has_command, skip_value}
 use Rattle.pm_meaning.specs.Delivering.{is_plain, is_folder_name, are_file_texts, file_all, deliver_to, deliver, act_on, run_recipe}
 use Rattle.pm_meaning.specs.declared.process.Process.{Process}
 use Rattle.pm_meaning.specs.declared.process.End.TheVariants.{NotBuilt}
-use Rattle.pm_meaning.proofs.WantsMemory.{executes_nothing}
+use Rattle.pm_journal.proofs.WantsMemory.{executes_nothing}
 use Rattle.pm_run.specs.Acts.{Says}
 use Rattle.pm_run.proofs.Choices.{choose_then, choose_else, then_out, else_out, line_told, line_out}
 

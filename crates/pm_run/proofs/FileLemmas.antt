@@ -7,8 +7,8 @@ use Rattle.pm_journal.specs.Appending.{append_reply}
 use Rattle.pm_journal.specs.declared.acts.Act.TheVariants.{Append, SayErr}
 use Rattle.pm_journal.specs.declared.appending.AppendEnd.{AppendEnd}
 use Rattle.pm_journal.specs.declared.appending.AppendEnd.TheVariants.{Done, Undone, Torn, IsFolder, Raced}
-use Rattle.pm_meaning.specs.Plan.{Plan, Ends, and_then, ask}
-use Rattle.pm_meaning.specs.Executed.{Executes, OutOfMemory, LeadsTo}
+use Rattle.pm_journal.specs.Plan.{Plan, Ends, and_then, ask}
+use Rattle.pm_journal.specs.Executed.{Executes, OutOfMemory, LeadsTo}
 use Rattle.pm_bytes.specs.Path.{full_name}
 use Rattle.pm_recipe.specs.declared.tree.Flags.{Flags}
 use Rattle.pm_meaning.specs.Changes.{stored_in}
@@ -19,9 +19,9 @@ use Rattle.pm_meaning.specs.declared.process.End.{End}
 use Rattle.pm_meaning.specs.declared.process.End.TheVariants.{NotBuilt}
 use Rattle.pm_meaning.specs.declared.process.Filed.{Filed}
 use Rattle.pm_meaning.specs.declared.process.Filed.TheVariants.{Stored, Failed, Folder}
-use Rattle.pm_meaning.proofs.OneAct.{executes_then}
-use Rattle.pm_meaning.proofs.WantsMemory.{executes_nothing, out_then, out_front, out_anywhere}
-use Rattle.pm_meaning.proofs.PlanLeads.{leads_on, leads_to_end, leads_to_want}
+use Rattle.pm_journal.proofs.ActPlans.{executes_then}
+use Rattle.pm_journal.proofs.WantsMemory.{executes_nothing, out_then, out_front, out_anywhere}
+use Rattle.pm_journal.proofs.PlanLeads.{leads_on, leads_to_end, leads_to_want}
 use Rattle.pm_run.specs.Acts.{Says}
 use Rattle.pm_run.specs.Ends.{turn_of, failure_line}
 use Rattle.pm_run.proofs.Choices.{choose_then, choose_else, else_out, line_told, line_out}

@@ -18,20 +18,20 @@ use Rattle.pm_journal.specs.LogText.{couldnt_read_line, no_delivery_line}
 use Rattle.pm_journal.specs.declared.acts.Act.TheVariants.{ReadFile, SayErr, Moment}
 use Rattle.pm_journal.specs.declared.acts.Reply.{Reply}
 use Rattle.pm_journal.specs.declared.acts.Reply.TheVariants.{Content, Now}
-use Rattle.pm_meaning.specs.Plan.{Ends, and_then, ask}
-use Rattle.pm_meaning.specs.Executed.{Executes, OutOfMemory}
+use Rattle.pm_journal.specs.Plan.{Ends, and_then, ask}
+use Rattle.pm_journal.specs.Executed.{Executes, OutOfMemory}
 use Rattle.pm_meaning.specs.FirstValues.{login_name, first_process}
 use Rattle.pm_meaning.specs.Changes.{entered}
 use Rattle.pm_meaning.specs.Turns.{Turn, GoesOn, Halts, say_then}
-use Rattle.pm_meaning.specs.Walking.{Next, Stop, Go, Reaches, Completes, Interrupted}
+use Rattle.pm_journal.specs.Walking.{Next, Stop, Go, Reaches, Completes, Interrupted}
 use Rattle.pm_meaning.specs.Running.{State, Arrived, Running, Item, Do, step, renewal, begun, dated, unread, ahead, after_read, has_default, fall_off, statement, next_of}
 use Rattle.pm_meaning.specs.declared.command_line.CommandLine.{CommandLine}
 use Rattle.pm_meaning.specs.declared.process.Process.{Process}
 use Rattle.pm_meaning.specs.declared.process.End.{End}
 use Rattle.pm_meaning.specs.declared.process.End.TheVariants.{FellOff, NoRc, NotBuilt}
-use Rattle.pm_meaning.proofs.OneAct.{executes_then}
-use Rattle.pm_meaning.proofs.WantsMemory.{executes_nothing, out_then, out_front, out_anywhere}
-use Rattle.pm_meaning.proofs.WalkJoin.{reaches_then, completes_then, interrupted_then}
+use Rattle.pm_journal.proofs.ActPlans.{executes_then}
+use Rattle.pm_journal.proofs.WantsMemory.{executes_nothing, out_then, out_front, out_anywhere}
+use Rattle.pm_journal.proofs.WalkJoin.{reaches_then, completes_then, interrupted_then}
 use Rattle.pm_run.specs.Acts.{Says, Reads}
 use Rattle.pm_run.specs.Ends.{opening}
 use Rattle.pm_run.proofs.Choices.{choose_then, choose_else, then_out, else_out, line_told, line_out}

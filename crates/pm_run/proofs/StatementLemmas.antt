@@ -3,7 +3,7 @@ use Rattle.std.proofs.Common.{◌≡◌, List, ℕ, sym, subst}
 use Rattle.pm_journal.specs.JournalState.{JournalState}
 use Rattle.pm_journal.specs.Entries.{View}
 use Rattle.pm_journal.specs.LogText.{value_too_long_line}
-use Rattle.pm_meaning.specs.Executed.{Executes}
+use Rattle.pm_journal.specs.Executed.{Executes}
 use Rattle.pm_meaning.specs.Changes.{overflowed}
 use Rattle.pm_meaning.specs.Turns.{GoesOn, say_then}
 use Rattle.pm_meaning.specs.declared.process.Process.{Process}

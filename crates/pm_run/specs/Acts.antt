@@ -5,8 +5,8 @@ use Rattle.pm_journal.specs.JournalState.{JournalState}
 use Rattle.pm_journal.specs.Entries.{View}
 use Rattle.pm_journal.specs.declared.acts.Act.TheVariants.{ReadFile, SayErr}
 use Rattle.pm_journal.specs.declared.acts.Reply.{Reply}
-use Rattle.pm_meaning.specs.Plan.{ask}
-use Rattle.pm_meaning.specs.Executed.{Executes}
+use Rattle.pm_journal.specs.Plan.{ask}
+use Rattle.pm_journal.specs.Executed.{Executes}
 
 -- the text was said, with some reply
 pub record Says (text : List ℕ) (old new : JournalState) (before after : View) : Type 0 where

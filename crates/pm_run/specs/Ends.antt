@@ -4,7 +4,7 @@ use Rattle.pm_journal.specs.declared.appending.AppendEnd.{AppendEnd}
 use Rattle.pm_journal.specs.declared.appending.AppendEnd.TheVariants.{Torn}
 use Rattle.pm_journal.specs.LogText.{couldnt_write_line, bytes_left_line}
 use Rattle.pm_meaning.specs.Turns.{Turn, GoesOn, Halts}
-use Rattle.pm_meaning.specs.Walking.{Next, Stop, Go}
+use Rattle.pm_journal.specs.Walking.{Next, Stop, Go}
 use Rattle.pm_meaning.specs.Running.{State, Running, Open, ahead}
 use Rattle.pm_meaning.specs.declared.process.Process.{Process}
 use Rattle.pm_meaning.specs.declared.process.End.{End}

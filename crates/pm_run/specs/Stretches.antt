@@ -4,7 +4,7 @@ use Rattle.pm_journal.specs.JournalState.{JournalState}
 use Rattle.pm_journal.specs.Entries.{View}
 use Rattle.pm_recipe.specs.Tree.{Trees}
 use Rattle.pm_meaning.specs.Running.{Running, ahead, step}
-use Rattle.pm_meaning.specs.Walking.{Reaches, Completes}
+use Rattle.pm_journal.specs.Walking.{Reaches, Completes}
 use Rattle.pm_meaning.specs.declared.process.Process.{Process}
 use Rattle.pm_meaning.specs.declared.process.End.{End}
 

@@ -5,8 +5,8 @@ ghost use Rattle.pm_journal.specs.declared.acts.Act.TheVariants.{ReadFile, Probe
 ghost use Rattle.pm_journal.specs.declared.acts.Reply.TheVariants.{Found, Now};
 ghost use Rattle.pm_journal.specs.Appending.{append_reply};
 ghost use Rattle.pm_journal.specs.Entries.{view_of};
-ghost use Rattle.pm_meaning.specs.Plan.{ask};
-ghost use Rattle.pm_meaning.specs.Executed.{Executes, OutOfMemory};
+ghost use Rattle.pm_journal.specs.Plan.{ask};
+ghost use Rattle.pm_journal.specs.Executed.{Executes, OutOfMemory};
 ghost use Rattle.pm_run.specs.Acts.{Says, Reads};
 
 use pm_append::{AppendEnd, append_noted, moment_noted, probe_noted, read_noted, say};

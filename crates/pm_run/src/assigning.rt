@@ -3,8 +3,8 @@ ghost use Rattle.std.specs.Prelude.{◌≡◌, ◌||◌, bytes_eq, codes, IfOk, 
 ghost use Rattle.pm_journal.specs.Entries.{view_of};
 ghost use Rattle.pm_journal.specs.declared.acts.Act.TheVariants.{Probe};
 ghost use Rattle.pm_meaning.specs.Assigning.{is_one_of, is_later, leads_elsewhere, is_file_text, probed, change_folder, assigned, assign, unset};
-ghost use Rattle.pm_meaning.specs.Executed.{Executes, OutOfMemory};
-ghost use Rattle.pm_meaning.specs.Plan.{Ends, and_then, ask};
+ghost use Rattle.pm_journal.specs.Executed.{Executes, OutOfMemory};
+ghost use Rattle.pm_journal.specs.Plan.{Ends, and_then, ask};
 ghost use Rattle.pm_meaning.specs.Turns.{has_command};
 ghost use Rattle.pm_subst.specs.declared.kinds.Mode.TheVariants.{One};
 ghost use Rattle.pm_run.specs.Ends.{turn_of};

@@ -3,7 +3,7 @@ ghost use Rattle.std.specs.Prelude.{◌≡◌, IfOk, OnErr};
 ghost use Rattle.pm_journal.specs.Entries.{view_of};
 ghost use Rattle.pm_recipe.specs.View.{act_of};
 ghost use Rattle.pm_meaning.specs.Delivering.{is_plain, is_folder_name, deliver_to, deliver, run_recipe};
-ghost use Rattle.pm_meaning.specs.Executed.{Executes, OutOfMemory};
+ghost use Rattle.pm_journal.specs.Executed.{Executes, OutOfMemory};
 ghost use Rattle.std.specs.List.{list_any, ends_with};
 ghost use Rattle.pm_run.specs.Ends.{turn_of};
 ghost use Rattle.pm_run.specs.Names.{AreNames, top_of};

@@ -5,7 +5,7 @@ ghost use Rattle.pm_journal.specs.Appending.{append_reply};
 ghost use Rattle.pm_journal.specs.Entries.{view_of};
 ghost use Rattle.pm_meaning.specs.Changes.{stored_in};
 ghost use Rattle.pm_meaning.specs.Delivering.{feed_of, mailbox_piece, after_append, is_nothing, file_at, all_stored, file_all};
-ghost use Rattle.pm_meaning.specs.Executed.{Executes, OutOfMemory};
+ghost use Rattle.pm_journal.specs.Executed.{Executes, OutOfMemory};
 ghost use Rattle.pm_run.specs.Ends.{turn_of, failure_line};
 
 use crate::acts::{append, tell};

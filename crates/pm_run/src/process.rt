@@ -3,9 +3,9 @@ ghost use Rattle.std.specs.Prelude.{◌≡◌, ◌≤◌, [], ◌∷◌, length,
 ghost use Rattle.pm_journal.specs.Entries.{view_of};
 ghost use Rattle.pm_message.specs.FromLine.{makes_line, prepared_of};
 ghost use Rattle.pm_meaning.specs.Changes.{entered, is_given};
-ghost use Rattle.pm_meaning.specs.Executed.{Executes, OutOfMemory};
+ghost use Rattle.pm_journal.specs.Executed.{Executes, OutOfMemory};
 ghost use Rattle.pm_meaning.specs.Running.{Arrived, Running, ahead, step, renewal, unread, has_default, fall_off as fall_off_plan};
-ghost use Rattle.pm_meaning.specs.Walking.{Stop, Go, Completes, Interrupted};
+ghost use Rattle.pm_journal.specs.Walking.{Stop, Go, Completes, Interrupted};
 ghost use Rattle.pm_meaning.specs.declared.process.End.{End};
 ghost use Rattle.pm_recipe.specs.Build.{rc_of};
 ghost use Rattle.pm_run.specs.Ends.{opening, opened_next};

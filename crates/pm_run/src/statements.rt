@@ -3,10 +3,10 @@ ghost use Rattle.std.specs.Prelude.{◌≡◌, ◌-◌, ◌^◌, ℕ, [], List, 
 ghost use Rattle.pm_journal.specs.Entries.{view_of};
 ghost use Rattle.pm_meaning.specs.Assigning.{skip_defect};
 ghost use Rattle.pm_meaning.specs.Changes.{overflowed};
-ghost use Rattle.pm_meaning.specs.Executed.{Executes, OutOfMemory};
+ghost use Rattle.pm_journal.specs.Executed.{Executes, OutOfMemory};
 ghost use Rattle.pm_meaning.specs.Running.{Running, ahead, step, statement as statement_plan};
 ghost use Rattle.pm_meaning.specs.Turns.{GoesOn, say_then};
-ghost use Rattle.pm_meaning.specs.Walking.{Interrupted};
+ghost use Rattle.pm_journal.specs.Walking.{Interrupted};
 ghost use Rattle.pm_meaning.specs.declared.process.End.{End};
 ghost use Rattle.pm_journal.specs.LogText.{value_too_long_line};
 ghost use Rattle.pm_recipe.specs.View.{tree_of};

@@ -8,13 +8,13 @@ use Rattle.pm_journal.specs.JournalState.{JournalState}
 use Rattle.pm_journal.specs.Entries.{View, Accounts, after_entries}
 use Rattle.pm_journal.specs.Deliveries.{AllDelivered}
 use Rattle.pm_journal.specs.Held.{Keeps, AllGivenBack}
-use Rattle.pm_meaning.specs.Executed.{HoldsNone}
+use Rattle.pm_journal.specs.Executed.{HoldsNone}
 use Rattle.pm_journal.proofs.AccountsJoin.{accounts_effect}
 use Rattle.pm_journal.proofs.DeliveriesHold.{accounts_deliver}
 use Rattle.pm_journal.proofs.KeepsJoin.{all_given_back}
 use Rattle.pm_meaning.specs.Running.{Arrived, step}
 use Rattle.pm_meaning.specs.Status.{status_number, end_status}
-use Rattle.pm_meaning.specs.Walking.{Means, Completes, Interrupted}
+use Rattle.pm_journal.specs.Walking.{Means, Completes, Interrupted}
 use Rattle.pm_meaning.specs.declared.command_line.CommandLine.{CommandLine}
 use Rattle.pm_meaning.specs.declared.process.End.{End}
 use Rattle.pm_meaning.specs.declared.status.Status.{Status}

@@ -12,7 +12,7 @@ use Rattle.pm_journal.specs.Deliveries.{AllDelivered}
 use Rattle.pm_meaning.specs.CommandLine.{command_line}
 use Rattle.pm_meaning.specs.Running.{Arrived, step}
 use Rattle.pm_meaning.specs.Status.{status_number, end_status}
-use Rattle.pm_meaning.specs.Walking.{Means}
+use Rattle.pm_journal.specs.Walking.{Means}
 use Rattle.pm_meaning.specs.declared.command_line.CommandLine.{CommandLine}
 use Rattle.pm_meaning.specs.declared.process.End.{End}
 use Rattle.pm_meaning.specs.declared.status.Status.{Status}

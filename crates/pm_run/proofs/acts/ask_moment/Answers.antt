@@ -1,7 +1,7 @@
 use Rattle.std.proofs.Common.{rules, sym, w64}
 use Rattle.std.proofs.Math.Facts.{to_z-of_z}
-use Rattle.pm_meaning.proofs.Lines.{act_after_room}
-use Rattle.pm_meaning.proofs.WantsMemory.{on_err, out_anywhere}
+use Rattle.pm_journal.proofs.FirstActs.{act_after_room}
+use Rattle.pm_journal.proofs.WantsMemory.{on_err, out_anywhere}
 use Rattle.pm_run.proofs.acts.ask_moment.Goals as goal
 
 pub returns-in_err-reserve-clause-memory : goal.returns-in_err-reserve-clause-memory

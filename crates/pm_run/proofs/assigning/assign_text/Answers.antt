@@ -1,6 +1,6 @@
 use Rattle.std.proofs.Common.{refl, sym, ◌∙◌, ap}
 use Rattle.pm_meaning.specs.Assigning.{first_word}
-use Rattle.pm_meaning.proofs.WantsMemory.{on_err, out_anywhere}
+use Rattle.pm_journal.proofs.WantsMemory.{on_err, out_anywhere}
 use Rattle.pm_run.proofs.AssignLemmas.{ok_map, err_map, assignment_waits, value_assigned, value_assigned_out}
 use Rattle.pm_run.proofs.assigning.assign_text.Goals as goal
 

@@ -1,6 +1,6 @@
 use Rattle.std.proofs.Common.{refl, sym, ◌∙◌, ap}
 use Rattle.pm_meaning.specs.Assigning.{leads_elsewhere}
-use Rattle.pm_meaning.proofs.WantsMemory.{on_err, out_anywhere}
+use Rattle.pm_journal.proofs.WantsMemory.{on_err, out_anywhere}
 use Rattle.pm_run.proofs.AssignLemmas.{ok_map, err_map, set_then, led_away, set_plainly, folder_changed, folder_changed_out}
 use Rattle.pm_run.proofs.assigning.assign_value.Goals as goal
 

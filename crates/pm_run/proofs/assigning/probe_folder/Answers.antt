@@ -1,6 +1,6 @@
 use Rattle.std.proofs.Common.{refl, rules}
 use Rattle.pm_meaning.specs.Assigning.{probed}
-use Rattle.pm_meaning.proofs.WantsMemory.{on_err, out_anywhere, out_front}
+use Rattle.pm_journal.proofs.WantsMemory.{on_err, out_anywhere, out_front}
 use Rattle.pm_run.proofs.AssignLemmas.{folder_missed, folder_untold, probed_only}
 use Rattle.pm_run.proofs.assigning.probe_folder.Goals as goal
 

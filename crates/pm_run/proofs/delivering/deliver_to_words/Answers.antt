@@ -1,5 +1,5 @@
 use Rattle.std.proofs.Common.{refl, sym, ◌∙◌}
-use Rattle.pm_meaning.proofs.WantsMemory.{on_err, out_anywhere}
+use Rattle.pm_journal.proofs.WantsMemory.{on_err, out_anywhere}
 use Rattle.pm_run.proofs.DeliverLemmas.{texts_unusable_out, folder_among}
 use Rattle.pm_run.proofs.delivering.deliver_to_words.Goals as goal
 

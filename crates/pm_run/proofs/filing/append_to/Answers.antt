@@ -1,5 +1,5 @@
 use Rattle.std.proofs.Common.{refl, sym, ◌∙◌}
-use Rattle.pm_meaning.proofs.WantsMemory.{on_err, out_anywhere}
+use Rattle.pm_journal.proofs.WantsMemory.{on_err, out_anywhere}
 use Rattle.pm_run.proofs.AssignLemmas.{ok_map, err_map}
 use Rattle.pm_run.proofs.FileLemmas.{taken_by_nothing, appended, appended_out, not_appended}
 use Rattle.pm_run.proofs.filing.append_to.Goals as goal

@@ -1,7 +1,7 @@
 use Rattle.std.proofs.Common.{◌≤◌, length, arith}
 use Rattle.pm_meaning.specs.Delivering.{file_all}
-use Rattle.pm_meaning.proofs.PlanLeads.{leads_itself}
-use Rattle.pm_meaning.proofs.WantsMemory.{on_err}
+use Rattle.pm_journal.proofs.PlanLeads.{leads_itself}
+use Rattle.pm_journal.proofs.WantsMemory.{on_err}
 use Rattle.pm_run.proofs.FileLemmas.{front_of_rest, stored_on, stored_then_wants, failed_end, folder_end, filing_wants, all_filed}
 use Rattle.pm_run.proofs.filing.file_in_all.Goals as goal
 

@@ -1,7 +1,7 @@
 use Rattle.std.proofs.Common.{drop}
 use Rattle.pm_journal.specs.Entries.{view_of}
 use Rattle.pm_meaning.specs.Delivering.{file_all}
-use Rattle.pm_meaning.specs.Executed.{LeadsTo}
+use Rattle.pm_journal.specs.Executed.{LeadsTo}
 use Rattle.pm_run.proofs.filing.file_in_all.Given as goal
 
 abbrev pub invariant-loop-name : goal.invariant-loop-name

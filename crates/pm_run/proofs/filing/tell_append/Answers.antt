@@ -1,5 +1,5 @@
 use Rattle.std.proofs.Common.{refl, rules}
-use Rattle.pm_meaning.proofs.WantsMemory.{on_err, out_anywhere}
+use Rattle.pm_journal.proofs.WantsMemory.{on_err, out_anywhere}
 use Rattle.pm_run.proofs.FileLemmas.{failure_told, failure_untold, done_told, folder_told}
 use Rattle.pm_run.proofs.filing.tell_append.Goals as goal
 

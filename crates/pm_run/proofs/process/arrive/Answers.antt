@@ -1,6 +1,6 @@
 use Rattle.std.proofs.Common.{refl, rules, sym, ◌∙◌, w64}
 use Rattle.std.proofs.Math.Facts.{to_z-of_z}
-use Rattle.pm_meaning.proofs.WantsMemory.{on_err, out_anywhere}
+use Rattle.pm_journal.proofs.WantsMemory.{on_err, out_anywhere}
 use Rattle.pm_run.proofs.AssignLemmas.{ok_map}
 use Rattle.pm_run.proofs.ProcessLemmas.{arrived_whole, arrived_dated, dating_wants, dated_then_wants}
 use Rattle.pm_run.proofs.process.arrive.Goals as goal

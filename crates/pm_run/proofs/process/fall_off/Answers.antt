@@ -1,5 +1,5 @@
 use Rattle.std.proofs.Common.{refl, sym, ◌∙◌}
-use Rattle.pm_meaning.proofs.WantsMemory.{on_err, out_anywhere}
+use Rattle.pm_journal.proofs.WantsMemory.{on_err, out_anywhere}
 use Rattle.pm_run.proofs.ProcessLemmas.{default_waits, fell_off, fell_off_out}
 use Rattle.pm_run.proofs.process.fall_off.Goals as goal
 

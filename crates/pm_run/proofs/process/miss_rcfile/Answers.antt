@@ -1,5 +1,5 @@
 use Rattle.std.proofs.Common.{refl}
-use Rattle.pm_meaning.proofs.WantsMemory.{on_err, out_anywhere}
+use Rattle.pm_journal.proofs.WantsMemory.{on_err, out_anywhere}
 use Rattle.pm_run.proofs.ProcessLemmas.{filter_ends, miss_out}
 use Rattle.pm_run.proofs.process.miss_rcfile.Goals as goal
 

@@ -1,5 +1,5 @@
 use Rattle.std.proofs.Common.{refl}
-use Rattle.pm_meaning.proofs.WantsMemory.{on_err, out_anywhere}
+use Rattle.pm_journal.proofs.WantsMemory.{on_err, out_anywhere}
 use Rattle.pm_run.proofs.AssignLemmas.{ok_map, err_map}
 use Rattle.pm_run.proofs.ProcessLemmas.{rcfile_read, read_then_wants, rcfile_missed, rcfile_missed_out, reading_wants}
 use Rattle.pm_run.proofs.process.open_rcfile.Goals as goal

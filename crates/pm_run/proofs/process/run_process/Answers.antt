@@ -1,6 +1,6 @@
 use Rattle.pm_meaning.specs.Running.{Arrived, step}
-use Rattle.pm_meaning.proofs.WantsMemory.{on_err}
-use Rattle.pm_meaning.proofs.WalkJoin.{completes_after, interrupted_at_once, interrupted_after}
+use Rattle.pm_journal.proofs.WantsMemory.{on_err}
+use Rattle.pm_journal.proofs.WalkJoin.{completes_after, interrupted_at_once, interrupted_after}
 use Rattle.pm_run.specs.Ends.{opening}
 use Rattle.pm_run.proofs.AssignLemmas.{ok_map, err_map}
 use Rattle.pm_run.proofs.process.run_process.Goals as goal

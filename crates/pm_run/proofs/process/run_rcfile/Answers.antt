@@ -1,7 +1,7 @@
 use Rattle.std.proofs.Common.{[]}
 use Rattle.pm_meaning.specs.Running.{Running, ahead, step}
-use Rattle.pm_meaning.proofs.WantsMemory.{on_err}
-use Rattle.pm_meaning.proofs.WalkJoin.{completes_at_once, completes_after, interrupted_at_once, interrupted_after}
+use Rattle.pm_journal.proofs.WantsMemory.{on_err}
+use Rattle.pm_journal.proofs.WalkJoin.{completes_at_once, completes_after, interrupted_at_once, interrupted_after}
 use Rattle.pm_run.specs.Ends.{opening}
 use Rattle.pm_run.proofs.AssignLemmas.{ok_map, err_map}
 use Rattle.pm_run.proofs.process.run_rcfile.Goals as goal

@@ -1,6 +1,6 @@
 use Rattle.std.proofs.Common.{[]}
 use Rattle.pm_meaning.specs.Running.{Running, ahead, step}
-use Rattle.pm_meaning.proofs.WalkJoin.{completes_then, interrupted_then}
+use Rattle.pm_journal.proofs.WalkJoin.{completes_then, interrupted_then}
 use Rattle.pm_run.proofs.AssignLemmas.{ok_map, err_map}
 use Rattle.pm_run.proofs.process.run_rest.Goals as goal
 

@@ -2,7 +2,7 @@ use Rattle.std.proofs.Common.{[], drop}
 use Rattle.pm_journal.specs.Entries.{view_of}
 use Rattle.pm_recipe.specs.View.{trees_of}
 use Rattle.pm_meaning.specs.Running.{Running, ahead, step}
-use Rattle.pm_meaning.specs.Walking.{Reaches}
+use Rattle.pm_journal.specs.Walking.{Reaches}
 use Rattle.pm_meaning.specs.declared.process.End.{End}
 use Rattle.pm_run.proofs.statements.run_statements.Given as goal
 

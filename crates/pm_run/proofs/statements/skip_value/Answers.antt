@@ -3,7 +3,7 @@ use Rattle.std.specs.Prelude.{codes}
 use Rattle.pm_journal.specs.LogText.{value_too_long_line}
 use Rattle.pm_meaning.specs.Changes.{overflowed}
 use Rattle.pm_meaning.specs.Turns.{GoesOn}
-use Rattle.pm_meaning.proofs.WantsMemory.{on_err, out_anywhere}
+use Rattle.pm_journal.proofs.WantsMemory.{on_err, out_anywhere}
 use Rattle.pm_run.proofs.AssignLemmas.{set_copy}
 use Rattle.pm_run.proofs.Choices.{line_out}
 use Rattle.pm_run.proofs.StatementLemmas.{skip_told}

@@ -1,0 +1,91 @@
+-- Acts as entries.
+use Rattle.std.proofs.Common.{◌≡◌, ℕ, ℤ, ◌+◌, List, [], ◌∷◌, ◌++◌, refl, sym, subst, append-nil}
+use Rattle.pm_host.specs.Told.{HostView, Tells, Adds, Makes}
+use Rattle.pm_host.specs.Streams.{StreamView}
+use Rattle.pm_host.specs.declared.answers.Looked.{Looked}
+use Rattle.pm_host.specs.declared.answers.Removed.{Removed}
+use Rattle.pm_host.specs.declared.calls.Call.TheVariants.{Look, Remove, Now}
+use Rattle.pm_host.specs.declared.calls.Answer.TheVariants.{Look as AnswerLook, Remove as AnswerRemove, Now as AnswerNow}
+use Rattle.pm_host.proofs.RunsJoin.{tells_at, ran_none}
+use Rattle.pm_journal.specs.Appending.{Appends, append_reply}
+use Rattle.pm_journal.specs.Entries.{View, seen_by, counts_of, said_by, unlock_reply, Accounts}
+use Rattle.pm_journal.specs.JournalState.{JournalState}
+use Rattle.pm_journal.specs.Noted.{NotesAct}
+use Rattle.pm_journal.specs.Replies.{IsWriteReply}
+use Rattle.pm_journal.specs.declared.acts.Act.{Act}
+use Rattle.pm_journal.specs.declared.acts.Act.TheVariants.{ReadFile, Probe, Append, Unlock, SayFile, SayErr, Moment}
+use Rattle.pm_journal.specs.declared.acts.Entry.{Entry}
+use Rattle.pm_journal.specs.declared.acts.Reply.{Reply}
+use Rattle.pm_journal.specs.declared.acts.Reply.TheVariants.{Found, Now as ReplyNow}
+use Rattle.pm_journal.specs.declared.appending.AppendEnd.{AppendEnd}
+use Rattle.pm_journal.proofs.OneAct.{append_accounts, say_file_accounts, probe_accounts, moment_accounts, unlock_accounts}
+use Rattle.pm_journal.proofs.ReadJoin.{read_accounts}
+use Rattle.pm_append.specs.ReadsFile.{ReadsFile, read_reply}
+use Rattle.pm_append.specs.Writing.{WritesText, say_reply}
+use Rattle.pm_append.specs.declared.read.ReadEnd.{ReadEnd}
+use Rattle.pm_append.specs.declared.writing.WriteEnd.{WriteEnd}
+use Rattle.pm_append.specs.declared.writing.WriteEnd.TheVariants.{Wrote, Short}
+
+-- the entry of an act between two moments
+abbrev pub entry_of : Act → Reply → View → View → Entry
+entry_of act reply s t = record { act = act; reply = reply; before = counts_of s; after = counts_of t }
+
+-- an entry that stands for what was done is a noted act
+noted : (act : Act) (reply : Reply) (x y : JournalState) (s t : View) → Accounts (entry_of act reply s t ∷ []) s t → y.entries ≡ x.entries ++ entry_of act reply s t ∷ []
+    → y.room + 1 ≡ x.room → NotesAct act reply x y s t
+noted act reply x y s t h e r = record { entry = entry_of act reply s t; act_is = refl; reply_is = refl; entries = e; room = r; accounts = h }
+
+pub append_notes : (refs name piece : List ℕ) (end : AppendEnd) (x y : JournalState) (a b : HostView) (out err : StreamView) → Appends name piece end a b
+    → y.entries ≡ x.entries ++ entry_of (Append name piece) (append_reply end) (seen_by refs a out err) (seen_by refs b out err) ∷ [] → y.room + 1 ≡ x.room
+    → NotesAct (Append name piece) (append_reply end) x y (seen_by refs a out err) (seen_by refs b out err)
+append_notes refs name piece end x y a b out err h e r =
+    noted (Append name piece) (append_reply end) x y (seen_by refs a out err) (seen_by refs b out err) (append_accounts refs name piece end a b out err h) e r
+
+pub say_file_notes : (refs name text : List ℕ) (end : AppendEnd) (x y : JournalState) (a b : HostView) (out err : StreamView) → Appends name text end a b
+    → y.entries ≡ x.entries ++ entry_of (SayFile name text) (append_reply end) (seen_by refs a out err) (seen_by refs b out err) ∷ [] → y.room + 1 ≡ x.room
+    → NotesAct (SayFile name text) (append_reply end) x y (seen_by refs a out err) (seen_by refs b out err)
+say_file_notes refs name text end x y a b out err h e r =
+    noted (SayFile name text) (append_reply end) x y (seen_by refs a out err) (seen_by refs b out err) (say_file_accounts refs name text end a b out err h) e r
+
+say_reply_is : (end : WriteEnd) → IsWriteReply (say_reply end)
+say_reply_is Wrote = tt
+say_reply_is (Short n) = tt
+
+pub say_err_notes : (refs text : List ℕ) (end : WriteEnd) (x y : JournalState) (host : HostView) (out a b : StreamView) → WritesText text end a b
+    → y.entries ≡ x.entries ++ entry_of (SayErr text) (say_reply end) (seen_by refs host out a) (seen_by refs host out b) ∷ [] → y.room + 1 ≡ x.room
+    → NotesAct (SayErr text) (say_reply end) x y (seen_by refs host out a) (seen_by refs host out b)
+say_err_notes refs text end x y host out a b h e r =
+    noted (SayErr text) (say_reply end) x y (seen_by refs host out a) (seen_by refs host out b) (record {
+      groups = [] ∷ [];
+      honest = (record { reply_fits = say_reply_is end; short = h.short; none = refl }, tt);
+      ran = ran_none host;
+      said = subst (λ l. Tells (Adds l) a.bytes b.bytes) (sym (append-nil (said_by (SayErr text) (say_reply end)))) h.bytes;
+      written = tells_at (Adds []) (λ l. sym (append-nil l)) out.bytes;
+      framed = (refl, refl);
+      covered = (h.failed, tt);
+      same = refl;
+    }) e r
+
+pub read_notes : (refs name : List ℕ) (end : ReadEnd) (x y : JournalState) (a b : HostView) (out err : StreamView) → ReadsFile name end a b
+    → y.entries ≡ x.entries ++ entry_of (ReadFile name) (read_reply end) (seen_by refs a out err) (seen_by refs b out err) ∷ [] → y.room + 1 ≡ x.room
+    → NotesAct (ReadFile name) (read_reply end) x y (seen_by refs a out err) (seen_by refs b out err)
+read_notes refs name end x y a b out err h e r =
+    noted (ReadFile name) (read_reply end) x y (seen_by refs a out err) (seen_by refs b out err) (read_accounts refs name h.at (read_reply end) a b out err h.reads h.done) e r
+
+pub probe_notes : (refs name : List ℕ) (looked : Looked) (x y : JournalState) (a b : HostView) (out err : StreamView) → Makes (Look name) (AnswerLook looked) a b
+    → y.entries ≡ x.entries ++ entry_of (Probe name) (Found looked) (seen_by refs a out err) (seen_by refs b out err) ∷ [] → y.room + 1 ≡ x.room
+    → NotesAct (Probe name) (Found looked) x y (seen_by refs a out err) (seen_by refs b out err)
+probe_notes refs name looked x y a b out err h e r =
+    noted (Probe name) (Found looked) x y (seen_by refs a out err) (seen_by refs b out err) (probe_accounts refs name looked a b out err h) e r
+
+pub moment_notes : (refs : List ℕ) (moment : ℤ) (x y : JournalState) (a b : HostView) (out err : StreamView) → Makes Now (AnswerNow moment) a b
+    → y.entries ≡ x.entries ++ entry_of Moment (ReplyNow moment) (seen_by refs a out err) (seen_by refs b out err) ∷ [] → y.room + 1 ≡ x.room
+    → NotesAct Moment (ReplyNow moment) x y (seen_by refs a out err) (seen_by refs b out err)
+moment_notes refs moment x y a b out err h e r =
+    noted Moment (ReplyNow moment) x y (seen_by refs a out err) (seen_by refs b out err) (moment_accounts refs moment a b out err h) e r
+
+pub unlock_notes : (refs name : List ℕ) (removed : Removed) (x y : JournalState) (a b : HostView) (out err : StreamView) → Makes (Remove name) (AnswerRemove removed) a b
+    → y.entries ≡ x.entries ++ entry_of (Unlock name) (unlock_reply removed) (seen_by refs a out err) (seen_by refs b out err) ∷ [] → y.room + 1 ≡ x.room
+    → NotesAct (Unlock name) (unlock_reply removed) x y (seen_by refs a out err) (seen_by refs b out err)
+unlock_notes refs name removed x y a b out err h e r =
+    noted (Unlock name) (unlock_reply removed) x y (seen_by refs a out err) (seen_by refs b out err) (unlock_accounts refs name removed a b out err h) e r

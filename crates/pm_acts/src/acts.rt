@@ -1,0 +1,99 @@
+//! Single acts, each a plan of its own: room is made for its entry beside those of the unlocks of the held locks, and
+//! it is done and noted.
+ghost use Rattle.std.specs.Prelude.{◌≡◌, [], IfOk, OnErr};
+ghost use Rattle.pm_append.specs.ReadsFile.{FitsFile};
+ghost use Rattle.pm_journal.specs.declared.acts.Act.TheVariants.{ReadFile, Probe, Append, SayErr, Moment};
+ghost use Rattle.pm_journal.specs.declared.acts.Reply.TheVariants.{Found, Now};
+ghost use Rattle.pm_journal.specs.Appending.{append_reply};
+ghost use Rattle.pm_journal.specs.Executed.{Carries, OutOfMemory, GivesEach};
+ghost use Rattle.pm_journal.specs.Held.{Keeping};
+ghost use Rattle.pm_journal.specs.Plan.{ask};
+ghost use Rattle.pm_acts.specs.Acts.{Says, ReadsWhole};
+
+use crate::Outside;
+use pm_append::AppendEnd;
+use pm_bytes::{Blob, Memory, Name};
+use pm_host::Looked;
+use pm_journal::{HeldLocks, Journal};
+use std::alloc::Global;
+
+/// Says a line on `err`.
+pub fn tell<D: Outside>(
+    held: &HeldLocks,
+    line: Blob,
+    outside: &mut D,
+    journal: &mut Journal,
+) -> Result<(), Memory>
+    requires keeping { Keeping journal.old held.now.names }
+    ensures ok { IfOk result (λ _. Says line journal.old journal.new (D.told outside.old) (D.told outside.new)) }
+    ensures memory { OnErr result (OutOfMemory (ask (SayErr line))
+        journal.old journal.new (D.told outside.old) (D.told outside.new)) }
+    ensures keeping { Keeping journal.new held.now.names }
+{
+    journal.reserve(held.len() + 1)?;
+    outside.say(journal, None, line);
+    Ok(())
+}
+
+/// Looks at a name.
+pub fn probe<D: Outside>(
+    held: &HeldLocks,
+    name: Name,
+    outside: &mut D,
+    journal: &mut Journal,
+) -> Result<Looked, Memory>
+    requires keeping { Keeping journal.old held.now.names }
+    ensures carries { Carries (ask (Probe name)) (λ looked. Found looked) result
+        journal.old journal.new (D.told outside.old) (D.told outside.new) }
+    ensures keeping { Keeping journal.new held.now.names }
+{
+    journal.reserve(held.len() + 1)?;
+    Ok(outside.probe(journal, name))
+}
+
+/// Asks the moment, in seconds since 1970 in UTC.
+pub fn ask_moment<D: Outside>(
+    held: &HeldLocks,
+    outside: &mut D,
+    journal: &mut Journal,
+) -> Result<i64, Memory>
+    requires keeping { Keeping journal.old held.now.names }
+    ensures carries { Carries (ask Moment) (λ moment. Now moment) result
+        journal.old journal.new (D.told outside.old) (D.told outside.new) }
+    ensures keeping { Keeping journal.new held.now.names }
+{
+    journal.reserve(held.len() + 1)?;
+    Ok(outside.moment(journal))
+}
+
+/// Reads a whole file; `None` where the reply isn't its content.
+pub fn read<D: Outside>(
+    alloc: Global,
+    held: &HeldLocks,
+    name: Name,
+    outside: &mut D,
+    journal: &mut Journal,
+) -> Result<Option<Blob>, Memory>
+    requires keeping { Keeping journal.old held.now.names }
+    ensures ok { IfOk result (λ content. ReadsWhole name content
+        journal.old journal.new (D.told outside.old) (D.told outside.new)) }
+    ensures fits { IfOk result (λ content. FitsFile content) }
+    ensures memory { OnErr result (OutOfMemory (ask (ReadFile name))
+        journal.old journal.new (D.told outside.old) (D.told outside.new)) }
+    ensures keeping { Keeping journal.new held.now.names }
+{
+    journal.reserve(held.len() + 1)?;
+    outside.read(alloc, journal, name)
+}
+
+/// Gives each held lock back, the last taken first: its removal is tried once. It takes no memory.
+pub fn give_all<D: Outside>(held: &mut HeldLocks, outside: &mut D, journal: &mut Journal)
+    requires keeping { Keeping journal.old held.old.names }
+    ensures gives { GivesEach held.old.names
+        journal.old journal.new (D.told outside.old) (D.told outside.new) }
+    ensures keeping { Keeping journal.new [] }
+{
+    while let Some(name) = held.give_last() {
+        outside.unlock(journal, name);
+    }
+}

@@ -1,0 +1,190 @@
+//! The host and the sinks of a run, lent for its acts.
+ghost use Rattle.std.specs.Prelude.{◌≡◌, [], IfOk};
+ghost use Rattle.pm_journal.specs.Appending.{append_reply};
+ghost use Rattle.pm_journal.specs.Entries.{counts_of, seen_by, unlock_reply};
+ghost use Rattle.pm_append.specs.ReadsFile.{read_reply, content_of};
+ghost use Rattle.pm_append.specs.Writing.{say_reply};
+
+use crate::Outside;
+use pm_append::{AppendEnd, ReadEnd, WriteEnd, append_whole, read_file, write_text};
+use pm_bytes::{Blob, Memory, Name};
+use pm_host::{Host, Looked, Removed, Sink};
+use pm_journal::{Act, Counts, Entry, Journal, Reply};
+use std::alloc::Global;
+
+/// A host and the two sinks of a run.
+#[derive(Drop)]
+pub struct Objects<'a, H: Host, O: Sink, E: Sink> {
+    pub host: &'a mut H,
+    pub out: &'a mut O,
+    pub err: &'a mut E,
+}
+
+impl<'a, H: Host, O: Sink, E: Sink> Objects<'a, H, O, E> {
+    // The counts of faults at this moment.
+    fn counts(&self) -> Counts
+        ensures { result ≡ counts_of (seen_by [] (H.told self.now.host.now) (O.told self.now.out.now) (E.told self.now.err.now)) }
+    {
+        Counts {
+            host: self.host.faults(),
+            out: self.out.faults(),
+            err: self.err.faults(),
+        }
+    }
+}
+
+impl<'a, H: Host, O: Sink, E: Sink> Outside for Objects<'a, H, O, E> {
+    ghost use Rattle.std.specs.Prelude.{[], ◌∷◌};
+    ghost use Rattle.pm_journal.specs.Entries.{seen_by};
+
+    ghost told = { λ o. seen_by (o.host.ghost_name ∷ o.out.ghost_name ∷ o.err.ghost_name ∷ []) (H.told o.host.now) (O.told o.out.now) (E.told o.err.now) };
+
+    fn append(&mut self, journal: &mut Journal, name: Name, piece: Blob) -> AppendEnd {
+        let before = self.counts();
+        let end = append_whole(&mut *self.host, &name, piece.as_slice());
+        let after = self.counts();
+        journal.note(Entry {
+            act: Act::Append { name, piece },
+            reply: append_reply_of(end),
+            before,
+            after,
+        });
+        end
+    }
+
+    fn say(&mut self, journal: &mut Journal, to: Option<Name>, text: Blob) {
+        let before = self.counts();
+        match to {
+            Some(name) => {
+                let end = append_whole(&mut *self.host, &name, text.as_slice());
+                let after = self.counts();
+                journal.note(Entry {
+                    act: Act::SayFile { name, text },
+                    reply: append_reply_of(end),
+                    before,
+                    after,
+                });
+            }
+            None => {
+                let end = write_text(&mut *self.err, text.as_slice());
+                let after = self.counts();
+                journal.note(Entry {
+                    act: Act::SayErr { text },
+                    reply: say_reply_of(end),
+                    before,
+                    after,
+                });
+            }
+        }
+    }
+
+    fn read(
+        &mut self,
+        alloc: Global,
+        journal: &mut Journal,
+        name: Name,
+    ) -> Result<Option<Blob>, Memory> {
+        let before = self.counts();
+        let end = read_file(alloc, &mut *self.host, &name)?;
+        let content = content(alloc, &end)?;
+        let after = self.counts();
+        journal.note(Entry {
+            act: Act::ReadFile { name },
+            reply: read_reply_of(end),
+            before,
+            after,
+        });
+        Ok(content)
+    }
+
+    fn probe(&mut self, journal: &mut Journal, name: Name) -> Looked {
+        let before = self.counts();
+        let looked = self.host.look(name.as_str());
+        let after = self.counts();
+        journal.note(Entry {
+            act: Act::Probe { name },
+            reply: Reply::Found(looked),
+            before,
+            after,
+        });
+        looked
+    }
+
+    fn moment(&mut self, journal: &mut Journal) -> i64 {
+        let before = self.counts();
+        let moment = self.host.now();
+        let after = self.counts();
+        journal.note(Entry {
+            act: Act::Moment,
+            reply: Reply::Now(moment),
+            before,
+            after,
+        });
+        moment
+    }
+
+    fn unlock(&mut self, journal: &mut Journal, name: Name) {
+        let before = self.counts();
+        let removed = self.host.remove(name.as_str());
+        let after = self.counts();
+        journal.note(Entry {
+            act: Act::Unlock { name },
+            reply: unlock_reply_of(removed),
+            before,
+            after,
+        });
+    }
+}
+
+// The bytes of a file that was read.
+fn content(alloc: Global, end: &ReadEnd) -> Result<Option<Blob>, Memory>
+    ensures { IfOk result (λ content. content ≡ content_of (read_reply end.now)) }
+{
+    match end {
+        ReadEnd::Content(bytes) => Ok(Some(bytes.copy(alloc)?)),
+        _ => Ok(None),
+    }
+}
+
+fn append_reply_of(end: AppendEnd) -> Reply
+    ensures { result ≡ append_reply end }
+{
+    match end {
+        AppendEnd::Done => Reply::Done,
+        AppendEnd::Undone => Reply::Undone,
+        AppendEnd::Torn(taken) => Reply::Torn(taken),
+        AppendEnd::IsFolder => Reply::IsFolder,
+        AppendEnd::Raced => Reply::Raced,
+    }
+}
+
+fn say_reply_of(end: WriteEnd) -> Reply
+    ensures { result ≡ say_reply end }
+{
+    match end {
+        WriteEnd::Wrote => Reply::Wrote,
+        WriteEnd::Short(taken) => Reply::Short(taken),
+    }
+}
+
+fn read_reply_of(end: ReadEnd) -> Reply
+    ensures { result ≡ read_reply end }
+{
+    match end {
+        ReadEnd::Content(bytes) => Reply::Content(bytes),
+        ReadEnd::Missing => Reply::Missing,
+        ReadEnd::NotPlain => Reply::NotPlain,
+        ReadEnd::TooLong(count) => Reply::TooLong(count),
+        ReadEnd::Faulted => Reply::Faulted,
+    }
+}
+
+fn unlock_reply_of(removed: Removed) -> Reply
+    ensures { result ≡ unlock_reply removed }
+{
+    match removed {
+        Removed::Removed => Reply::Removed,
+        Removed::Absent => Reply::Gone,
+        Removed::Failed => Reply::Faulted,
+    }
+}

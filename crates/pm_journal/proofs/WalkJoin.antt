@@ -1,0 +1,136 @@
+-- Steps of a process one after another.
+use Rattle.std.proofs.Common.{◌⊎◌, zero, suc, List, [], ◌++◌, Option, Some, inl, inr, refl, sym, ap, ◌∙◌, subst, append_assoc, append-nil}
+use Rattle.pm_journal.specs.JournalState.{JournalState}
+use Rattle.pm_journal.specs.Entries.{View}
+use Rattle.pm_journal.specs.Plan.{Plan, Ends, Plays}
+use Rattle.pm_journal.specs.Executed.{Executes, OutOfMemory, WantsAct, HasEnded}
+use Rattle.pm_journal.specs.Walking.{Next, Stop, Go, walk, Means, IsUnfinished, Reaches, Completes, Interrupted}
+use Rattle.pm_journal.proofs.PlanJoin.{plays_then, wants_then}
+use Rattle.pm_journal.proofs.WantsMemory.{wants_front, ended_front}
+use Rattle.pm_journal.proofs.AccountsJoin.{accounts_join, accounts_none}
+use Rattle.pm_journal.specs.declared.acts.Entry.{Entry}
+use Rattle.pm_host.specs.declared.calls.Logged.{Logged}
+
+means_go : {S X : Type 0} (step : S → Plan (Next S X)) (s t : S) (es fs : List Entry) (x : X) → Plays (step s) es (Go t) → Means step t fs x → Means step s (es ++ fs) x
+means_go step s t es fs x h k = record { steps = suc k.steps; plays = plays_then (step s) (λ next. elim next [ Stop y ↦ Ends (Some y) | Go u ↦ walk step k.steps u ]) es fs (Go t) (Some x) h k.plays }
+
+means_stop : {S X : Type 0} (step : S → Plan (Next S X)) (s : S) (es : List Entry) (x : X) → Plays (step s) es (Stop x) → Means step s es x
+means_stop step s es x h = record {
+  steps = suc zero;
+  plays = subst (λ l. Plays (walk step (suc zero) s) l (Some x)) (append-nil es) (plays_then (step s) (λ next. elim next [ Stop y ↦ Ends (Some y) | Go u ↦ walk step zero u ]) es [] (Stop x) (Some x) h refl);
+}
+
+unfinished_go : {S X : Type 0} (step : S → Plan (Next S X)) (s t : S) (es fs : List Entry) (calls : List Logged) → Plays (step s) es (Go t) → IsUnfinished step t fs calls → IsUnfinished step s (es ++ fs) calls
+unfinished_go {S} {X} step s t es fs calls h k =
+    let f : Next S X → Plan (Option X) = λ next. elim next [ Stop y ↦ Ends (Some y) | Go u ↦ walk step k.steps u ] in
+    record {
+      steps = suc k.steps;
+      off = elim k.off [
+        | inl w ↦ inl (record { wanted = w.wanted; wants = wants_then (step s) f es fs (Go t) w.wanted h w.wants; leaves = w.leaves })
+        | inr e ↦ inr (record { end = e.end; plays = plays_then (step s) f es fs (Go t) e.end h e.plays; none = e.none })
+      ];
+    }
+
+-- a step that was left off
+unfinished_here : {S X : Type 0} (step : S → Plan (Next S X)) (s : S) (es : List Entry) (calls : List Logged) → WantsAct (step s) es calls ⊎ HasEnded (step s) es calls → IsUnfinished step s es calls
+unfinished_here {S} {X} step s es calls h =
+    let f : Next S X → Plan (Option X) = λ next. elim next [ Stop y ↦ Ends (Some y) | Go u ↦ walk step zero u ] in
+    record {
+      steps = suc zero;
+      off = elim h [
+        | inl w ↦ inl (record { wanted = w.wanted; wants = wants_front (step s) f es w.wanted w.wants; leaves = w.leaves })
+        | inr e ↦ ended_front (step s) f es calls e
+      ];
+    }
+
+pub reaches_itself : {S X : Type 0} (step : S → Plan (Next S X)) (s : S) (x : JournalState) (a : View) → Reaches {X = X} step s s x x a a
+reaches_itself step s x a = record { more = []; entries = sym (append-nil x.entries); means = λ later end h. h; unfinished = λ later calls h. h; accounts = accounts_none a }
+
+-- one step more
+pub reaches_then : {S X : Type 0} (step : S → Plan (Next S X)) (s t u : S) (x y z : JournalState) (a b c : View) → Reaches {X = X} step s t x y a b → Executes (step t) (Go u) y z b c → Reaches {X = X} step s u x z a c
+reaches_then {S} {X} step s t u x y z a b c h k = record {
+  more = h.more ++ k.more;
+  entries = k.entries ∙ ap (λ l. l ++ k.more) h.entries ∙ append_assoc x.entries h.more k.more;
+  means = λ later end m. subst (λ l. Means step s l end) (sym (append_assoc h.more k.more later)) (h.means (k.more ++ later) end (means_go step t u k.more later end k.plays m));
+  unfinished = λ later calls m. subst (λ l. IsUnfinished step s l calls) (sym (append_assoc h.more k.more later)) (h.unfinished (k.more ++ later) calls (unfinished_go step t u k.more later calls k.plays m));
+  accounts = accounts_join h.more k.more a b c h.accounts k.accounts;
+}
+
+-- the last step
+pub completes_then : {S X : Type 0} (step : S → Plan (Next S X)) (s t : S) (end : X) (x y z : JournalState) (a b c : View) → Reaches {X = X} step s t x y a b → Executes (step t) (Stop end) y z b c → Completes step s end x z a c
+completes_then step s t end x y z a b c h k = record {
+  more = h.more ++ k.more;
+  entries = k.entries ∙ ap (λ l. l ++ k.more) h.entries ∙ append_assoc x.entries h.more k.more;
+  means = h.means k.more end (means_stop step t k.more end k.plays);
+  accounts = accounts_join h.more k.more a b c h.accounts k.accounts;
+}
+
+-- a step for which memory was wanting
+pub interrupted_then : {S X : Type 0} (step : S → Plan (Next S X)) (s t : S) (x y z : JournalState) (a b c : View) → Reaches {X = X} step s t x y a b → OutOfMemory (step t) y z b c → Interrupted step s x z a c
+interrupted_then step s t x y z a b c h k = record {
+  more = h.more ++ k.more;
+  entries = k.entries ∙ ap (λ l. l ++ k.more) h.entries ∙ append_assoc x.entries h.more k.more;
+  middle = k.middle;
+  accounts = accounts_join h.more k.more a b k.middle h.accounts k.accounts;
+  left_off = k.left_off;
+  unfinished = h.unfinished k.more k.left_off (unfinished_here step t k.more k.left_off k.where_off);
+  took = k.took;
+}
+
+-- a process that went on, and then came to its end
+pub completes_after : {S X : Type 0} (step : S → Plan (Next S X)) (s t : S) (end : X) (x y z : JournalState) (a b c : View) → Executes (step s) (Go t) x y a b → Completes step t end y z b c → Completes step s end x z a c
+completes_after step s t end x y z a b c h k = record {
+  more = h.more ++ k.more;
+  entries = k.entries ∙ ap (λ l. l ++ k.more) h.entries ∙ append_assoc x.entries h.more k.more;
+  means = means_go step s t h.more k.more end h.plays k.means;
+  accounts = accounts_join h.more k.more a b c h.accounts k.accounts;
+}
+
+-- a process that went on, and then wanted memory
+pub interrupted_after : {S X : Type 0} (step : S → Plan (Next S X)) (s t : S) (x y z : JournalState) (a b c : View) → Executes {R = Next S X} (step s) (Go t) x y a b → Interrupted step t y z b c → Interrupted step s x z a c
+interrupted_after step s t x y z a b c h k = record {
+  more = h.more ++ k.more;
+  entries = k.entries ∙ ap (λ l. l ++ k.more) h.entries ∙ append_assoc x.entries h.more k.more;
+  middle = k.middle;
+  accounts = accounts_join h.more k.more a b k.middle h.accounts k.accounts;
+  left_off = k.left_off;
+  unfinished = unfinished_go step s t h.more k.more k.left_off h.plays k.unfinished;
+  took = k.took;
+}
+
+-- a process of one step
+pub completes_at_once : {S X : Type 0} (step : S → Plan (Next S X)) (s : S) (end : X) (x y : JournalState) (a b : View) → Executes (step s) (Stop end) x y a b → Completes step s end x y a b
+completes_at_once step s end x y a b k = record { more = k.more; entries = k.entries; means = means_stop step s k.more end k.plays; accounts = k.accounts }
+
+-- a process whose first step wanted memory
+pub interrupted_at_once : {S X : Type 0} (step : S → Plan (Next S X)) (s : S) (x y : JournalState) (a b : View) → OutOfMemory (step s) x y a b → Interrupted step s x y a b
+interrupted_at_once step s x y a b k = record {
+  more = k.more;
+  entries = k.entries;
+  middle = k.middle;
+  accounts = k.accounts;
+  left_off = k.left_off;
+  unfinished = unfinished_here step s k.more k.left_off k.where_off;
+  took = k.took;
+}
+
+-- a process that went on for some steps, and then came to its end
+pub completes_reached : {S X : Type 0} (step : S → Plan (Next S X)) (s t : S) (end : X) (x y z : JournalState) (a b c : View) → Reaches {X = X} step s t x y a b → Completes step t end y z b c → Completes step s end x z a c
+completes_reached step s t end x y z a b c h k = record {
+  more = h.more ++ k.more;
+  entries = k.entries ∙ ap (λ l. l ++ k.more) h.entries ∙ append_assoc x.entries h.more k.more;
+  means = h.means k.more end k.means;
+  accounts = accounts_join h.more k.more a b c h.accounts k.accounts;
+}
+
+-- a process that went on for some steps, and then wanted memory
+pub interrupted_reached : {S X : Type 0} (step : S → Plan (Next S X)) (s t : S) (x y z : JournalState) (a b c : View) → Reaches {X = X} step s t x y a b → Interrupted step t y z b c → Interrupted step s x z a c
+interrupted_reached step s t x y z a b c h k = record {
+  more = h.more ++ k.more;
+  entries = k.entries ∙ ap (λ l. l ++ k.more) h.entries ∙ append_assoc x.entries h.more k.more;
+  middle = k.middle;
+  accounts = accounts_join h.more k.more a b k.middle h.accounts k.accounts;
+  left_off = k.left_off;
+  unfinished = h.unfinished k.more k.left_off k.unfinished;
+  took = k.took;
+}
