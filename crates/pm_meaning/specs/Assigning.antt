@@ -15,7 +15,7 @@ use Rattle.pm_journal.specs.declared.acts.Reply.TheVariants.{Found}
 use Rattle.pm_journal.specs.Plan.{Plan, Ends, and_then, ask}
 use Rattle.pm_meaning.specs.Changes.{with_variable, without_variable, with_base}
 use Rattle.pm_meaning.specs.Turns.{Turn, GoesOn, not_built, say_then, has_command, is_too_long, skip_value}
-use Rattle.pm_meaning.specs.declared.process.Process.{Process}
+use Rattle.pm_meaning.specs.Minds.{Mind}
 
 abbrev pub is_one_of : List ℕ → List (List ℕ) → Bool
 is_one_of name names = list_any (λ other. bytes_eq name other) names
@@ -27,7 +27,7 @@ is_later name =
     (codes "LOCKFILE" ∷ codes "LOGFILE" ∷ codes "LOGABSTRACT" ∷ codes "TRAP" ∷ codes "EXITCODE" ∷ codes "DELIVERED" ∷ codes "LOG" ∷ codes "SHIFT" ∷ [])
 
 -- another rcfile, or another host's rcfiles: values that ask for what isn't built yet
-abbrev pub leads_elsewhere : List ℕ → List ℕ → Process → Bool
+abbrev pub leads_elsewhere : List ℕ → List ℕ → Mind → Bool
 leads_elsewhere name value p =
     (bytes_eq name (codes "INCLUDERC") && not (is_empty value)) || bytes_eq name (codes "SWITCHRC")
     || (bytes_eq name (codes "HOST") && not (bytes_eq value p.host_name))
@@ -45,35 +45,35 @@ abbrev pub is_file_text : List ℕ → Bool
 is_file_text text = not (is_empty text) && is_usable text
 
 -- names are seen from a folder that is there, and from no other
-abbrev pub probed : List ℕ → Process → Reply → Plan Turn
+abbrev pub probed : List ℕ → Mind → Reply → Plan Turn
 probed name p (Found Folder) = Ends (GoesOn (with_base name p))
-probed name p other = say_then (couldnt_chdir_line name) (GoesOn p)
+probed name p other = say_then p (couldnt_chdir_line name) (GoesOn p)
 
 -- MAILDIR got this value
-abbrev pub change_folder : List ℕ → Process → Plan Turn
+abbrev pub change_folder : List ℕ → Mind → Plan Turn
 change_folder value p =
     if is_file_text value then and_then (ask (Probe (full_name p.base value))) (probed (full_name p.base value) p)
-    else say_then (unusable_name_line value) (GoesOn p)
+    else say_then p (unusable_name_line value) (GoesOn p)
 
 -- the variable is set, and then its effect comes
-abbrev pub assigned : List ℕ → List ℕ → Process → Plan Turn
+abbrev pub assigned : List ℕ → List ℕ → Mind → Plan Turn
 assigned name value p =
-    if leads_elsewhere name value p then not_built
+    if leads_elsewhere name value p then not_built p
     else if bytes_eq name (codes "MAILDIR") then change_folder value (with_variable name value p)
     else Ends (GoesOn (with_variable name value p))
 
 -- the value is expanded by the variables as they stand
-abbrev pub assign : List ℕ → List ℕ → Process → Plan Turn
+abbrev pub assign : List ℕ → List ℕ → Mind → Plan Turn
 assign name text p =
-    if is_later name || has_command One text then not_built
+    if is_later name || has_command One text then not_built p
     else if is_too_long One text p.vars then skip_value One text p
     else assigned name (value_in p.vars text) p
 
 -- giving a lock back and leaving an rcfile aren't built yet
-abbrev pub unset : List ℕ → Process → Plan Turn
+abbrev pub unset : List ℕ → Mind → Plan Turn
 unset name p =
-    if bytes_eq name (codes "LOCKFILE") || bytes_eq name (codes "SWITCHRC") then not_built else Ends (GoesOn (without_variable name p))
+    if bytes_eq name (codes "LOCKFILE") || bytes_eq name (codes "SWITCHRC") then not_built p else Ends (GoesOn (without_variable name p))
 
 -- a line that isn't understood is told and skipped
-abbrev pub skip_defect : List ℕ → Process → Plan Turn
-skip_defect text p = say_then (skipped_line text) (GoesOn p)
+abbrev pub skip_defect : List ℕ → Mind → Plan Turn
+skip_defect text p = say_then p (skipped_line text) (GoesOn p)

@@ -6,7 +6,7 @@ use Rattle.pm_message.specs.declared.head.Message.{Message}
 use Rattle.pm_vars.specs.Table.{Table}
 use Rattle.pm_vars.specs.Variables.{Variable, value_of, with_value, variable_of}
 use Rattle.pm_subst.specs.Values.{is_empty}
-use Rattle.pm_meaning.specs.declared.process.Process.{Process}
+use Rattle.pm_meaning.specs.Minds.{Mind}
 
 abbrev pub variable : List ℕ → List ℕ → Variable
 variable name value = record { name = name; value = value }
@@ -91,11 +91,12 @@ first_table filter env = record {
 }
 
 -- a process that begins with this message
-abbrev pub first_process : Bool → Environ → Message → Process
+abbrev pub first_process : Bool → Environ → Message → Mind
 first_process filter env message = record {
   filter = filter;
   message = message;
   vars = first_table filter env;
   base = first_folder filter env;
   host_name = env.host_name;
+  locks = [];
 }

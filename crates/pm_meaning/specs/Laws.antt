@@ -1,26 +1,32 @@
 -- Laws of plans and processes.
-use Rattle.std.specs.Prelude.{◌≡◌, ◌<◌, ℕ, List, [], ◌∷◌, ◌++◌, length, if◌then◌else◌}
+use Rattle.std.specs.Prelude.{◌≡◌, ℕ, true, false, List, [], ◌∷◌, ◌++◌, if◌then◌else◌}
 use Rattle.pm_bytes.specs.Path.{full_name}
 use Rattle.pm_bytes.specs.declared.environment.Environ.{Environ}
+use Rattle.pm_recipe.specs.Tree.{Top, Mailbox, Recipe}
+use Rattle.pm_recipe.specs.declared.tree.Flags.{Flags}
+use Rattle.pm_subst.specs.Words.{words_in}
+use Rattle.pm_subst.specs.declared.kinds.Mode.TheVariants.{Many}
 use Rattle.pm_journal.specs.Plan.{Plan, Plays, Wants}
-use Rattle.pm_meaning.specs.Delivering.{is_nothing}
-use Rattle.pm_meaning.specs.Running.{State, Arrived, step}
-use Rattle.pm_journal.specs.Walking.{Next, Means}
-use Rattle.pm_meaning.specs.declared.command_line.CommandLine.{CommandLine}
-use Rattle.pm_meaning.specs.declared.process.End.{End}
-use Rattle.pm_meaning.specs.declared.process.End.TheVariants.{Delivered}
+use Rattle.pm_journal.specs.Walking.{Next, Means, Comes}
 use Rattle.pm_journal.specs.declared.acts.Act.{Act}
 use Rattle.pm_journal.specs.declared.acts.Act.TheVariants.{Append}
 use Rattle.pm_journal.specs.declared.acts.Reply.TheVariants.{Done}
 use Rattle.pm_journal.specs.declared.acts.Entry.{Entry}
+use Rattle.pm_meaning.specs.Delivering.{Filing, is_nothing, mailbox_piece, are_file_texts, file_all}
+use Rattle.pm_meaning.specs.Minds.{Mind}
+use Rattle.pm_meaning.specs.Running.{State, Arrived, Running, Item, Do, step}
+use Rattle.pm_meaning.specs.declared.command_line.CommandLine.{CommandLine}
+use Rattle.pm_meaning.specs.declared.process.End.TheVariants.{Delivered}
+use Rattle.pm_meaning.specs.declared.process.Ending.{Ending}
+use Rattle.pm_meaning.specs.declared.process.Filed.TheVariants.{Stored}
 
 -- over the same entries a plan that ends wants no act
 abbrev pub EndsOrWants : Type 0
-EndsOrWants = (plan : Plan (Next State End)) (entries : List Entry) (end : Next State End) (act : Act) → Plays plan entries end → Wants plan entries act → ⊥
+EndsOrWants = (plan : Plan (Next State Ending)) (entries : List Entry) (end : Next State Ending) (act : Act) → Plays plan entries end → Wants plan entries act → ⊥
 
 -- over the same entries a process has one end at most
 abbrev pub OneEnd : Type 0
-OneEnd = (s : State) (entries : List Entry) (first second : End) → Means step s entries first → Means step s entries second → first ≡ second
+OneEnd = (s : State) (entries : List Entry) (first second : Ending) → Means step s entries first → Means step s entries second → first ≡ second
 
 -- `/dev/null` is no file
 abbrev pub with_file : List ℕ → List (List ℕ) → List (List ℕ)
@@ -38,19 +44,29 @@ AreDone piece (name ∷ names) (e ∷ es) = (e.act ≡ Append name piece) × (e.
 AreDone piece [] (e ∷ es) = ⊥
 AreDone piece (name ∷ names) [] = ⊥
 
--- the last entries are done appends of one piece to all the files of a recipe's destinations
-pub record DeliversLast (entries : List Entry) : Type 0 where
+-- over entries with which all destinations have the mail, the piece was appended to each file among them
+abbrev pub StoredIsDone : Type 0
+StoredIsDone =
+    (flags : Flags) (words : List (List ℕ)) (p : Mind) (entries : List Entry) (filing : Filing) → Plays (file_all flags words p) entries filing
+    → filing.filed ≡ Stored → AreDone (mailbox_piece flags p) (files_of p.base words) entries
+
+-- Over the entries before, the process comes to a recipe that delivers for good; the last entries are done appends of its
+-- piece to all the files among its destinations.
+pub record DeliversLast (s : State) (entries : List Entry) : Type 0 where
   pub before : List Entry
   pub last : List Entry
   pub whole : entries ≡ before ++ last
-  pub piece : List ℕ
-  pub base : List ℕ
-  pub destinations : List (List ℕ)
-  pub some : 0 < length destinations
-  pub done : AreDone piece (files_of base destinations) last
+  pub top : Top
+  pub text : List ℕ
+  pub rest : List Item
+  pub mind : Mind
+  pub comes : Comes {X = Ending} step s before (Running (Do (Recipe top (Mailbox text)) ∷ rest) mind)
+  pub final : top.flags.copy ≡ false
+  pub usable : are_file_texts (words_in Many mind.vars [] text) ≡ true
+  pub done : AreDone (mailbox_piece top.flags mind) (files_of mind.base (words_in Many mind.vars [] text)) last
 
 -- a process ends as delivered only where its last acts are such appends
 abbrev pub DeliveredIsDone : Type 0
 DeliveredIsDone =
-    (line : CommandLine) (env : Environ) (bytes : List ℕ) (entries : List Entry) → Means step (Arrived line env bytes) entries Delivered
-    → DeliversLast entries
+    (line : CommandLine) (env : Environ) (bytes : List ℕ) (entries : List Entry) (ending : Ending) → Means step (Arrived line env bytes) entries ending
+    → ending.end ≡ Delivered → DeliversLast (Arrived line env bytes) entries

@@ -1,3 +1,4 @@
+pub mod Minds
 pub mod CommandLine
 pub mod FirstValues
 pub mod Changes

@@ -20,8 +20,9 @@ use Rattle.pm_meaning.specs.Turns.{Turn, GoesOn, Halts, say_then}
 use Rattle.pm_meaning.specs.Assigning.{assign, unset, skip_defect}
 use Rattle.pm_meaning.specs.Delivering.{run_recipe}
 use Rattle.pm_meaning.specs.declared.command_line.CommandLine.{CommandLine}
-use Rattle.pm_meaning.specs.declared.process.Process.{Process}
+use Rattle.pm_meaning.specs.Minds.{Mind}
 use Rattle.pm_meaning.specs.declared.process.End.{End}
+use Rattle.pm_meaning.specs.declared.process.Ending.{Ending}
 use Rattle.pm_meaning.specs.declared.process.End.TheVariants.{FellOff, NoRc, NotBuilt}
 
 -- what is left to do: an rcfile to open, or a statement
@@ -29,65 +30,71 @@ pub data Item : Type 0 where
   Open : List ℕ → Item
   Do : Tree → Item
 
--- the command line was read in this environment and these bytes came, or a process has so much left to do
+-- the command line was read in this environment and these bytes came, a process has so much left to do, or it is over
 pub data State : Type 0 where
   Arrived : CommandLine → Environ → List ℕ → State
-  Running : List Item → Process → State
+  Running : List Item → Mind → State
+  Over : End → Mind → State
 
 -- a mail filter takes the message as it is; otherwise a missing From line is added
 abbrev pub renewal : Bool → Renew
 renewal filter = if filter then Keep else AddMissing
 
 -- the process begins with its rcfile
-abbrev pub begun : CommandLine → Environ → Message → Next State End
+abbrev pub begun : CommandLine → Environ → Message → Next State Ending
 begun line env message = Go (Running (Open line.rcfile ∷ []) (first_process line.filter env message))
 
 -- the From line has the moment that was told
-abbrev pub dated : CommandLine → Environ → List ℕ → Reply → Plan (Next State End)
+abbrev pub dated : CommandLine → Environ → List ℕ → Reply → Plan (Next State Ending)
 dated line env bytes (Now moment) = Ends (begun line env (prepared_of bytes (renewal line.filter) (login_name env) moment))
 dated line env bytes other = Ends (begun line env (split_of bytes))
 
-abbrev pub prepare : CommandLine → Environ → List ℕ → Plan (Next State End)
+abbrev pub prepare : CommandLine → Environ → List ℕ → Plan (Next State Ending)
 prepare line env bytes =
     if makes_line bytes (renewal line.filter) then and_then (ask Moment) (dated line env bytes)
     else Ends (begun line env (split_of bytes))
 
 -- a mail filter ends without its rcfile; otherwise this is told, and what is left comes
-abbrev pub unread : List ℕ → List Item → Process → Plan (Next State End)
-unread name rest p = if p.filter then Ends (Stop NoRc) else say_then (couldnt_read_line name) (Go (Running rest p))
+abbrev pub unread : List ℕ → List Item → Mind → Plan (Next State Ending)
+unread name rest p = if p.filter then Ends (Go (Over NoRc p)) else say_then p (couldnt_read_line name) (Go (Running rest p))
 
 -- statements before what is left
 abbrev pub ahead : Trees → List Item → List Item
 ahead nil rest = rest
 ahead (cons tree trees) rest = Do tree ∷ ahead trees rest
 
-abbrev pub after_read : List ℕ → List Item → Process → Reply → Plan (Next State End)
+abbrev pub after_read : List ℕ → List Item → Mind → Reply → Plan (Next State Ending)
 after_read name rest p (Content bytes) = Ends (Go (Running (ahead (rc_of bytes) rest) (entered name p)))
 after_read name rest p other = unread name rest p
 
 -- the default mailbox isn't built yet, and a mail filter has none unless it is given one
-abbrev pub has_default : Process → Bool
+abbrev pub has_default : Mind → Bool
 has_default p = not p.filter || is_given (codes "DEFAULT") p || is_given (codes "ORGMAIL") p
 
-abbrev pub fall_off : Process → Plan (Next State End)
-fall_off p = if has_default p then Ends (Stop NotBuilt) else say_then no_delivery_line (Stop FellOff)
+abbrev pub fall_off : Mind → Plan (Next State Ending)
+fall_off p = if has_default p then Ends (Go (Over NotBuilt p)) else say_then p no_delivery_line (Go (Over FellOff p))
 
-abbrev pub statement : Tree → Process → Plan Turn
+abbrev pub statement : Tree → Mind → Plan Turn
 statement (Assign name text) p = assign name text p
 statement (Unset name) p = unset name p
 statement (Recipe top act) p = run_recipe top act p
 statement (Defect line text) p = skip_defect text p
 
-abbrev pub next_of : List Item → Turn → Next State End
+abbrev pub next_of : List Item → Turn → Next State Ending
 next_of rest (GoesOn p) = Go (Running rest p)
-next_of rest (Halts end) = Stop end
+next_of rest (Halts end p) = Go (Over end p)
 
-abbrev pub running : List Item → Process → Plan (Next State End)
+abbrev pub running : List Item → Mind → Plan (Next State Ending)
 running [] p = fall_off p
 running (Open name ∷ rest) p = and_then (ask (ReadFile name)) (after_read name rest p)
 running (Do tree ∷ rest) p = and_then (statement tree p) (λ turn. Ends (next_of rest turn))
 
+-- how the run ends where the process ended so: what happens at its end isn't built yet
+abbrev pub ending : End → Mind → Ending
+ending end p = record { end = end }
+
 -- one step: the acts that it asks for, and what comes next
-abbrev pub step : State → Plan (Next State End)
+abbrev pub step : State → Plan (Next State Ending)
 step (Arrived line env bytes) = prepare line env bytes
 step (Running items p) = running items p
+step (Over end p) = Ends (Stop (ending end p))

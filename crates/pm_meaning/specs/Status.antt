@@ -1,6 +1,8 @@
 -- The exit status of a run.
 use Rattle.std.specs.Prelude.{ℕ}
+use Rattle.pm_meaning.specs.declared.command_line.CommandLine.{CommandLine}
 use Rattle.pm_meaning.specs.declared.process.End.{End}
+use Rattle.pm_meaning.specs.declared.process.Ending.{Ending}
 use Rattle.pm_meaning.specs.declared.process.End.TheVariants.{Delivered, FellOff, NoRc, NotBuilt as EndNotBuilt}
 use Rattle.pm_meaning.specs.declared.status.Status.{Status}
 use Rattle.pm_meaning.specs.declared.status.Status.TheVariants.{Success, Usage, DataError, NoInput, SystemError, CannotCreate, InputOutput, NotBuilt}
@@ -22,3 +24,7 @@ end_status Delivered = Success
 end_status FellOff = CannotCreate
 end_status NoRc = NoInput
 end_status EndNotBuilt = NotBuilt
+
+-- the number with which the program ends, by its command line and the end of its run
+abbrev pub status_in : CommandLine → Ending → ℕ
+status_in line ending = status_number (end_status ending.end)

@@ -5,25 +5,30 @@ use Rattle.pm_subst.specs.Commands.{commands_in}
 use Rattle.pm_subst.specs.Words.{size_in}
 use Rattle.pm_subst.specs.declared.kinds.Mode.{Mode}
 use Rattle.pm_journal.specs.LogText.{value_too_long_line}
+use Rattle.pm_journal.specs.declared.acts.Act.{Act}
 use Rattle.pm_journal.specs.declared.acts.Act.TheVariants.{SayErr}
 use Rattle.pm_journal.specs.Plan.{Plan, Ends, and_then, ask}
 use Rattle.pm_meaning.specs.Changes.{overflowed}
-use Rattle.pm_meaning.specs.declared.process.Process.{Process}
+use Rattle.pm_meaning.specs.Minds.{Mind}
 use Rattle.pm_meaning.specs.declared.process.End.{End}
 use Rattle.pm_meaning.specs.declared.process.End.TheVariants.{NotBuilt}
 
 -- the next statement comes, or the process ends
 pub data Turn : Type 0 where
-  GoesOn : Process → Turn
-  Halts : End → Turn
+  GoesOn : Mind → Turn
+  Halts : End → Mind → Turn
 
 -- the statement has a form that isn't built yet
-abbrev pub not_built : Plan Turn
-not_built = Ends (Halts NotBuilt)
+abbrev pub not_built : Mind → Plan Turn
+not_built p = Ends (Halts NotBuilt p)
 
--- the text is said on `err`, and then this comes
-abbrev pub say_then : {R : Type 0} → List ℕ → R → Plan R
-say_then text next = and_then (ask (SayErr text)) (λ reply. Ends next)
+-- the log of a process is `err`: log files aren't built yet
+abbrev pub log_act : Mind → List ℕ → Act
+log_act p text = SayErr text
+
+-- the text is logged, and then this comes
+abbrev pub say_then : {R : Type 0} → Mind → List ℕ → R → Plan R
+say_then p text next = and_then (ask (log_act p text)) (λ reply. Ends next)
 
 -- running programs isn't built yet
 abbrev pub has_command : Mode → List ℕ → Bool
@@ -34,5 +39,5 @@ abbrev pub is_too_long : Mode → List ℕ → Table → Bool
 is_too_long mode text vars = nat_lt 1048576 (size_in mode vars [] text)
 
 -- a value that is too long is told, by its length as far as a counter of 64 bits goes, and the statement is skipped
-abbrev pub skip_value : Mode → List ℕ → Process → Plan Turn
-skip_value mode text p = say_then (value_too_long_line (min (size_in mode p.vars [] text) (2 ^ 64 - 1))) (GoesOn (overflowed p))
+abbrev pub skip_value : Mode → List ℕ → Mind → Plan Turn
+skip_value mode text p = say_then p (value_too_long_line (min (size_in mode p.vars [] text) (2 ^ 64 - 1))) (GoesOn (overflowed p))

@@ -1,5 +1,5 @@
 //! Laws of the meaning, each as the contract of a call that does nothing.
-ghost use Rattle.pm_meaning.specs.Laws.{EndsOrWants, OneEnd, DeliveredIsDone};
+ghost use Rattle.pm_meaning.specs.Laws.{EndsOrWants, OneEnd, StoredIsDone, DeliveredIsDone};
 
 /// Over the same entries a step that ends wants no act.
 pub fn ends_or_wants()
@@ -11,8 +11,13 @@ pub fn one_end()
     ensures { OneEnd }
 {}
 
-/// A process ends as delivered only where its last acts are done appends of one piece to each file among a recipe's
-/// destinations.
+/// A recipe's destinations all have the mail only where it was appended to each file among them.
+pub fn stored_is_done()
+    ensures { StoredIsDone }
+{}
+
+/// A process ends as delivered only where its last acts are done appends of the piece to each file among the
+/// destinations of the recipe to which it came.
 pub fn delivered_is_done()
     ensures { DeliveredIsDone }
 {}

@@ -1,10 +1,12 @@
 //! A process that runs recipes, what comes of a delivery, and how a process ends.
 use pm_bytes::Name;
+use pm_journal::HeldLocks;
 use pm_message::Message;
 use pm_vars::Vars;
 
 /// The state of a process: the message that it delivers, its variables, the folder `base` from which names are seen
-/// (MAILDIR, procmailrc(5)), the host's name, and whether the program is a mail filter (`-m`, procmail(1)).
+/// (MAILDIR, procmailrc(5)), the host's name, whether the program is a mail filter (`-m`, procmail(1)), and the locks
+/// that it holds.
 #[derive(Drop)]
 pub struct Process {
     pub filter: bool,
@@ -12,6 +14,7 @@ pub struct Process {
     pub vars: Vars,
     pub base: Name,
     pub host_name: Name,
+    pub locks: HeldLocks,
 }
 
 /// How a process ended.
@@ -27,13 +30,21 @@ pub enum End {
     NotBuilt,
 }
 
-/// What came of the delivery to one destination.
+/// How a run ended, of which its exit status comes.
 #[derive(Clone, Copy, Debug, PartialEq, Eq)]
+pub struct Ending {
+    pub end: End,
+}
+
+/// What came of the delivery to one destination, or to several in order up to one that didn't get the mail.
+#[derive(Debug, Drop)]
 pub enum Filed {
-    /// The destination has the mail.
+    /// Each destination has the mail.
     Stored,
-    /// It hasn't, and this was said.
-    Failed,
+    /// The file of this name couldn't be written to, and is as before.
+    Unwritten(Name),
+    /// The file couldn't be written to, and so many bytes of the piece are left at its end.
+    Left { name: Name, count: u64 },
     /// A folder stands there. Delivery to folders isn't built yet.
     Folder,
 }

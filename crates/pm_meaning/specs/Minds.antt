@@ -1,0 +1,26 @@
+-- A process as the meaning sees it.
+use Rattle.std.specs.Prelude.{ℕ, Bool, List}
+use Rattle.pm_message.specs.declared.head.Message.{Message}
+use Rattle.pm_vars.specs.Table.{Table}
+use Rattle.pm_meaning.specs.declared.process.Process.{Process}
+
+-- The state of a process: the message that it delivers, its variables, the folder from which names are seen, the host's
+-- name, whether it is a mail filter, and the locks that it holds, the last taken first.
+pub record Mind : Type 0 where
+  pub filter : Bool
+  pub message : Message
+  pub vars : Table
+  pub base : List ℕ
+  pub host_name : List ℕ
+  pub locks : List (List ℕ)
+
+-- how much room there is for more locks isn't spoken of
+abbrev pub mind_of : Process → Mind
+mind_of p = record {
+  filter = p.filter;
+  message = p.message;
+  vars = p.vars;
+  base = p.base;
+  host_name = p.host_name;
+  locks = p.locks.names;
+}
