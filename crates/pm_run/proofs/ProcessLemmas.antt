@@ -26,92 +26,92 @@ use Rattle.pm_meaning.specs.Turns.{Turn, GoesOn, Halts, say_then}
 use Rattle.pm_journal.specs.Walking.{Next, Stop, Go, Reaches, Completes, Interrupted}
 use Rattle.pm_meaning.specs.Running.{State, Arrived, Running, Item, Do, step, renewal, begun, dated, unread, ahead, after_read, has_default, fall_off, statement, next_of}
 use Rattle.pm_meaning.specs.declared.command_line.CommandLine.{CommandLine}
-use Rattle.pm_meaning.specs.declared.process.Process.{Process}
+use Rattle.pm_meaning.specs.Minds.{Mind}
 use Rattle.pm_meaning.specs.declared.process.End.{End}
 use Rattle.pm_meaning.specs.declared.process.End.TheVariants.{FellOff, NoRc, NotBuilt}
 use Rattle.pm_journal.proofs.ActPlans.{executes_then}
 use Rattle.pm_journal.proofs.WantsMemory.{executes_nothing, out_then, out_front, out_anywhere}
 use Rattle.pm_journal.proofs.WalkJoin.{reaches_then, completes_then, interrupted_then}
-use Rattle.pm_run.specs.Acts.{Says, Reads}
+use Rattle.pm_acts.specs.Acts.{Says, ReadsWhole}
 use Rattle.pm_run.specs.Ends.{opening}
-use Rattle.pm_run.proofs.Choices.{choose_then, choose_else, then_out, else_out, line_told, line_out}
+use Rattle.pm_actions.proofs.Choices.{choose_then, choose_else, then_out, else_out, line_told, line_out}
 
 abbrev Onward : Type 0
 Onward = Next State End
 
 -- the default mailbox isn't built yet, or there is none
-pub default_waits : (p : Process) (x : JournalState) (s : View) → has_default p ≡ true → Executes {R = Onward} (fall_off p) (Stop NotBuilt) x x s s
-default_waits p x s e = choose_then (has_default p) (Ends (Stop NotBuilt)) (say_then no_delivery_line (Stop FellOff)) (Stop NotBuilt) x x s s e (executes_nothing (Stop NotBuilt) x x s refl)
+pub default_waits : (p : Mind) (x : JournalState) (s : View) → has_default p ≡ true → Executes {R = Onward} (fall_off p) (Stop NotBuilt) x x s s
+default_waits p x s e = choose_then (has_default p) (Ends (Stop NotBuilt)) (say_then p no_delivery_line (Stop FellOff)) (Stop NotBuilt) x x s s e (executes_nothing (Stop NotBuilt) x x s refl)
 
-pub fell_off : (p : Process) (line : List ℕ) (x y : JournalState) (a b : View) → has_default p ≡ false → line ≡ no_delivery_line → Says line x y a b → Executes {R = Onward} (fall_off p) (Stop FellOff) x y a b
-fell_off p line x y a b e is h = choose_else (has_default p) (Ends (Stop NotBuilt)) (say_then no_delivery_line (Stop FellOff)) (Stop FellOff) x y a b e (line_told no_delivery_line line (Stop FellOff) x y a b is h)
+pub fell_off : (p : Mind) (line : List ℕ) (x y : JournalState) (a b : View) → has_default p ≡ false → line ≡ no_delivery_line → Says line x y a b → Executes {R = Onward} (fall_off p) (Stop FellOff) x y a b
+fell_off p line x y a b e is h = choose_else (has_default p) (Ends (Stop NotBuilt)) (say_then p no_delivery_line (Stop FellOff)) (Stop FellOff) x y a b e (line_told no_delivery_line line (Stop FellOff) x y a b is h)
 
-pub fell_off_out : (p : Process) (line : List ℕ) (x y : JournalState) (a b : View) → has_default p ≡ false → line ≡ no_delivery_line → OutOfMemory (ask (SayErr line)) x y a b → OutOfMemory {R = Onward} (fall_off p) x y a b
-fell_off_out p line x y a b e is h = else_out (has_default p) (Ends (Stop NotBuilt)) (say_then no_delivery_line (Stop FellOff)) x y a b e (line_out no_delivery_line line (Stop FellOff) x y a b is h)
+pub fell_off_out : (p : Mind) (line : List ℕ) (x y : JournalState) (a b : View) → has_default p ≡ false → line ≡ no_delivery_line → OutOfMemory (ask (SayErr line)) x y a b → OutOfMemory {R = Onward} (fall_off p) x y a b
+fell_off_out p line x y a b e is h = else_out (has_default p) (Ends (Stop NotBuilt)) (say_then p no_delivery_line (Stop FellOff)) x y a b e (line_out no_delivery_line line (Stop FellOff) x y a b is h)
 
 -- the rcfile wasn't read
-pub filter_ends : (name : List ℕ) (p : Process) (x : JournalState) (s : View) → p.filter ≡ true → Executes {R = Onward} (unread name [] p) (Stop NoRc) x x s s
-filter_ends name p x s e = choose_then p.filter (Ends (Stop NoRc)) (say_then (couldnt_read_line name) (Go (Running [] p))) (Stop NoRc) x x s s e (executes_nothing (Stop NoRc) x x s refl)
+pub filter_ends : (name : List ℕ) (p : Mind) (x : JournalState) (s : View) → p.filter ≡ true → Executes {R = Onward} (unread name [] p) (Stop NoRc) x x s s
+filter_ends name p x s e = choose_then p.filter (Ends (Stop NoRc)) (say_then p (couldnt_read_line name) (Go (Running [] p))) (Stop NoRc) x x s s e (executes_nothing (Stop NoRc) x x s refl)
 
-pub miss_told : (name line : List ℕ) (p : Process) (x y : JournalState) (a b : View) → p.filter ≡ false → line ≡ couldnt_read_line name → Says line x y a b → Executes {R = Onward} (unread name [] p) (Go (Running [] p)) x y a b
+pub miss_told : (name line : List ℕ) (p : Mind) (x y : JournalState) (a b : View) → p.filter ≡ false → line ≡ couldnt_read_line name → Says line x y a b → Executes {R = Onward} (unread name [] p) (Go (Running [] p)) x y a b
 miss_told name line p x y a b e is h =
-    choose_else p.filter (Ends (Stop NoRc)) (say_then (couldnt_read_line name) (Go (Running [] p))) (Go (Running [] p)) x y a b e (line_told (couldnt_read_line name) line (Go (Running [] p)) x y a b is h)
+    choose_else p.filter (Ends (Stop NoRc)) (say_then p (couldnt_read_line name) (Go (Running [] p))) (Go (Running [] p)) x y a b e (line_told (couldnt_read_line name) line (Go (Running [] p)) x y a b is h)
 
-pub miss_out : (name line : List ℕ) (p : Process) (x y : JournalState) (a b : View) → p.filter ≡ false → line ≡ couldnt_read_line name → OutOfMemory (ask (SayErr line)) x y a b → OutOfMemory {R = Onward} (unread name [] p) x y a b
+pub miss_out : (name line : List ℕ) (p : Mind) (x y : JournalState) (a b : View) → p.filter ≡ false → line ≡ couldnt_read_line name → OutOfMemory (ask (SayErr line)) x y a b → OutOfMemory {R = Onward} (unread name [] p) x y a b
 miss_out name line p x y a b e is h =
-    else_out p.filter (Ends (Stop NoRc)) (say_then (couldnt_read_line name) (Go (Running [] p))) x y a b e (line_out (couldnt_read_line name) line (Go (Running [] p)) x y a b is h)
+    else_out p.filter (Ends (Stop NoRc)) (say_then p (couldnt_read_line name) (Go (Running [] p))) x y a b e (line_out (couldnt_read_line name) line (Go (Running [] p)) x y a b is h)
 
 -- what comes after a reading, by what was read
-after_content : (name rc : List ℕ) (p : Process) (reply : Reply) → Some rc ≡ content_of reply → Ends (Go (Running (ahead (rc_of rc) []) (entered name p))) ≡ after_read name [] p reply
+after_content : (name rc : List ℕ) (p : Mind) (reply : Reply) → Some rc ≡ content_of reply → Ends (Go (Running (ahead (rc_of rc) []) (entered name p))) ≡ after_read name [] p reply
 after_content name rc p (Content bytes) e = let f : rc ≡ bytes = cc in ap (λ b. Ends (Go (Running (ahead (rc_of b) []) (entered name p)))) f
 after_content name rc p other e = absurd (cc)
 
-after_other : (name : List ℕ) (p : Process) (reply : Reply) → None ≡ content_of reply → unread name [] p ≡ after_read name [] p reply
+after_other : (name : List ℕ) (p : Mind) (reply : Reply) → None ≡ content_of reply → unread name [] p ≡ after_read name [] p reply
 after_other name p (Content bytes) e = absurd (cc)
 after_other name p other e = refl
 
-pub rcfile_read : (name shown rc text : List ℕ) (content : Option (List ℕ)) (statements : Trees) (p q : Process) (x y : JournalState) (a b : View) → Reads name content x y a b → content ≡ Some rc → text ≡ rc → statements ≡ rc_of text
+pub rcfile_read : (name shown rc text : List ℕ) (content : Option (List ℕ)) (statements : Trees) (p q : Mind) (x y : JournalState) (a b : View) → ReadsWhole name content x y a b → content ≡ Some rc → text ≡ rc → statements ≡ rc_of text
     → shown ≡ name → q ≡ entered shown p → Executes (step (opening name p)) (Go (Running (ahead statements []) q)) x y a b
 rcfile_read name shown rc text content statements p q x y a b h some t is same e =
-    let next : Trees → Process → Onward = λ s r. Go (Running (ahead s []) r) in
+    let next : Trees → Mind → Onward = λ s r. Go (Running (ahead s []) r) in
     let last : Executes (after_read name [] p h.reply) (next statements q) y y b b =
     subst (λ plan. Executes plan (next statements q) y y b b) (after_content name rc p h.reply (sym some ∙ h.content_is))
     (subst (λ s. Executes (Ends (next s (entered name p))) (next statements q) y y b b) (is ∙ ap rc_of t)
     (subst (λ r. Executes (Ends (next statements r)) (next statements q) y y b b) (e ∙ ap (λ n. entered n p) same) (executes_nothing (next statements q) y y b refl))) in
     executes_then (ask (ReadFile name)) (after_read name [] p) h.reply (next statements q) x y y a b b h.executes last
 
-pub read_then_wants : (name : List ℕ) (content : Option (List ℕ)) (p : Process) (x y : JournalState) (a b : View) → Reads name content x y a b → OutOfMemory (step (opening name p)) x y a b
+pub read_then_wants : (name : List ℕ) (content : Option (List ℕ)) (p : Mind) (x y : JournalState) (a b : View) → ReadsWhole name content x y a b → OutOfMemory (step (opening name p)) x y a b
 read_then_wants name content p x y a b h = out_then (ask (ReadFile name)) (after_read name [] p) h.reply x y y a b b h.executes (out_anywhere (after_read name [] p h.reply) y y b refl)
 
-pub rcfile_missed : (name shown : List ℕ) (content : Option (List ℕ)) (next : Onward) (p : Process) (x y z : JournalState) (a b c : View) → Reads name content x y a b → content ≡ None → shown ≡ name
+pub rcfile_missed : (name shown : List ℕ) (content : Option (List ℕ)) (next : Onward) (p : Mind) (x y z : JournalState) (a b c : View) → ReadsWhole name content x y a b → content ≡ None → shown ≡ name
     → Executes (unread shown [] p) next y z b c → Executes (step (opening name p)) next x z a c
 rcfile_missed name shown content next p x y z a b c h none same k =
     executes_then (ask (ReadFile name)) (after_read name [] p) h.reply next x y z a b c h.executes
     (subst (λ plan. Executes plan next y z b c) (after_other name p h.reply (sym none ∙ h.content_is)) (subst (λ n. Executes (unread n [] p) next y z b c) same k))
 
-pub rcfile_missed_out : (name shown : List ℕ) (content : Option (List ℕ)) (p : Process) (x y z : JournalState) (a b c : View) → Reads name content x y a b → content ≡ None → shown ≡ name
+pub rcfile_missed_out : (name shown : List ℕ) (content : Option (List ℕ)) (p : Mind) (x y z : JournalState) (a b c : View) → ReadsWhole name content x y a b → content ≡ None → shown ≡ name
     → OutOfMemory (unread shown [] p) y z b c → OutOfMemory (step (opening name p)) x z a c
 rcfile_missed_out name shown content p x y z a b c h none same k =
     out_then (ask (ReadFile name)) (after_read name [] p) h.reply x y z a b c h.executes
     (subst (λ plan. OutOfMemory plan y z b c) (after_other name p h.reply (sym none ∙ h.content_is)) (subst (λ n. OutOfMemory (unread n [] p) y z b c) same k))
 
-pub reading_wants : (name : List ℕ) (p : Process) (x y : JournalState) (a b : View) → OutOfMemory (ask (ReadFile name)) x y a b → OutOfMemory (step (opening name p)) x y a b
+pub reading_wants : (name : List ℕ) (p : Mind) (x y : JournalState) (a b : View) → OutOfMemory (ask (ReadFile name)) x y a b → OutOfMemory (step (opening name p)) x y a b
 reading_wants name p x y a b h = out_front (ask (ReadFile name)) (after_read name [] p) x y a b h
 
 -- the mail arrived with its From line, or gets none
-pub arrived_whole : (line : CommandLine) (env : Environ) (bytes : List ℕ) (message : Message) (p : Process) (x : JournalState) (s : View) → makes_line bytes (renewal line.filter) ≡ false → message ≡ split_of bytes
+pub arrived_whole : (line : CommandLine) (env : Environ) (bytes : List ℕ) (message : Message) (p : Mind) (x : JournalState) (s : View) → makes_line bytes (renewal line.filter) ≡ false → message ≡ split_of bytes
     → p ≡ first_process line.filter env message → Executes (step (Arrived line env bytes)) (Go (opening line.rcfile p)) x x s s
 arrived_whole line env bytes message p x s e m is =
-    let next : Process → Onward = λ q. Go (opening line.rcfile q) in
+    let next : Mind → Onward = λ q. Go (opening line.rcfile q) in
     choose_else (makes_line bytes (renewal line.filter)) (and_then (ask Moment) (dated line env bytes)) (Ends (begun line env (split_of bytes))) (next p) x x s s e
     (subst (λ q. Executes (Ends (next q)) (next p) x x s s) (is ∙ ap (first_process line.filter env) m) (executes_nothing (next p) x x s refl))
 
 -- the mail got a From line with the moment
-pub arrived_dated : (line : CommandLine) (env : Environ) (bytes login : List ℕ) (moment : ℤ) (message : Message) (p : Process) (x y : JournalState) (a b : View) → makes_line bytes (renewal line.filter) ≡ true → login ≡ login_name env
+pub arrived_dated : (line : CommandLine) (env : Environ) (bytes login : List ℕ) (moment : ℤ) (message : Message) (p : Mind) (x y : JournalState) (a b : View) → makes_line bytes (renewal line.filter) ≡ true → login ≡ login_name env
     → message ≡ prepared_of bytes (renewal line.filter) login moment → p ≡ first_process line.filter env message → Executes (ask Moment) (Now moment) x y a b
     → Executes (step (Arrived line env bytes)) (Go (opening line.rcfile p)) x y a b
 arrived_dated line env bytes login moment message p x y a b e who m is h =
-    let next : Process → Onward = λ q. Go (opening line.rcfile q) in
+    let next : Mind → Onward = λ q. Go (opening line.rcfile q) in
     choose_then (makes_line bytes (renewal line.filter)) (and_then (ask Moment) (dated line env bytes)) (Ends (begun line env (split_of bytes))) (next p) x y a b e
     (executes_then (ask Moment) (dated line env bytes) (Now moment) (next p) x y y a b b h
     (subst (λ q. Executes (Ends (next q)) (next p) y y b b) (is ∙ ap (first_process line.filter env) (m ∙ ap (λ l. prepared_of bytes (renewal line.filter) l moment) who)) (executes_nothing (next p) y y b refl)))
@@ -128,39 +128,39 @@ dated_then_wants line env bytes moment x y a b e h =
     (out_then (ask Moment) (dated line env bytes) (Now moment) x y y a b b h (out_anywhere (dated line env bytes (Now moment)) y y b refl))
 
 -- one statement of several
-first_statement : (items : List Statement) (item : Statement) (rest : List Statement) (p : Process) → items ≡ item ∷ rest → Running (ahead (trees_of items) []) p ≡ Running (Do (tree_of item) ∷ ahead (trees_of rest) []) p
+first_statement : (items : List Statement) (item : Statement) (rest : List Statement) (p : Mind) → items ≡ item ∷ rest → Running (ahead (trees_of items) []) p ≡ Running (Do (tree_of item) ∷ ahead (trees_of rest) []) p
 first_statement items item rest p e = ap (λ l. Running (ahead (trees_of l) []) p) e
 
-stepped : (tree : Statement) (rest : List Item) (p : Process) (turn : Turn) (x y : JournalState) (a b : View) → Executes (statement (tree_of tree) p) turn x y a b → Executes (step (Running (Do (tree_of tree) ∷ rest) p)) (next_of rest turn) x y a b
+stepped : (tree : Statement) (rest : List Item) (p : Mind) (turn : Turn) (x y : JournalState) (a b : View) → Executes (statement (tree_of tree) p) turn x y a b → Executes (step (Running (Do (tree_of tree) ∷ rest) p)) (next_of rest turn) x y a b
 stepped tree rest p turn x y a b h =
     executes_then (statement (tree_of tree) p) (λ turn. Ends (next_of rest turn)) turn (next_of rest turn) x y y a b b h (executes_nothing (next_of rest turn) y y b refl)
 
-pub statement_on : (s : State) (items rest : List Statement) (item : Statement) (p q : Process) (x y z : JournalState) (a b c : View) → items ≡ item ∷ rest → Reaches {X = End} step s (Running (ahead (trees_of items) []) p) x y a b
+pub statement_on : (s : State) (items rest : List Statement) (item : Statement) (p q : Mind) (x y z : JournalState) (a b c : View) → items ≡ item ∷ rest → Reaches {X = End} step s (Running (ahead (trees_of items) []) p) x y a b
     → Executes (statement (tree_of item) p) (GoesOn q) y z b c → Reaches {X = End} step s (Running (ahead (trees_of rest) []) q) x z a c
 statement_on s items rest item p q x y z a b c e h k =
     reaches_then step s (Running (Do (tree_of item) ∷ ahead (trees_of rest) []) p) (Running (ahead (trees_of rest) []) q) x y z a b c
     (subst (λ t. Reaches {X = End} step s t x y a b) (first_statement items item rest p e) h) (stepped item (ahead (trees_of rest) []) p (GoesOn q) y z b c k)
 
-pub statement_ends : (s : State) (items rest : List Statement) (item : Statement) (p : Process) (end : End) (x y z : JournalState) (a b c : View) → items ≡ item ∷ rest → Reaches {X = End} step s (Running (ahead (trees_of items) []) p) x y a b
+pub statement_ends : (s : State) (items rest : List Statement) (item : Statement) (p : Mind) (end : End) (x y z : JournalState) (a b c : View) → items ≡ item ∷ rest → Reaches {X = End} step s (Running (ahead (trees_of items) []) p) x y a b
     → Executes (statement (tree_of item) p) (Halts end) y z b c → Completes step s end x z a c
 statement_ends s items rest item p end x y z a b c e h k =
     completes_then step s (Running (Do (tree_of item) ∷ ahead (trees_of rest) []) p) end x y z a b c
     (subst (λ t. Reaches {X = End} step s t x y a b) (first_statement items item rest p e) h) (stepped item (ahead (trees_of rest) []) p (Halts end) y z b c k)
 
-pub statement_wants : (s : State) (items rest : List Statement) (item : Statement) (p : Process) (x y z : JournalState) (a b c : View) → items ≡ item ∷ rest → Reaches {X = End} step s (Running (ahead (trees_of items) []) p) x y a b
+pub statement_wants : (s : State) (items rest : List Statement) (item : Statement) (p : Mind) (x y z : JournalState) (a b c : View) → items ≡ item ∷ rest → Reaches {X = End} step s (Running (ahead (trees_of items) []) p) x y a b
     → OutOfMemory (statement (tree_of item) p) y z b c → Interrupted {X = End} step s x z a c
 statement_wants s items rest item p x y z a b c e h k =
     interrupted_then step s (Running (Do (tree_of item) ∷ ahead (trees_of rest) []) p) x y z a b c
     (subst (λ t. Reaches {X = End} step s t x y a b) (first_statement items item rest p e) h) (out_front (statement (tree_of item) p) (λ turn. Ends (next_of (ahead (trees_of rest) []) turn)) y z b c k)
 
 -- what a statement is
-pub by_text : (item shown : Statement) (p : Process) (turn : Turn) (x y : JournalState) (a b : View) → item ≡ shown → Executes (statement (tree_of shown) p) turn x y a b → Executes (statement (tree_of item) p) turn x y a b
+pub by_text : (item shown : Statement) (p : Mind) (turn : Turn) (x y : JournalState) (a b : View) → item ≡ shown → Executes (statement (tree_of shown) p) turn x y a b → Executes (statement (tree_of item) p) turn x y a b
 by_text item shown p turn x y a b e h = subst (λ i. Executes (statement (tree_of i) p) turn x y a b) (sym e) h
 
-pub by_text_out : (item shown : Statement) (p : Process) (x y : JournalState) (a b : View) → item ≡ shown → OutOfMemory (statement (tree_of shown) p) x y a b → OutOfMemory (statement (tree_of item) p) x y a b
+pub by_text_out : (item shown : Statement) (p : Mind) (x y : JournalState) (a b : View) → item ≡ shown → OutOfMemory (statement (tree_of shown) p) x y a b → OutOfMemory (statement (tree_of item) p) x y a b
 by_text_out item shown p x y a b e h = subst (λ i. OutOfMemory (statement (tree_of i) p) x y a b) (sym e) h
 
-pub unset_done : (item : Statement) (name shown : List ℕ) (p : Process) (turn : Turn) (x : JournalState) (s : View) → item ≡ Unset name → shown ≡ name → unset shown p ≡ Ends turn → Executes (statement (tree_of item) p) turn x x s s
+pub unset_done : (item : Statement) (name shown : List ℕ) (p : Mind) (turn : Turn) (x : JournalState) (s : View) → item ≡ Unset name → shown ≡ name → unset shown p ≡ Ends turn → Executes (statement (tree_of item) p) turn x x s s
 unset_done item name shown p turn x s e same is =
     subst (λ i. Executes (statement (tree_of i) p) turn x x s s) (sym e)
     (subst (λ n. Executes (unset n p) turn x x s s) same (subst (λ q. Executes q turn x x s s) (sym is) (executes_nothing turn x x s refl)))

@@ -1,14 +1,13 @@
 //! Assignments and unsettings, and what each has for an effect (procmailrc(5), "Environment").
 ghost use Rattle.std.specs.Prelude.{◌≡◌, ◌||◌, bytes_eq, codes, IfOk, OnErr};
-ghost use Rattle.pm_journal.specs.Entries.{view_of};
 ghost use Rattle.pm_journal.specs.declared.acts.Act.TheVariants.{Probe};
 ghost use Rattle.pm_meaning.specs.Assigning.{is_one_of, is_later, leads_elsewhere, is_file_text, probed, change_folder, assigned, assign, unset};
-ghost use Rattle.pm_journal.specs.Executed.{Executes, OutOfMemory};
+ghost use Rattle.pm_journal.specs.Executed.{Carries};
 ghost use Rattle.pm_journal.specs.Plan.{Ends, and_then, ask};
 ghost use Rattle.pm_meaning.specs.Turns.{has_command};
 ghost use Rattle.pm_subst.specs.declared.kinds.Mode.TheVariants.{One};
 ghost use Rattle.pm_run.specs.Ends.{turn_of};
-ghost use Rattle.pm_run.specs.Names.{file_name_of};
+ghost use Rattle.pm_actions.specs.Names.{file_name_of};
 
 use crate::acts::{probe, tell};
 use crate::expanding::{Expansion, expand_text, first_word, runs_command};
@@ -21,20 +20,18 @@ use pm_subst::Mode;
 use std::alloc::Global;
 
 /// Expands the text and gives it to the variable, with the effect that this has.
-pub fn assign_text<H: Host, O: Sink, E: Sink>(
+pub fn assign_text<D: Outside>(
     alloc: Global,
     name: &[u8],
     text: &[u8],
     process: &mut Process,
-    host: &mut H,
-    out: &O,
-    err: &mut E,
+    outside: &mut D,
     journal: &mut Journal,
 ) -> Result<Option<End>, Memory>
-    ensures ok { IfOk result (λ end. Executes (assign name.now text.now process.old) (turn_of end process.new) journal.old journal.new
-        (view_of (H.told host.old) (O.told out.now) (E.told err.old)) (view_of (H.told host.new) (O.told out.now) (E.told err.new))) }
-    ensures memory { OnErr result (OutOfMemory (assign name.now text.now process.old) journal.old journal.new
-        (view_of (H.told host.old) (O.told out.now) (E.told err.old)) (view_of (H.told host.new) (O.told out.now) (E.told err.new))) }
+    requires keeping { Keeping journal.old process.old.locks.names }
+    ensures carries { Carries (assign name.now text.now (mind_of process.old)) (λ end. turn_of end (mind_of process.new)) result
+        journal.old journal.new (D.told outside.old) (D.told outside.new) }
+    ensures keeping { Keeping journal.new process.new.locks.names }
 {
     if waits(alloc, name, text)? {
         return Ok(Some(End::NotBuilt));
@@ -42,9 +39,9 @@ pub fn assign_text<H: Host, O: Sink, E: Sink>(
     match expand_text(alloc, text, Mode::One, &process.vars)? {
         Expansion::Words(words) => {
             let value = first_word(alloc, words);
-            assign_value(alloc, name, value, process, host, out, err, journal)
+            assign_value(alloc, name, value, process, outside, journal)
         }
-        Expansion::TooLong(length) => skip_value(alloc, length, process, host, out, err, journal),
+        Expansion::TooLong(length) => skip_value(alloc, length, process, outside, journal),
     }
 }
 
@@ -71,20 +68,18 @@ fn is_later_name(name: &[u8]) -> bool
         || name == b"SHIFT".as_slice()
 }
 
-fn assign_value<H: Host, O: Sink, E: Sink>(
+fn assign_value<D: Outside>(
     alloc: Global,
     name: &[u8],
     value: Blob,
     process: &mut Process,
-    host: &mut H,
-    out: &O,
-    err: &mut E,
+    outside: &mut D,
     journal: &mut Journal,
 ) -> Result<Option<End>, Memory>
-    ensures ok { IfOk result (λ end. Executes (assigned name.now value process.old) (turn_of end process.new) journal.old journal.new
-        (view_of (H.told host.old) (O.told out.now) (E.told err.old)) (view_of (H.told host.new) (O.told out.now) (E.told err.new))) }
-    ensures memory { OnErr result (OutOfMemory (assigned name.now value process.old) journal.old journal.new
-        (view_of (H.told host.old) (O.told out.now) (E.told err.old)) (view_of (H.told host.new) (O.told out.now) (E.told err.new))) }
+    requires keeping { Keeping journal.old process.old.locks.names }
+    ensures carries { Carries (assigned name.now value (mind_of process.old)) (λ end. turn_of end (mind_of process.new)) result
+        journal.old journal.new (D.told outside.old) (D.told outside.new) }
+    ensures keeping { Keeping journal.new process.new.locks.names }
 {
     if leads_away(name, value.as_slice(), process) {
         return Ok(Some(End::NotBuilt));
@@ -95,7 +90,7 @@ fn assign_value<H: Host, O: Sink, E: Sink>(
     }
     let folder = value.copy(alloc)?;
     process.vars.set(name, value)?;
-    move_to_folder(alloc, folder.as_slice(), process, host, out, err, journal)
+    move_to_folder(alloc, folder.as_slice(), process, outside, journal)
 }
 
 // Whether the variable is MAILDIR.
@@ -107,7 +102,7 @@ fn names_folder(name: &[u8]) -> bool
 
 // Whether the value asks for another rcfile or another host's rcfiles.
 fn leads_away(name: &[u8], value: &[u8], process: &Process) -> bool
-    ensures { result ≡ leads_elsewhere name.now value.now process.now }
+    ensures { result ≡ leads_elsewhere name.now value.now (mind_of process.now) }
 {
     (name == b"INCLUDERC".as_slice() && !value.is_empty())
         || name == b"SWITCHRC".as_slice()
@@ -115,56 +110,52 @@ fn leads_away(name: &[u8], value: &[u8], process: &Process) -> bool
 }
 
 // Names are seen from this folder from now on, if it is there.
-fn move_to_folder<H: Host, O: Sink, E: Sink>(
+fn move_to_folder<D: Outside>(
     alloc: Global,
     value: &[u8],
     process: &mut Process,
-    host: &mut H,
-    out: &O,
-    err: &mut E,
+    outside: &mut D,
     journal: &mut Journal,
 ) -> Result<Option<End>, Memory>
-    ensures ok { IfOk result (λ end. Executes (change_folder value.now process.old) (turn_of end process.new) journal.old journal.new
-        (view_of (H.told host.old) (O.told out.now) (E.told err.old)) (view_of (H.told host.new) (O.told out.now) (E.told err.new))) }
-    ensures memory { OnErr result (OutOfMemory (change_folder value.now process.old) journal.old journal.new
-        (view_of (H.told host.old) (O.told out.now) (E.told err.old)) (view_of (H.told host.new) (O.told out.now) (E.told err.new))) }
+    requires keeping { Keeping journal.old process.old.locks.names }
+    ensures carries { Carries (change_folder value.now (mind_of process.old)) (λ end. turn_of end (mind_of process.new)) result
+        journal.old journal.new (D.told outside.old) (D.told outside.new) }
+    ensures keeping { Keeping journal.new process.new.locks.names }
 {
     match file_name(alloc, value)? {
         Some(name) => {
             let name = full(alloc, &process.base, &name)?;
-            probe_folder(alloc, name, process, host, out, err, journal)
+            probe_folder(alloc, name, process, outside, journal)
         }
         None => {
             let line = unusable_name(alloc, value)?;
-            tell(line, host, out, err, journal)?;
+            tell(line, outside, journal)?;
             Ok(None)
         }
     }
 }
 
-fn probe_folder<H: Host, O: Sink, E: Sink>(
+fn probe_folder<D: Outside>(
     alloc: Global,
     name: Name,
     process: &mut Process,
-    host: &mut H,
-    out: &O,
-    err: &mut E,
+    outside: &mut D,
     journal: &mut Journal,
 ) -> Result<Option<End>, Memory>
-    ensures ok { IfOk result (λ end. Executes (and_then (ask (Probe name)) (probed name process.old)) (turn_of end process.new) journal.old journal.new
-        (view_of (H.told host.old) (O.told out.now) (E.told err.old)) (view_of (H.told host.new) (O.told out.now) (E.told err.new))) }
-    ensures memory { OnErr result (OutOfMemory (and_then (ask (Probe name)) (probed name process.old)) journal.old journal.new
-        (view_of (H.told host.old) (O.told out.now) (E.told err.old)) (view_of (H.told host.new) (O.told out.now) (E.told err.new))) }
+    requires keeping { Keeping journal.old process.old.locks.names }
+    ensures carries { Carries (and_then (ask (Probe name)) (probed name (mind_of process.old))) (λ end. turn_of end (mind_of process.new)) result
+        journal.old journal.new (D.told outside.old) (D.told outside.new) }
+    ensures keeping { Keeping journal.new process.new.locks.names }
 {
     let folder = name.copy(alloc)?;
-    match probe(name, host, out, err, journal)? {
+    match probe(name, outside, journal)? {
         Looked::Folder => {
             process.base = folder;
             Ok(None)
         }
         _ => {
             let line = couldnt_chdir(alloc, &folder)?;
-            tell(line, host, out, err, journal)?;
+            tell(line, outside, journal)?;
             Ok(None)
         }
     }
@@ -186,7 +177,7 @@ pub fn file_name(alloc: Global, text: &[u8]) -> Result<Option<Name>, Memory>
 
 /// Takes the variable away. Nothing is asked of the outside.
 pub fn unset_variable(name: &[u8], process: &mut Process) -> Option<End>
-    ensures { unset name.now process.old ≡ Ends (turn_of result process.new) }
+    ensures { unset name.now (mind_of process.old) ≡ Ends (turn_of result (mind_of process.new)) }
 {
     if name == b"LOCKFILE".as_slice() || name == b"SWITCHRC".as_slice() {
         return Some(End::NotBuilt);

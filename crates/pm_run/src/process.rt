@@ -1,9 +1,8 @@
 //! A whole process, from the mail's arrival to its end.
 ghost use Rattle.std.specs.Prelude.{◌≡◌, ◌≤◌, [], ◌∷◌, length, IfOk, OnErr};
-ghost use Rattle.pm_journal.specs.Entries.{view_of};
 ghost use Rattle.pm_message.specs.FromLine.{makes_line, prepared_of};
 ghost use Rattle.pm_meaning.specs.Changes.{entered, is_given};
-ghost use Rattle.pm_journal.specs.Executed.{Executes, OutOfMemory};
+ghost use Rattle.pm_journal.specs.Executed.{Carries};
 ghost use Rattle.pm_meaning.specs.Running.{Arrived, Running, ahead, step, renewal, unread, has_default, fall_off as fall_off_plan};
 ghost use Rattle.pm_journal.specs.Walking.{Stop, Go, Completes, Interrupted};
 ghost use Rattle.pm_meaning.specs.declared.process.End.{End};
@@ -29,48 +28,44 @@ enum Opened {
 }
 
 /// Runs the process that delivers this mail. No lock is held afterwards where none was before.
-pub fn run_process<H: Host, O: Sink, E: Sink>(
+pub fn run_process<D: Outside>(
     alloc: Global,
     line: CommandLine,
     env: &Environ,
     bytes: Blob,
-    host: &mut H,
-    out: &O,
-    err: &mut E,
+    outside: &mut D,
     journal: &mut Journal,
 ) -> Result<End, Memory>
     ensures ok { IfOk result (λ end. Completes step (Arrived line env.now bytes) end journal.old journal.new
-        (view_of (H.told host.old) (O.told out.now) (E.told err.old)) (view_of (H.told host.new) (O.told out.now) (E.told err.new))) }
+        (D.told outside.old) (D.told outside.new)) }
     ensures memory { OnErr result (Interrupted {X = End} step (Arrived line env.now bytes) journal.old journal.new
-        (view_of (H.told host.old) (O.told out.now) (E.told err.old)) (view_of (H.told host.new) (O.told out.now) (E.told err.new))) }
+        (D.told outside.old) (D.told outside.new)) }
 {
-    let mut process = arrive(alloc, &line, env, bytes.as_slice(), host, out, err, journal)?;
+    let mut process = arrive(alloc, &line, env, bytes.as_slice(), outside, journal)?;
     drop(bytes);
     let CommandLine { rcfile, .. } = line;
-    run_rcfile(alloc, rcfile, &mut process, host, out, err, journal)
+    run_rcfile(alloc, rcfile, &mut process, outside, journal)
 }
 
 // The process that begins with this mail, which gets its From line.
-fn arrive<H: Host, O: Sink, E: Sink>(
+fn arrive<D: Outside>(
     alloc: Global,
     line: &CommandLine,
     env: &Environ,
     bytes: &[u8],
-    host: &mut H,
-    out: &O,
-    err: &E,
+    outside: &mut D,
     journal: &mut Journal,
 ) -> Result<Process, Memory>
-    ensures ok { IfOk result (λ process. Executes (step (Arrived line.now env.now bytes.now)) (Go (opening line.now.rcfile process)) journal.old journal.new
-        (view_of (H.told host.old) (O.told out.now) (E.told err.now)) (view_of (H.told host.new) (O.told out.now) (E.told err.now))) }
-    ensures memory { OnErr result (OutOfMemory (step (Arrived line.now env.now bytes.now)) journal.old journal.new
-        (view_of (H.told host.old) (O.told out.now) (E.told err.now)) (view_of (H.told host.new) (O.told out.now) (E.told err.now))) }
+    requires keeping { Keeping journal.old process.old.locks.names }
+    ensures carries { Carries (step (Arrived line.now env.now bytes.now)) (λ process. Go (opening line.now.rcfile process) result
+        journal.old journal.new (D.told outside.old) (D.told outside.new) }
+    ensures keeping { Keeping journal.new process.new.locks.names }
 {
     if !wants_line(bytes, line.filter) {
         let message = split(alloc, bytes)?;
         return begin(alloc, line.filter, env, message);
     }
-    let moment = ask_moment(host, out, err, journal)?;
+    let moment = ask_moment(outside, journal)?;
     let message = with_line(alloc, bytes, line.filter, login(env), moment)?;
     begin(alloc, line.filter, env, message)
 }
@@ -104,72 +99,66 @@ fn with_line(
 }
 
 // The process from the opening of its rcfile on.
-fn run_rcfile<H: Host, O: Sink, E: Sink>(
+fn run_rcfile<D: Outside>(
     alloc: Global,
     name: Name,
     process: &mut Process,
-    host: &mut H,
-    out: &O,
-    err: &mut E,
+    outside: &mut D,
     journal: &mut Journal,
 ) -> Result<End, Memory>
-    ensures ok { IfOk result (λ end. Completes step (opening name process.old) end journal.old journal.new
-        (view_of (H.told host.old) (O.told out.now) (E.told err.old)) (view_of (H.told host.new) (O.told out.now) (E.told err.new))) }
-    ensures memory { OnErr result (Interrupted {X = End} step (opening name process.old) journal.old journal.new
-        (view_of (H.told host.old) (O.told out.now) (E.told err.old)) (view_of (H.told host.new) (O.told out.now) (E.told err.new))) }
+    ensures ok { IfOk result (λ end. Completes step (opening name (mind_of process.old)) end journal.old journal.new
+        (D.told outside.old) (D.told outside.new)) }
+    ensures memory { OnErr result (Interrupted {X = End} step (opening name (mind_of process.old)) journal.old journal.new
+        (D.told outside.old) (D.told outside.new)) }
 {
-    match open_rcfile(alloc, name, process, host, out, err, journal)? {
+    match open_rcfile(alloc, name, process, outside, journal)? {
         Opened::Ended(end) => Ok(end),
         Opened::Read(statements) => {
-            run_rest(alloc, &statements, process, host, out, err, journal)
+            run_rest(alloc, &statements, process, outside, journal)
         }
     }
 }
 
 // The statements, and what comes where none of them ends the process.
-fn run_rest<H: Host, O: Sink, E: Sink>(
+fn run_rest<D: Outside>(
     alloc: Global,
     statements: &Statements,
     process: &mut Process,
-    host: &mut H,
-    out: &O,
-    err: &mut E,
+    outside: &mut D,
     journal: &mut Journal,
 ) -> Result<End, Memory>
-    ensures ok { IfOk result (λ end. Completes step (Running (ahead statements.now []) process.old) end journal.old journal.new
-        (view_of (H.told host.old) (O.told out.now) (E.told err.old)) (view_of (H.told host.new) (O.told out.now) (E.told err.new))) }
-    ensures memory { OnErr result (Interrupted {X = End} step (Running (ahead statements.now []) process.old) journal.old journal.new
-        (view_of (H.told host.old) (O.told out.now) (E.told err.old)) (view_of (H.told host.new) (O.told out.now) (E.told err.new))) }
+    ensures ok { IfOk result (λ end. Completes step (Running (ahead statements.now []) (mind_of process.old)) end journal.old journal.new
+        (D.told outside.old) (D.told outside.new)) }
+    ensures memory { OnErr result (Interrupted {X = End} step (Running (ahead statements.now []) (mind_of process.old)) journal.old journal.new
+        (D.told outside.old) (D.told outside.new)) }
 {
-    match run_statements(alloc, statements, process, host, out, err, journal)? {
+    match run_statements(alloc, statements, process, outside, journal)? {
         Some(end) => Ok(end),
-        None => fall_off(alloc, process, host, out, err, journal),
+        None => fall_off(alloc, process, outside, journal),
     }
 }
 
 // Reads the rcfile.
-fn open_rcfile<H: Host, O: Sink, E: Sink>(
+fn open_rcfile<D: Outside>(
     alloc: Global,
     name: Name,
     process: &mut Process,
-    host: &mut H,
-    out: &O,
-    err: &mut E,
+    outside: &mut D,
     journal: &mut Journal,
 ) -> Result<Opened, Memory>
-    ensures ok { IfOk result (λ opened. Executes (step (opening name process.old)) (opened_next opened process.new) journal.old journal.new
-        (view_of (H.told host.old) (O.told out.now) (E.told err.old)) (view_of (H.told host.new) (O.told out.now) (E.told err.new))) }
-    ensures memory { OnErr result (OutOfMemory (step (opening name process.old)) journal.old journal.new
-        (view_of (H.told host.old) (O.told out.now) (E.told err.old)) (view_of (H.told host.new) (O.told out.now) (E.told err.new))) }
+    requires keeping { Keeping journal.old process.old.locks.names }
+    ensures carries { Carries (step (opening name (mind_of process.old))) (λ opened. opened_next opened (mind_of process.new)) result
+        journal.old journal.new (D.told outside.old) (D.told outside.new) }
+    ensures keeping { Keeping journal.new process.new.locks.names }
 {
     let shown = name.copy(alloc)?;
-    match read(alloc, name, host, out, err, journal)? {
+    match read(alloc, name, outside, journal)? {
         Some(rc) => {
             let statements = read_statements(alloc, rc.as_slice())?;
             enter(alloc, &shown, process)?;
             Ok(Opened::Read(statements))
         }
-        None => miss_rcfile(alloc, &shown, process, host, out, err, journal),
+        None => miss_rcfile(alloc, &shown, process, outside, journal),
     }
 }
 
@@ -189,7 +178,7 @@ fn read_statements(alloc: Global, rc: &[u8]) -> Result<Statements, Memory>
 
 // The rcfile has this name; one of the working folder is run from there.
 fn enter(alloc: Global, name: &Name, process: &mut Process) -> Result<(), Memory>
-    ensures { IfOk result (λ _. process.new ≡ entered name.now process.old) }
+    ensures { IfOk result (λ _. (mind_of process.new) ≡ entered name.now (mind_of process.old)) }
 {
     process.vars.set_rcfile(name)?;
     if !name.as_str().as_bytes().starts_with(b"./") {
@@ -202,60 +191,56 @@ fn enter(alloc: Global, name: &Name, process: &mut Process) -> Result<(), Memory
 }
 
 // The rcfile wasn't read: a mail filter ends at once.
-fn miss_rcfile<H: Host, O: Sink, E: Sink>(
+fn miss_rcfile<D: Outside>(
     alloc: Global,
     name: &Name,
     process: &Process,
-    host: &mut H,
-    out: &O,
-    err: &mut E,
+    outside: &mut D,
     journal: &mut Journal,
 ) -> Result<Opened, Memory>
-    ensures ok { IfOk result (λ opened. Executes (unread name.now [] process.now) (opened_next opened process.now) journal.old journal.new
-        (view_of (H.told host.old) (O.told out.now) (E.told err.old)) (view_of (H.told host.new) (O.told out.now) (E.told err.new))) }
-    ensures memory { OnErr result (OutOfMemory (unread name.now [] process.now) journal.old journal.new
-        (view_of (H.told host.old) (O.told out.now) (E.told err.old)) (view_of (H.told host.new) (O.told out.now) (E.told err.new))) }
+    requires keeping { Keeping journal.old process.old.locks.names }
+    ensures carries { Carries (unread name.now [] (mind_of process.now)) (λ opened. opened_next opened (mind_of process.now)) result
+        journal.old journal.new (D.told outside.old) (D.told outside.new) }
+    ensures keeping { Keeping journal.new process.new.locks.names }
 {
     if process.filter {
         return Ok(Opened::Ended(End::NoRc));
     }
     let line = couldnt_read(alloc, name)?;
-    tell(line, host, out, err, journal)?;
+    tell(line, outside, journal)?;
     Ok(Opened::Read(Statements::new(alloc)))
 }
 
 // No statement ended the process.
-fn fall_off<H: Host, O: Sink, E: Sink>(
+fn fall_off<D: Outside>(
     alloc: Global,
     process: &Process,
-    host: &mut H,
-    out: &O,
-    err: &mut E,
+    outside: &mut D,
     journal: &mut Journal,
 ) -> Result<End, Memory>
-    ensures ok { IfOk result (λ end. Executes (fall_off_plan process.now) (Stop end) journal.old journal.new
-        (view_of (H.told host.old) (O.told out.now) (E.told err.old)) (view_of (H.told host.new) (O.told out.now) (E.told err.new))) }
-    ensures memory { OnErr result (OutOfMemory (fall_off_plan process.now) journal.old journal.new
-        (view_of (H.told host.old) (O.told out.now) (E.told err.old)) (view_of (H.told host.new) (O.told out.now) (E.told err.new))) }
+    requires keeping { Keeping journal.old process.old.locks.names }
+    ensures carries { Carries (fall_off_plan (mind_of process.now)) (λ end. Stop end) result
+        journal.old journal.new (D.told outside.old) (D.told outside.new) }
+    ensures keeping { Keeping journal.new process.new.locks.names }
 {
     if has_mailbox(process) {
         return Ok(End::NotBuilt);
     }
     let line = no_delivery(alloc)?;
-    tell(line, host, out, err, journal)?;
+    tell(line, outside, journal)?;
     Ok(End::FellOff)
 }
 
 // Whether there is a default mailbox.
 fn has_mailbox(process: &Process) -> bool
-    ensures { result ≡ has_default process.now }
+    ensures { result ≡ has_default (mind_of process.now) }
 {
     !process.filter || is_set(process, b"DEFAULT") || is_set(process, b"ORGMAIL")
 }
 
 // Whether the variable is set and not empty.
 fn is_set(process: &Process, name: &[u8]) -> bool
-    ensures { result ≡ is_given name.now process.now }
+    ensures { result ≡ is_given name.now (mind_of process.now) }
 {
     match process.vars.get(name) {
         Some(value) => value.len() != 0,

@@ -1,9 +1,8 @@
 //! The statements of an rcfile, one after the other.
 ghost use Rattle.std.specs.Prelude.{◌≡◌, ◌-◌, ◌^◌, ℕ, [], List, min, IfOk, OnErr};
-ghost use Rattle.pm_journal.specs.Entries.{view_of};
 ghost use Rattle.pm_meaning.specs.Assigning.{skip_defect};
 ghost use Rattle.pm_meaning.specs.Changes.{overflowed};
-ghost use Rattle.pm_journal.specs.Executed.{Executes, OutOfMemory};
+ghost use Rattle.pm_journal.specs.Executed.{Carries};
 ghost use Rattle.pm_meaning.specs.Running.{Running, ahead, step, statement as statement_plan};
 ghost use Rattle.pm_meaning.specs.Turns.{GoesOn, say_then};
 ghost use Rattle.pm_journal.specs.Walking.{Interrupted};
@@ -24,22 +23,20 @@ use pm_recipe::{Statement, Statements};
 use std::alloc::Global;
 
 /// Runs the statements in order, up to the process's end, if one of them ends it.
-pub fn run_statements<H: Host, O: Sink, E: Sink>(
+pub fn run_statements<D: Outside>(
     alloc: Global,
     statements: &Statements,
     process: &mut Process,
-    host: &mut H,
-    out: &O,
-    err: &mut E,
+    outside: &mut D,
     journal: &mut Journal,
 ) -> Result<Option<End>, Memory>
-    ensures ok { IfOk result (λ end. RunsThrough statements.now process.old end process.new journal.old journal.new
-        (view_of (H.told host.old) (O.told out.now) (E.told err.old)) (view_of (H.told host.new) (O.told out.now) (E.told err.new))) }
-    ensures memory { OnErr result (Interrupted {X = End} step (Running (ahead statements.now []) process.old) journal.old journal.new
-        (view_of (H.told host.old) (O.told out.now) (E.told err.old)) (view_of (H.told host.new) (O.told out.now) (E.told err.new))) }
+    ensures ok { IfOk result (λ end. RunsThrough statements.now (mind_of process.old) end (mind_of process.new) journal.old journal.new
+        (D.told outside.old) (D.told outside.new)) }
+    ensures memory { OnErr result (Interrupted {X = End} step (Running (ahead statements.now []) (mind_of process.old)) journal.old journal.new
+        (D.told outside.old) (D.told outside.new)) }
 {
     for statement in statements.as_slice() {
-        match run_statement(alloc, statement, process, host, out, err, journal)? {
+        match run_statement(alloc, statement, process, outside, journal)? {
             Some(end) => return Ok(Some(end)),
             None => {}
         }
@@ -47,19 +44,17 @@ pub fn run_statements<H: Host, O: Sink, E: Sink>(
     Ok(None)
 }
 
-fn run_statement<H: Host, O: Sink, E: Sink>(
+fn run_statement<D: Outside>(
     alloc: Global,
     statement: &Statement,
     process: &mut Process,
-    host: &mut H,
-    out: &O,
-    err: &mut E,
+    outside: &mut D,
     journal: &mut Journal,
 ) -> Result<Option<End>, Memory>
-    ensures ok { IfOk result (λ end. Executes (statement_plan (tree_of statement.now) process.old) (turn_of end process.new) journal.old journal.new
-        (view_of (H.told host.old) (O.told out.now) (E.told err.old)) (view_of (H.told host.new) (O.told out.now) (E.told err.new))) }
-    ensures memory { OnErr result (OutOfMemory (statement_plan (tree_of statement.now) process.old) journal.old journal.new
-        (view_of (H.told host.old) (O.told out.now) (E.told err.old)) (view_of (H.told host.new) (O.told out.now) (E.told err.new))) }
+    requires keeping { Keeping journal.old process.old.locks.names }
+    ensures carries { Carries (statement_plan (tree_of statement.now) (mind_of process.old)) (λ end. turn_of end (mind_of process.new)) result
+        journal.old journal.new (D.told outside.old) (D.told outside.new) }
+    ensures keeping { Keeping journal.new process.new.locks.names }
 {
     match statement {
         Statement::Assign { name, value } => assign_text(
@@ -67,58 +62,52 @@ fn run_statement<H: Host, O: Sink, E: Sink>(
             name.as_slice(),
             value.as_slice(),
             process,
-            host,
-            out,
-            err,
+            outside,
             journal,
         ),
         Statement::Unset { name } => Ok(unset_variable(name.as_slice(), process)),
-        Statement::Recipe(recipe) => carry_out(alloc, recipe, process, host, out, err, journal),
+        Statement::Recipe(recipe) => carry_out(alloc, recipe, process, outside, journal),
         Statement::Defect { text, .. } => {
-            skip_line(alloc, text.as_slice(), process, host, out, err, journal)
+            skip_line(alloc, text.as_slice(), process, outside, journal)
         }
     }
 }
 
 // A line that isn't understood is told.
-fn skip_line<H: Host, O: Sink, E: Sink>(
+fn skip_line<D: Outside>(
     alloc: Global,
     text: &[u8],
     process: &Process,
-    host: &mut H,
-    out: &O,
-    err: &mut E,
+    outside: &mut D,
     journal: &mut Journal,
 ) -> Result<Option<End>, Memory>
-    ensures ok { IfOk result (λ end. Executes (skip_defect text.now process.now) (turn_of end process.now) journal.old journal.new
-        (view_of (H.told host.old) (O.told out.now) (E.told err.old)) (view_of (H.told host.new) (O.told out.now) (E.told err.new))) }
-    ensures memory { OnErr result (OutOfMemory (skip_defect text.now process.now) journal.old journal.new
-        (view_of (H.told host.old) (O.told out.now) (E.told err.old)) (view_of (H.told host.new) (O.told out.now) (E.told err.new))) }
+    requires keeping { Keeping journal.old process.old.locks.names }
+    ensures carries { Carries (skip_defect text.now (mind_of process.now)) (λ end. turn_of end (mind_of process.now)) result
+        journal.old journal.new (D.told outside.old) (D.told outside.new) }
+    ensures keeping { Keeping journal.new process.new.locks.names }
 {
     let _ = process;
     let line = skipped(alloc, text)?;
-    tell(line, host, out, err, journal)?;
+    tell(line, outside, journal)?;
     Ok(None)
 }
 
 /// Tells of a value of so many bytes, and marks in PROCMAIL_OVERFLOW that there was one.
-pub fn skip_value<H: Host, O: Sink, E: Sink>(
+pub fn skip_value<D: Outside>(
     alloc: Global,
     length: u64,
     process: &mut Process,
-    host: &mut H,
-    out: &O,
-    err: &mut E,
+    outside: &mut D,
     journal: &mut Journal,
 ) -> Result<Option<End>, Memory>
-    ensures ok { IfOk result (λ end. Executes (say_then (value_too_long_line length) (GoesOn (overflowed process.old))) (turn_of end process.new) journal.old journal.new
-        (view_of (H.told host.old) (O.told out.now) (E.told err.old)) (view_of (H.told host.new) (O.told out.now) (E.told err.new))) }
-    ensures memory { OnErr result (OutOfMemory (say_then (value_too_long_line length) (GoesOn (overflowed process.old))) journal.old journal.new
-        (view_of (H.told host.old) (O.told out.now) (E.told err.old)) (view_of (H.told host.new) (O.told out.now) (E.told err.new))) }
+    requires keeping { Keeping journal.old process.old.locks.names }
+    ensures carries { Carries (say_then (value_too_long_line length) (GoesOn (overflowed (mind_of process.old)))) (λ end. turn_of end (mind_of process.new)) result
+        journal.old journal.new (D.told outside.old) (D.told outside.new) }
+    ensures keeping { Keeping journal.new process.new.locks.names }
 {
     let line = value_too_long(alloc, length)?;
     let mark = Blob::from_slice(alloc, b"yes")?;
     process.vars.set(b"PROCMAIL_OVERFLOW", mark)?;
-    tell(line, host, out, err, journal)?;
+    tell(line, outside, journal)?;
     Ok(None)
 }

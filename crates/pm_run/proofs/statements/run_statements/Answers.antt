@@ -2,7 +2,7 @@ use Rattle.std.proofs.Common.{[]}
 use Rattle.pm_meaning.specs.Running.{Running, ahead, step}
 use Rattle.pm_journal.proofs.WalkJoin.{reaches_itself}
 use Rattle.pm_journal.proofs.WantsMemory.{on_err}
-use Rattle.pm_run.proofs.FileLemmas.{front_of_rest}
+use Rattle.pm_actions.proofs.FileLemmas.{front_of_rest}
 use Rattle.pm_run.proofs.ProcessLemmas.{statement_on, statement_ends, statement_wants}
 use Rattle.pm_run.proofs.statements.run_statements.Goals as goal
 

@@ -5,7 +5,7 @@ use Rattle.pm_meaning.specs.Changes.{overflowed}
 use Rattle.pm_meaning.specs.Turns.{GoesOn}
 use Rattle.pm_journal.proofs.WantsMemory.{on_err, out_anywhere}
 use Rattle.pm_run.proofs.AssignLemmas.{set_copy}
-use Rattle.pm_run.proofs.Choices.{line_out}
+use Rattle.pm_actions.proofs.Choices.{line_out}
 use Rattle.pm_run.proofs.StatementLemmas.{skip_told}
 use Rattle.pm_run.proofs.statements.skip_value.Goals as goal
 

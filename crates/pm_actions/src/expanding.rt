@@ -2,7 +2,7 @@
 ghost use Rattle.std.specs.Prelude.{◌≡◌, false, IfOk};
 ghost use Rattle.pm_meaning.specs.Assigning.{first_word as first_of};
 ghost use Rattle.pm_meaning.specs.Turns.{has_command};
-ghost use Rattle.pm_run.specs.Expanding.{IsExpansion};
+ghost use Rattle.pm_actions.specs.Expanding.{IsExpansion};
 
 use pm_bytes::{Blob, Memory};
 use pm_subst::{ExpandRefused, Mode, commands, expand};

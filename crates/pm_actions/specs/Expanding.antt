@@ -4,8 +4,8 @@ use Rattle.pm_vars.specs.Table.{Table}
 use Rattle.pm_subst.specs.Words.{words_in, size_in}
 use Rattle.pm_subst.specs.declared.kinds.Mode.{Mode}
 use Rattle.pm_meaning.specs.Turns.{is_too_long}
-use Rattle.pm_run.specs.declared.expanding.Expansion.{Expansion}
-use Rattle.pm_run.specs.declared.expanding.Expansion.TheVariants.{Words, TooLong}
+use Rattle.pm_actions.specs.declared.expanding.Expansion.{Expansion}
+use Rattle.pm_actions.specs.declared.expanding.Expansion.TheVariants.{Words, TooLong}
 
 -- the words of a text, or its length where that is too much
 abbrev pub IsExpansion : Mode → List ℕ → Table → Expansion → Type 0

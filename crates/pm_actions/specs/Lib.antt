@@ -1,0 +1,4 @@
+pub mod Turning
+pub mod Names
+pub mod Expanding
+pub mod Copies

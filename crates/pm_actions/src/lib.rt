@@ -1,0 +1,14 @@
+//! The actions of recipes: texts are expanded, destinations checked, and the mail is delivered to files, with the log
+//! lines behind it.
+#![tactic(auto)]
+
+pub mod delivering;
+pub mod expanding;
+pub mod filing;
+pub mod names;
+pub mod skipping;
+
+pub use delivering::perform;
+pub use expanding::{Expansion, expand_text, first_word, runs_command};
+pub use names::file_name;
+pub use skipping::skip_value;

@@ -1,0 +1,147 @@
+-- The parts of plans, and what never ends a process as delivered.
+use Rattle.std.proofs.Common.{◌≡◌, ℕ, Bool, true, false, List, [], ◌∷◌, ◌++◌, refl, ap}
+use Rattle.std.specs.Prelude.{if◌then◌else◌, codes, ◌||◌, bytes_eq}
+use Rattle.pm_bytes.specs.Path.{full_name}
+use Rattle.pm_bytes.specs.declared.environment.Environ.{Environ}
+use Rattle.pm_host.specs.declared.answers.Looked.TheVariants.{Folder as LookedFolder}
+use Rattle.pm_message.specs.FromLine.{makes_line, prepared_of}
+use Rattle.pm_message.specs.Split.{split_of}
+use Rattle.pm_recipe.specs.Build.{rc_of}
+use Rattle.pm_subst.specs.declared.kinds.Mode.{Mode}
+use Rattle.pm_subst.specs.declared.kinds.Mode.TheVariants.{One}
+use Rattle.pm_journal.specs.LogText.{couldnt_read_line, no_delivery_line, unusable_name_line, couldnt_chdir_line}
+use Rattle.pm_journal.specs.declared.acts.Act.{Act}
+use Rattle.pm_journal.specs.declared.acts.Act.TheVariants.{Probe, Moment, ReadFile}
+use Rattle.pm_journal.specs.declared.acts.Reply.{Reply}
+use Rattle.pm_journal.specs.declared.acts.Reply.TheVariants.{Content, Found, Now}
+use Rattle.pm_journal.specs.declared.acts.Entry.{Entry}
+use Rattle.pm_journal.specs.Plan.{Plan, Ends, Asks, and_then, ask, Plays}
+use Rattle.pm_journal.specs.Walking.{Next, Stop, Go}
+use Rattle.pm_meaning.specs.Changes.{with_variable, with_base, without_variable, entered}
+use Rattle.pm_meaning.specs.Minds.{Mind}
+use Rattle.pm_meaning.specs.Turns.{Turn, GoesOn, Halts, not_built, say_then, has_command, is_too_long, skip_value}
+use Rattle.pm_meaning.specs.Assigning.{is_later, leads_elsewhere, value_in, is_file_text, probed, change_folder, assigned, assign, unset}
+use Rattle.pm_meaning.specs.FirstValues.{login_name}
+use Rattle.pm_meaning.specs.Running.{State, Running, Over, Item, renewal, begun, dated, prepare, unread, ahead, after_read, has_default, fall_off}
+use Rattle.pm_meaning.specs.declared.command_line.CommandLine.{CommandLine}
+use Rattle.pm_meaning.specs.declared.process.End.{End}
+use Rattle.pm_meaning.specs.declared.process.End.TheVariants.{Delivered, FellOff, NoRc, NotBuilt}
+use Rattle.pm_meaning.specs.declared.process.Ending.{Ending}
+
+-- what a plan of two parts did in each
+pub record Parts {R S : Type 0} (p : Plan R) (f : R → Plan S) (es : List Entry) (end : S) : Type 0 where
+  pub middle : R
+  pub front : List Entry
+  pub rest : List Entry
+  pub whole : es ≡ front ++ rest
+  pub plays_front : Plays p front middle
+  pub plays_rest : Plays (f middle) rest end
+
+pub parts_of : {R S : Type 0} (p : Plan R) (f : R → Plan S) (es : List Entry) (end : S) → Plays (and_then p f) es end → Parts p f es end
+parts_of (Ends r) f es end h = record { middle = r; front = []; rest = es; whole = refl; plays_front = refl; plays_rest = h }
+parts_of (Asks act go_on) f [] end h = absurd h
+parts_of (Asks act go_on) f (e ∷ es) end h =
+    let k = parts_of (go_on e.reply) f es end h.2 in
+    record { middle = k.middle; front = e ∷ k.front; rest = k.rest; whole = ap (λ l. e ∷ l) k.whole; plays_front = (h.0, h.1, k.plays_front); plays_rest = k.plays_rest }
+
+-- a plan none of whose ends passes the test
+abbrev pub Never : {R : Type 0} → (R → Bool) → Plan R → Type 0
+Never {R} test plan = (es : List Entry) (end : R) → Plays plan es end → test end ≡ true → ⊥
+
+never_ends : {R : Type 0} (test : R → Bool) (other : R) → test other ≡ false → Never test (Ends other)
+never_ends test other fails [] end h passes = let e : test end ≡ test other = ap test h in absurd (cc)
+never_ends test other fails (e ∷ es) end h passes = h
+
+never_asked : {R : Type 0} (test : R → Bool) (act : Act) (f : Reply → Plan R) → ((reply : Reply) → Never test (f reply)) → Never test (and_then (ask act) f)
+never_asked test act f never [] end h passes = h
+never_asked test act f never (e ∷ es) end h passes = never e.reply es end h.2 passes
+
+never_said : {R : Type 0} (test : R → Bool) (p : Mind) (text : List ℕ) (next : R) → test next ≡ false → Never test (say_then p text next)
+never_said test p text next fails [] end h passes = h
+never_said test p text next fails (e ∷ es) end h passes = never_ends test next fails es end h.2 passes
+
+never_if : {R : Type 0} (test : R → Bool) (b : Bool) (p q : Plan R) → Never test p → Never test q → Never test (if b then p else q)
+never_if test true p q h k = h
+never_if test false p q h k = k
+
+abbrev pub is_delivered : End → Bool
+is_delivered Delivered = true
+is_delivered other = false
+
+-- a turn that ends the process as delivered
+abbrev pub delivers : Turn → Bool
+delivers (GoesOn p) = false
+delivers (Halts end p) = is_delivered end
+
+pub never_goes : (p : Mind) → Never delivers (Ends (GoesOn p))
+never_goes p = never_ends delivers (GoesOn p) refl
+
+pub never_built : (p : Mind) → Never delivers (not_built p)
+never_built p = never_ends delivers (Halts NotBuilt p) refl
+
+pub never_told : (p : Mind) (text : List ℕ) → Never delivers (say_then p text (GoesOn p))
+never_told p text = never_said delivers p text (GoesOn p) refl
+
+never_probed : (name : List ℕ) (p : Mind) (reply : Reply) → Never delivers (probed name p reply)
+never_probed name p (Found LookedFolder) = never_goes (with_base name p)
+never_probed name p other = never_told p (couldnt_chdir_line name)
+
+never_changed : (value : List ℕ) (p : Mind) → Never delivers (change_folder value p)
+never_changed value p =
+    let name = full_name p.base value in
+    never_if delivers (is_file_text value) (and_then (ask (Probe name)) (probed name p)) (say_then p (unusable_name_line value) (GoesOn p))
+    (never_asked delivers (Probe name) (probed name p) (never_probed name p)) (never_told p (unusable_name_line value))
+
+never_set : (name value : List ℕ) (p : Mind) → Never delivers (assigned name value p)
+never_set name value p =
+    let q = with_variable name value p in
+    never_if delivers (leads_elsewhere name value p) (not_built p) (if bytes_eq name (codes "MAILDIR") then change_folder value q else Ends (GoesOn q))
+    (never_built p) (never_if delivers (bytes_eq name (codes "MAILDIR")) (change_folder value q) (Ends (GoesOn q)) (never_changed value q) (never_goes q))
+
+pub never_skipped : (mode : Mode) (text : List ℕ) (p : Mind) → Never delivers (skip_value mode text p)
+never_skipped mode text p [] end h passes = h
+never_skipped mode text p (e ∷ es) end h passes = never_ends delivers (GoesOn _) refl es end h.2 passes
+
+pub never_assign : (name text : List ℕ) (p : Mind) → Never delivers (assign name text p)
+never_assign name text p =
+    let rest : Plan Turn = if is_too_long One text p.vars then skip_value One text p else assigned name (value_in p.vars text) p in
+    never_if delivers (is_later name || has_command One text) (not_built p) rest
+    (never_built p) (never_if delivers (is_too_long One text p.vars) (skip_value One text p) (assigned name (value_in p.vars text) p)
+    (never_skipped One text p) (never_set name (value_in p.vars text) p))
+
+pub never_unset : (name : List ℕ) (p : Mind) → Never delivers (unset name p)
+never_unset name p =
+    never_if delivers (bytes_eq name (codes "LOCKFILE") || bytes_eq name (codes "SWITCHRC")) (not_built p) (Ends (GoesOn (without_variable name p)))
+    (never_built p) (never_goes (without_variable name p))
+
+-- the run ends, or the process is over as delivered
+abbrev pub is_last : Next State Ending → Bool
+is_last (Stop ending) = true
+is_last (Go (Over end p)) = is_delivered end
+is_last (Go other) = false
+
+never_dated : (line : CommandLine) (env : Environ) (bytes : List ℕ) (reply : Reply) → Never is_last (dated line env bytes reply)
+never_dated line env bytes (Now moment) = never_ends is_last (begun line env (prepared_of bytes (renewal line.filter) (login_name env) moment)) refl
+never_dated line env bytes other = never_ends is_last (begun line env (split_of bytes)) refl
+
+pub never_prepared : (line : CommandLine) (env : Environ) (bytes : List ℕ) → Never is_last (prepare line env bytes)
+never_prepared line env bytes =
+    never_if is_last (makes_line bytes (renewal line.filter)) (and_then (ask Moment) (dated line env bytes)) (Ends (begun line env (split_of bytes)))
+    (never_asked is_last Moment (dated line env bytes) (never_dated line env bytes)) (never_ends is_last (begun line env (split_of bytes)) refl)
+
+never_unread : (name : List ℕ) (rest : List Item) (p : Mind) → Never is_last (unread name rest p)
+never_unread name rest p =
+    never_if is_last p.filter (Ends (Go (Over NoRc p))) (say_then p (couldnt_read_line name) (Go (Running rest p)))
+    (never_ends is_last (Go (Over NoRc p)) refl) (never_said is_last p (couldnt_read_line name) (Go (Running rest p)) refl)
+
+never_after : (name : List ℕ) (rest : List Item) (p : Mind) (reply : Reply) → Never is_last (after_read name rest p reply)
+never_after name rest p (Content bytes) = never_ends is_last (Go (Running (ahead (rc_of bytes) rest) (entered name p))) refl
+never_after name rest p other = never_unread name rest p
+
+pub never_read : (name : List ℕ) (rest : List Item) (p : Mind) → Never is_last (and_then (ask (ReadFile name)) (after_read name rest p))
+never_read name rest p = never_asked is_last (ReadFile name) (after_read name rest p) (never_after name rest p)
+
+pub never_falls : (p : Mind) → Never is_last (fall_off p)
+never_falls p =
+    never_if is_last (has_default p) (Ends (Go (Over NotBuilt p))) (say_then p no_delivery_line (Go (Over FellOff p)))
+    (never_ends is_last (Go (Over NotBuilt p)) refl) (never_said is_last p no_delivery_line (Go (Over FellOff p)) refl)

@@ -1,0 +1,5 @@
+use Rattle.pm_meaning.proofs.DeliveredLast.{stored_is_done}
+use Rattle.pm_meaning.proofs.laws.stored_is_done.Goals as goal
+
+pub returns : goal.returns
+returns c = stored_is_done
