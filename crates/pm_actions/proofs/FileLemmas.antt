@@ -13,6 +13,7 @@ use Rattle.pm_journal.specs.declared.appending.AppendEnd.{AppendEnd}
 use Rattle.pm_journal.specs.Plan.{Plan, Ends, and_then, ask}
 use Rattle.pm_journal.specs.Executed.{Executes, OutOfMemory, LeadsTo}
 use Rattle.pm_journal.proofs.ActPlans.{act_executes, executes_then}
+use Rattle.pm_journal.proofs.FirstActs.{later_start}
 use Rattle.pm_journal.proofs.PlanLeads.{leads_on, leads_to_end}
 use Rattle.pm_journal.proofs.WantsMemory.{executes_nothing, out_then}
 use Rattle.pm_recipe.specs.declared.tree.Flags.{Flags}
@@ -78,3 +79,57 @@ appended name piece shown end filed x y a b some same is n =
 -- the first of what is left of a list
 pub front_of_rest : {A : Type 0} (items : List A) (i : ℕ) (d item : A) → item ≡ get_or items i d → i < length items → drop i items ≡ item ∷ drop (i + 1) items
 front_of_rest items i d item is more = at_drop_more (λ l. l) items i d more ∙ ap (λ x. x ∷ drop (i + 1) items) (sym is)
+
+-- what comes behind a copy
+abbrev behind : List Copy → Table → Mind → Filed → Plan Filing
+behind copies vars p = λ filed. elim filed [
+  | Stored ↦ file_copies copies (with_vars vars p)
+  | Unwritten name ↦ Ends (filing_of (Unwritten name) p)
+  | Left name count ↦ Ends (filing_of (Left name count) p)
+  | Folder ↦ Ends (filing_of Folder p)
+]
+
+tried : (whole : Plan Filing) (items rest : List Copy) (copy : Copy) (filed : Filed) (p : Mind) (x y z : JournalState) (a b c : View) → LeadsTo whole (file_copies items p) x y a b → items ≡ copy ∷ rest
+    → Executes (file_at copy.name copy.piece) filed y z b c → LeadsTo whole (behind rest copy.vars p filed) x z a c
+tried whole items rest copy filed p x y z a b c h e k =
+    leads_on whole (file_at copy.name copy.piece) (behind rest copy.vars p) filed x y z a b c (subst (λ l. LeadsTo whole (file_copies l p) x y a b) e h) k
+
+stored_is : (filed : Filed) → true ≡ is_stored_end filed → filed ≡ Stored
+stored_is Stored h = refl
+stored_is (Unwritten name) h = let e : true ≡ false = h in absurd (cc)
+stored_is (Left name count) h = let e : true ≡ false = h in absurd (cc)
+stored_is Folder h = let e : true ≡ false = h in absurd (cc)
+
+-- a copy was taken, and the next comes
+pub copy_on : (whole : Plan Filing) (items rest : List Copy) (copy : Copy) (filed : Filed) (p q : Mind) (x y z : JournalState) (a b c : View) → LeadsTo whole (file_copies items p) x y a b → items ≡ copy ∷ rest
+    → Executes (file_at copy.name copy.piece) filed y z b c → q ≡ mind_after filed copy.vars p → true ≡ is_stored_end filed → LeadsTo whole (file_copies rest q) x z a c
+copy_on whole items rest copy filed p q x y z a b c h e k m s =
+    let is : filed ≡ Stored = stored_is filed s in
+    let r : mind_after filed copy.vars p ≡ with_vars copy.vars p = ap (λ f. mind_after f copy.vars p) is in
+    subst (λ v. LeadsTo whole (file_copies rest v) x z a c) (sym (m ∙ r))
+    (tried whole items rest copy Stored p x y z a b c h e (subst (λ f. Executes (file_at copy.name copy.piece) f y z b c) is k))
+
+stops : (rest : List Copy) (vars : Table) (p : Mind) (filed : Filed) → false ≡ is_stored_end filed → behind rest vars p filed ≡ Ends (filing_of filed (mind_after filed vars p))
+stops rest vars p Stored h = let e : false ≡ true = h in absurd (cc)
+stops rest vars p (Unwritten name) h = refl
+stops rest vars p (Left name count) h = refl
+stops rest vars p Folder h = refl
+
+-- a copy wasn't taken, and the rest isn't tried
+pub copy_stops : (whole : Plan Filing) (items rest : List Copy) (copy : Copy) (filed : Filed) (p q : Mind) (x y z : JournalState) (a b c : View) → LeadsTo whole (file_copies items p) x y a b → items ≡ copy ∷ rest
+    → Executes (file_at copy.name copy.piece) filed y z b c → q ≡ mind_after filed copy.vars p → false ≡ is_stored_end filed → Executes whole (filing_of filed q) x z a c
+copy_stops whole items rest copy filed p q x y z a b c h e k m s =
+    let last = filing_of filed (mind_after filed copy.vars p) in
+    subst (λ v. Executes whole (filing_of filed v) x z a c) (sym m)
+    (leads_to_end whole (Ends last) last x z z a c c (subst (λ plan. LeadsTo whole plan x z a c) (stops rest copy.vars p filed s) (tried whole items rest copy filed p x y z a b c h e k)) (executes_nothing last z z c refl))
+
+-- all copies were taken
+pub copies_over : (whole : Plan Filing) (items : List Copy) (p : Mind) (x y : JournalState) (a b : View) → LeadsTo whole (file_copies items p) x y a b → items ≡ [] → Executes whole (filing_of Stored p) x y a b
+copies_over whole items p x y a b h e =
+    leads_to_end whole (Ends (filing_of Stored p)) (filing_of Stored p) x y y a b b (subst (λ l. LeadsTo whole (file_copies l p) x y a b) e h) (executes_nothing (filing_of Stored p) y y b refl)
+
+-- the copies for destinations were delivered, after room was made
+pub all_appended : (flags : Flags) (words : List (List ℕ)) (copies : List Copy) (p : Mind) (filing : Filing) (x w y : JournalState) (a b : View) → copies ≡ map (copy_for flags p) words → w.entries ≡ x.entries
+    → Executes (file_copies copies p) filing w y a b → Executes (file_all flags words p) filing x y a b
+all_appended flags words copies p filing x w y a b is e h =
+    later_start (file_all flags words p) filing x w y a b (subst (λ plan. Executes plan filing w y a b) (ap (λ l. file_copies l p) is ∙ copies_file flags words p) h) e

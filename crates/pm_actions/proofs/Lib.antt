@@ -1,3 +1,4 @@
 pub mod Choices
+pub mod SkipLemmas
 pub mod FileLemmas
 pub mod DeliverLemmas

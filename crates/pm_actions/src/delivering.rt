@@ -101,10 +101,11 @@ fn deliver_to_words<D: Outside>(
             Ok(None)
         }
         Some(names) => {
-            if has_folder(names.as_slice()) {
+            let names = names.as_slice();
+            if has_folder(names) {
                 return Ok(Some(End::NotBuilt));
             }
-            let filed = file_all(alloc, flags, names.as_slice(), process, outside, journal)?;
+            let filed = file_all(alloc, flags, names, process, outside, journal)?;
             tell_filed(alloc, flags, filed, process, outside, journal)
         }
     }

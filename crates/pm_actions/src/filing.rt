@@ -18,6 +18,7 @@ use pm_message::{Feed, Kind, piece};
 use pm_recipe::Flags;
 use pm_vars::Vars;
 use std::alloc::Global;
+use std::collections::VecDeque;
 
 // One destination with all that is wanted for it: its name for the entry and for the line where it fails, the piece, and
 // the variables once it has the mail.
@@ -54,12 +55,12 @@ fn copies_for(
     flags: Flags,
     words: &[Name],
     process: &Process,
-) -> Result<Vec<Copy>, Memory>
+) -> Result<VecDeque<Copy>, Memory>
     ensures { IfOk result (λ copies. copies.items ≡ map (copy_for flags (mind_of process.now)) words.now) }
 {
-    let mut copies = Vec::new(alloc);
+    let mut copies = VecDeque::new(alloc);
     for word in words {
-        copies.push(make_copy(alloc, flags, word, process)?)?;
+        copies.push_back(make_copy(alloc, flags, word, process)?)?;
     }
     Ok(copies)
 }
@@ -105,7 +106,7 @@ fn remembering(alloc: Global, word: &Name, vars: &Vars) -> Result<Vars, Memory>
 
 // It takes no memory.
 fn append_all<D: Outside>(
-    copies: Vec<Copy>,
+    mut copies: VecDeque<Copy>,
     process: &mut Process,
     outside: &mut D,
     journal: &mut Journal,
@@ -117,7 +118,7 @@ fn append_all<D: Outside>(
         journal.old journal.new (D.told outside.old) (D.told outside.new) }
     ensures keeping { Keeping journal.new process.new.locks.names }
 {
-    for copy in copies {
+    while let Some(copy) = copies.pop_front() {
         let filed = append_copy(copy, process, outside, journal);
         if !is_stored(&filed) {
             return filed;
@@ -138,6 +139,7 @@ fn append_copy<D: Outside>(
     ensures files { Executes (file_at copy.name copy.piece) result
         journal.old journal.new (D.told outside.old) (D.told outside.new) }
     ensures mind { mind_of process.new ≡ mind_after result copy.vars (mind_of process.old) }
+    ensures locks { process.new.locks ≡ process.old.locks }
     ensures keeping { Keeping journal.new process.new.locks.names }
     ensures room { journal.old.room ≤ journal.new.room + 1 }
 {
@@ -151,11 +153,19 @@ fn append_copy<D: Outside>(
         process.vars = vars;
         return Filed::Stored;
     }
-    let end = outside.append(journal, name, piece);
-    if end == AppendEnd::Done {
+    let filed = filed_of(outside.append(journal, name, piece), shown);
+    remember(&filed, vars, process);
+    filed
+}
+
+// Only a destination that has the mail is remembered.
+fn remember(filed: &Filed, vars: Vars, process: &mut Process)
+    ensures mind { mind_of process.new ≡ mind_after filed.now vars (mind_of process.old) }
+    ensures locks { process.new.locks ≡ process.old.locks }
+{
+    if let Filed::Stored = filed {
         process.vars = vars;
     }
-    filed_of(end, shown)
 }
 
 fn is_nothing(name: &Name) -> bool
