@@ -6,13 +6,14 @@ use Rattle.pm_recipe.specs.Tree.{Top, Mailbox, Recipe}
 use Rattle.pm_recipe.specs.declared.tree.Flags.{Flags}
 use Rattle.pm_subst.specs.Words.{words_in}
 use Rattle.pm_subst.specs.declared.kinds.Mode.TheVariants.{Many}
+use Rattle.pm_journal.specs.Held.{AreUnlocks}
 use Rattle.pm_journal.specs.Plan.{Plan, Plays, Wants}
 use Rattle.pm_journal.specs.Walking.{Next, Means, Comes}
 use Rattle.pm_journal.specs.declared.acts.Act.{Act}
 use Rattle.pm_journal.specs.declared.acts.Act.TheVariants.{Append}
 use Rattle.pm_journal.specs.declared.acts.Reply.TheVariants.{Done}
 use Rattle.pm_journal.specs.declared.acts.Entry.{Entry}
-use Rattle.pm_meaning.specs.Delivering.{Filing, is_nothing, mailbox_piece, are_file_texts, file_all}
+use Rattle.pm_meaning.specs.Delivering.{Filing, is_plain, is_nothing, mailbox_piece, are_file_texts, file_all}
 use Rattle.pm_meaning.specs.Minds.{Mind}
 use Rattle.pm_meaning.specs.Running.{State, Arrived, Running, Item, Do, step}
 use Rattle.pm_meaning.specs.declared.command_line.CommandLine.{CommandLine}
@@ -50,17 +51,21 @@ StoredIsDone =
     (flags : Flags) (words : List (List ℕ)) (p : Mind) (entries : List Entry) (filing : Filing) → Plays (file_all flags words p) entries filing
     → filing.filed ≡ Stored → AreDone (mailbox_piece flags p) (files_of p.base words) entries
 
--- Over the entries before, the process comes to a recipe that delivers for good; the last entries are done appends of its
--- piece to all the files among its destinations.
+-- Over the entries before, the process comes to a recipe that delivers for good; the next entries are done appends of its
+-- piece to all the files among its destinations, and behind them locks are given back and nothing else is done.
 pub record DeliversLast (s : State) (entries : List Entry) : Type 0 where
   pub before : List Entry
   pub last : List Entry
-  pub whole : entries ≡ before ++ last
+  pub behind : List Entry
+  pub whole : entries ≡ before ++ last ++ behind
+  pub held : List (List ℕ)
+  pub unlocks : AreUnlocks held behind
   pub top : Top
   pub text : List ℕ
   pub rest : List Item
   pub mind : Mind
   pub comes : Comes {X = Ending} step s before (Running (Do (Recipe top (Mailbox text)) ∷ rest) mind)
+  pub plain : is_plain top ≡ true
   pub final : top.flags.copy ≡ false
   pub usable : are_file_texts (words_in Many mind.vars [] text) ≡ true
   pub done : AreDone (mailbox_piece top.flags mind) (files_of mind.base (words_in Many mind.vars [] text)) last

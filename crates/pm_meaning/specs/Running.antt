@@ -9,7 +9,7 @@ use Rattle.pm_message.specs.declared.renewal.Renew.TheVariants.{Keep, AddMissing
 use Rattle.pm_recipe.specs.Tree.{Trees, nil, cons, Tree, Assign, Unset, Recipe, Defect}
 use Rattle.pm_recipe.specs.Build.{rc_of}
 use Rattle.pm_journal.specs.LogText.{couldnt_read_line, no_delivery_line}
-use Rattle.pm_journal.specs.declared.acts.Act.TheVariants.{ReadFile, Moment}
+use Rattle.pm_journal.specs.declared.acts.Act.TheVariants.{ReadFile, Unlock, Moment}
 use Rattle.pm_journal.specs.declared.acts.Reply.{Reply}
 use Rattle.pm_journal.specs.declared.acts.Reply.TheVariants.{Content, Now}
 use Rattle.pm_journal.specs.Plan.{Plan, Ends, and_then, ask}
@@ -93,8 +93,13 @@ running (Do tree ∷ rest) p = and_then (statement tree p) (λ turn. Ends (next_
 abbrev pub ending : End → Mind → Ending
 ending end p = record { end = end }
 
+-- the locks that are still held are given back, the last taken first, and then this comes
+abbrev pub unlock_each : {R : Type 0} → List (List ℕ) → R → Plan R
+unlock_each [] next = Ends next
+unlock_each (name ∷ names) next = and_then (ask (Unlock name)) (λ reply. unlock_each names next)
+
 -- one step: the acts that it asks for, and what comes next
 abbrev pub step : State → Plan (Next State Ending)
 step (Arrived line env bytes) = prepare line env bytes
 step (Running items p) = running items p
-step (Over end p) = Ends (Stop (ending end p))
+step (Over end p) = unlock_each p.locks (Stop (ending end p))
