@@ -2,24 +2,20 @@
 use Rattle.std.proofs.Common.{◌≡◌, ◌⊎◌, inl, inr, ℕ, zero, suc, Bool, true, false, not, List, [], ◌∷◌, ◌++◌, Option, Some, None, refl, sym, ap, ◌∙◌, subst, append_assoc, append-nil}
 use Rattle.std.specs.Prelude.{if◌then◌else◌}
 use Rattle.std.specs.List.{list_any}
-use Rattle.pm_bytes.specs.Path.{full_name}
 use Rattle.pm_bytes.specs.declared.environment.Environ.{Environ}
 use Rattle.pm_recipe.specs.Tree.{Top, Act as Action, Mailbox, Tree, Assign, Unset, Recipe, Defect}
 use Rattle.pm_recipe.specs.declared.tree.Flags.{Flags}
 use Rattle.pm_subst.specs.Words.{words_in}
 use Rattle.pm_subst.specs.declared.kinds.Mode.TheVariants.{Many}
 use Rattle.pm_journal.specs.LogText.{couldnt_write_line, bytes_left_line, skipped_line, unusable_name_line}
-use Rattle.pm_journal.specs.declared.acts.Act.TheVariants.{Append}
-use Rattle.pm_journal.specs.declared.acts.Reply.{Reply}
-use Rattle.pm_journal.specs.declared.acts.Reply.TheVariants.{Done, IsFolder, Torn}
 use Rattle.pm_journal.specs.declared.acts.Entry.{Entry}
-use Rattle.pm_journal.specs.Plan.{Plan, Ends, and_then, ask, Plays}
+use Rattle.pm_journal.specs.Held.{AreUnlocks}
+use Rattle.pm_journal.specs.Plan.{Plan, Ends, and_then, Plays}
 use Rattle.pm_journal.specs.Walking.{Next, Stop, Go, walk, reach, Means}
 use Rattle.pm_journal.proofs.PlanJoin.{plays_then}
-use Rattle.pm_meaning.specs.Changes.{stored_in}
 use Rattle.pm_meaning.specs.Minds.{Mind}
 use Rattle.pm_meaning.specs.Turns.{Turn, GoesOn, Halts, not_built, say_then, has_command, is_too_long, skip_value}
-use Rattle.pm_meaning.specs.Delivering.{Filing, is_plain, mailbox_piece, is_folder_name, filed_by, is_nothing, file_at, file_all, tell_filed, are_file_texts, deliver_to, deliver, act_on}
+use Rattle.pm_meaning.specs.Delivering.{is_plain, mailbox_piece, is_folder_name, file_all, tell_filed, are_file_texts, deliver_to, deliver, act_on, run_recipe}
 use Rattle.pm_meaning.specs.Running.{State, Arrived, Running, Over, Item, Open, Do, step, statement, next_of, ending}
 use Rattle.pm_meaning.specs.Laws.{files_of, AreDone, DeliversLast}
 use Rattle.pm_meaning.specs.declared.command_line.CommandLine.{CommandLine}
@@ -29,51 +25,9 @@ use Rattle.pm_meaning.specs.declared.process.End.{End}
 use Rattle.pm_meaning.specs.declared.process.End.TheVariants.{Delivered}
 use Rattle.pm_meaning.specs.declared.process.Ending.{Ending}
 use Rattle.pm_meaning.proofs.OneOutcome.{not_over}
+use Rattle.pm_meaning.proofs.Unlocks.{all_given}
+use Rattle.pm_meaning.proofs.StoredDone.{stored_is_done}
 use Rattle.pm_meaning.proofs.NoDelivery.{parts_of, is_delivered, delivers, never_built, never_told, never_skipped, never_assign, never_unset, is_last, never_prepared, never_read, never_falls}
-
--- an append that is stored is done
-done_by : (name : List ℕ) (reply : Reply) → Stored ≡ filed_by name reply → reply ≡ Done
-done_by name Done h = refl
-done_by name IsFolder h = let e : Stored ≡ Folder = h in absurd (cc)
-done_by name (Torn count) h = let e : Stored ≡ Left name count = h in absurd (cc)
-done_by name other h = let e : Stored ≡ Unwritten name = h in absurd (cc)
-
--- a destination that has the mail, and then the rest
-stored_first : (b : Bool) (name piece : List ℕ) (names : List (List ℕ)) (front rest : List Entry)
-    → Plays (if b then Ends Stored else and_then (ask (Append name piece)) (λ reply. Ends (filed_by name reply))) front Stored
-    → AreDone piece names rest → AreDone piece (if b then names else name ∷ names) (front ++ rest)
-stored_first true name piece names [] rest h k = k
-stored_first true name piece names (e ∷ front) rest h k = absurd h
-stored_first false name piece names [] rest h k = absurd h
-stored_first false name piece names (e ∷ []) rest h k = (h.0, done_by name e.reply h.2, k)
-stored_first false name piece names (e ∷ f ∷ front) rest h k = absurd h.2
-
--- a destination without the mail: not all of them have it
-not_stored : {A : Type 0} (filed : Filed) (p : Mind) (es : List Entry) (filing : Filing) → (Stored ≡ filed → ⊥) → Plays (Ends (record { filed = filed; mind = p })) es filing → filing.filed ≡ Stored → A
-not_stored filed p [] filing apart h stored = let e : filing.filed ≡ filed = ap (λ (f : Filing). f.filed) h in absurd (apart (sym stored ∙ e))
-not_stored filed p (e ∷ es) filing apart h stored = absurd h
-
-pub stored_is_done : (flags : Flags) (words : List (List ℕ)) (p : Mind) (es : List Entry) (filing : Filing) → Plays (file_all flags words p) es filing → filing.filed ≡ Stored
-    → AreDone (mailbox_piece flags p) (files_of p.base words) es
-stored_is_done flags [] p [] filing h stored = tt
-stored_is_done flags [] p (e ∷ es) filing h stored = absurd h
-stored_is_done flags (word ∷ words) p es filing h stored =
-    let name = full_name p.base word in
-    let piece = mailbox_piece flags p in
-    let f : Filed → Plan Filing = λ filed. elim filed [
-      | Stored ↦ file_all flags words (stored_in word p)
-      | Unwritten name ↦ Ends (record { filed = Unwritten name; mind = p })
-      | Left name count ↦ Ends (record { filed = Left name count; mind = p })
-      | Folder ↦ Ends (record { filed = Folder; mind = p })
-    ] in
-    let k = parts_of (file_at name piece) f es filing h in
-    subst (AreDone piece (files_of p.base (word ∷ words))) (sym k.whole)
-    (elim k.middle as (λ m. Plays (file_at name piece) k.front m → Plays (f m) k.rest filing → AreDone piece (files_of p.base (word ∷ words)) (k.front ++ k.rest)) [
-      | Stored ↦ λ a b. stored_first (is_nothing name) name piece (files_of p.base words) k.front k.rest a (stored_is_done flags words (stored_in word p) k.rest filing b stored)
-      | Unwritten other ↦ λ a b. not_stored (Unwritten other) p k.rest filing (λ e. cc) b stored
-      | Left other count ↦ λ a b. not_stored (Left other count) p k.rest filing (λ e. cc) b stored
-      | Folder ↦ λ a b. not_stored Folder p k.rest filing (λ e. cc) b stored
-    ] k.plays_front k.plays_rest)
 
 -- what a recipe that delivers for good did, in its own entries
 record DeliversHere (flags : Flags) (words : List (List ℕ)) (p : Mind) (es : List Entry) : Type 0 where
@@ -90,6 +44,7 @@ record DeliversTree (tree : Tree) (p : Mind) (es : List Entry) : Type 0 where
   top : Top
   text : List ℕ
   is : tree ≡ Recipe top (Mailbox text)
+  plain : is_plain top ≡ true
   here : DeliversHere top.flags (words_in Many p.vars [] text) p es
 
 record DeliversState (s : State) (es : List Entry) : Type 0 where
@@ -98,6 +53,7 @@ record DeliversState (s : State) (es : List Entry) : Type 0 where
   rest : List Item
   mind : Mind
   is : s ≡ Running (Do (Recipe top (Mailbox text)) ∷ rest) mind
+  plain : is_plain top ≡ true
   here : DeliversHere top.flags (words_in Many mind.vars [] text) mind es
 
 -- all destinations have the mail, for good, and nothing more is done
@@ -152,14 +108,20 @@ acted : (flags : Flags) (act : Action) (p : Mind) (es : List Entry) (turn : Turn
 acted flags (Mailbox text) p es turn h passes = record { text = text; is = refl; here = delivered_by flags text p es turn h passes }
 acted flags other p es turn h passes = absurd (never_built p es turn h passes)
 
-by_act : (top : Top) (act : Action) (p : Mind) (es : List Entry) → DeliversText top.flags act p es → DeliversTree (Recipe top act) p es
-by_act top act p es d = record { top = top; text = d.text; is = ap (Recipe top) d.is; here = d.here }
+by_act : (top : Top) (act : Action) (p : Mind) (es : List Entry) → is_plain top ≡ true → DeliversText top.flags act p es → DeliversTree (Recipe top act) p es
+by_act top act p es plain d = record { top = top; text = d.text; is = ap (Recipe top) d.is; plain = plain; here = d.here }
+
+by_recipe : (top : Top) (act : Action) (p : Mind) (es : List Entry) (turn : Turn) → Plays (run_recipe top act p) es turn → delivers turn ≡ true → DeliversTree (Recipe top act) p es
+by_recipe top act p es turn h passes =
+    elim (is_plain top) as (λ b. is_plain top ≡ b → Plays (if b then act_on top.flags act p else not_built p) es turn → DeliversTree (Recipe top act) p es) [
+      | true ↦ λ plain k. by_act top act p es plain (acted top.flags act p es turn k passes)
+      | false ↦ λ plain k. absurd (never_built p es turn k passes)
+    ] refl h
 
 by_statement : (tree : Tree) (p : Mind) (es : List Entry) (turn : Turn) → Plays (statement tree p) es turn → delivers turn ≡ true → DeliversTree tree p es
 by_statement (Assign name text) p es turn h passes = absurd (never_assign name text p es turn h passes)
 by_statement (Unset name) p es turn h passes = absurd (never_unset name p es turn h passes)
-by_statement (Recipe top act) p es turn h passes =
-    if_last (DeliversTree (Recipe top act) p es) (is_plain top) (act_on top.flags act p) (not_built p) es turn (λ l. by_act top act p es (acted top.flags act p es turn l passes)) (λ l. absurd (never_built p es turn l passes)) h
+by_statement (Recipe top act) p es turn h passes = by_recipe top act p es turn h passes
 by_statement (Defect line text) p es turn h passes = absurd (never_told p (skipped_line text) es turn h passes)
 
 -- after a step that is the last, the turn delivered
@@ -174,13 +136,13 @@ by_turn rest turn tree p front [] next h k passes =
 by_turn rest turn tree p front (e ∷ later) next h k passes = absurd k
 
 by_tree : (tree : Tree) (rest : List Item) (p : Mind) (es : List Entry) → DeliversTree tree p es → DeliversState (Running (Do tree ∷ rest) p) es
-by_tree tree rest p es d = record { top = d.top; text = d.text; rest = rest; mind = p; is = ap (λ t. Running (Do t ∷ rest) p) d.is; here = d.here }
+by_tree tree rest p es d = record { top = d.top; text = d.text; rest = rest; mind = p; is = ap (λ t. Running (Do t ∷ rest) p) d.is; plain = d.plain; here = d.here }
 
--- the process is over as delivered
+-- the process is over as delivered, and gives its locks back
 record IsOver (s : State) (es : List Entry) : Type 0 where
   mind : Mind
   is : s ≡ Over Delivered mind
-  none : es ≡ []
+  unlocks : AreUnlocks mind.locks es
 
 delivered_end : (end : End) → is_delivered end ≡ true → end ≡ Delivered
 delivered_end Delivered h = refl
@@ -200,25 +162,27 @@ no_stop rest (GoesOn p) [] z h = let e : Stop z ≡ Go (Running rest p) = h in c
 no_stop rest (Halts end p) [] z h = let e : Stop z ≡ Go (Over end p) = h in cc
 no_stop rest turn (e ∷ es) z h = h
 
--- only a process that is over ends the run, and without an act
+-- only a process that is over ends the run, and it gives its locks back alone
 stops : (s : State) (es : List Entry) (z : Ending) → Plays (step s) es (Stop z) → z.end ≡ Delivered → IsOver s es
 stops (Arrived line env bytes) es z h good = absurd (never_prepared line env bytes es (Stop z) h refl)
 stops (Running [] p) es z h good = absurd (never_falls p es (Stop z) h refl)
 stops (Running (Open name ∷ rest) p) es z h good = absurd (never_read name rest p es (Stop z) h refl)
 stops (Running (Do tree ∷ rest) p) es z h good =
     let k = parts_of (statement tree p) (λ turn. Ends (next_of rest turn)) es (Stop z) h in absurd (no_stop rest k.middle k.rest z k.plays_rest)
-stops (Over end p) [] z h good =
-    let e : Stop z ≡ Stop (ending end p) = h in
+stops (Over end p) es z h good =
+    let given = all_given p.locks (Stop (ending end p)) es (Stop z) h in
+    let e : Stop z ≡ Stop (ending end p) = given.1 in
     let same : z ≡ ending end p = cc in
-    record { mind = p; is = ap (λ x. Over x p) (sym (ap (λ (x : Ending). x.end) same) ∙ good); none = refl }
-stops (Over end p) (e ∷ es) z h good = absurd h
+    record { mind = p; is = ap (λ x. Over x p) (sym (ap (λ (x : Ending). x.end) same) ∙ good); unlocks = given.0 }
 
 -- the step before a process is over as delivered
 last_step : (s t : State) (es : List Entry) → Plays (step s) es (Go t) → is_last (Go t) ≡ true → DeliversState s es
 last_step (Arrived line env bytes) t es h passes = absurd (never_prepared line env bytes es (Go t) h passes)
 last_step (Running items p) t es h passes = running_last items p es (Go t) h passes
-last_step (Over end p) t [] h passes = let e : Go t ≡ Stop (ending end p) = h in absurd (cc)
-last_step (Over end p) t (e ∷ es) h passes = absurd h
+last_step (Over end p) t es h passes =
+    let given = all_given p.locks (Stop (ending end p)) es (Go t) h in
+    let e : Go t ≡ Stop (ending end p) = given.1 in
+    absurd (cc)
 
 -- the process goes on with so many steps
 abbrev on_with : ℕ → Next State Ending → Plan (Option Ending)
@@ -227,31 +191,42 @@ on_with n = λ next. elim next [ Stop z ↦ Ends (Some z) | Go t ↦ walk step n
 abbrev on_to : ℕ → Next State Ending → Plan (Option State)
 on_to n = λ next. elim next [ Stop z ↦ Ends None | Go t ↦ reach step n t ]
 
-at_once : (s : State) (es : List Entry) → DeliversState s es → DeliversLast s es
-at_once s es d = record {
+at_once : (s : State) (front rest es : List Entry) (held : List (List ℕ)) → es ≡ front ++ rest → AreUnlocks held rest → DeliversState s front → DeliversLast s es
+at_once s front rest es held e unlocks d = record {
   before = [];
-  last = es;
-  whole = refl;
+  last = front;
+  behind = rest;
+  whole = e;
+  held = held;
+  unlocks = unlocks;
   top = d.top;
   text = d.text;
   rest = d.rest;
   mind = d.mind;
   comes = record { steps = zero; plays = ap (λ t. Some t) (sym d.is) };
+  plain = d.plain;
   final = d.here.final;
   usable = d.here.usable;
   done = d.here.done;
 }
 
+regroup : (front before last behind : List Entry) → front ++ (before ++ last ++ behind) ≡ front ++ before ++ last ++ behind
+regroup front before last behind = sym (append_assoc front (before ++ last) behind) ∙ ap (λ l. l ++ behind) (sym (append_assoc front before last))
+
 later : (s t : State) (front rest es : List Entry) → es ≡ front ++ rest → Plays (step s) front (Go t) → DeliversLast t rest → DeliversLast s es
 later s t front rest es e h d = record {
   before = front ++ d.before;
   last = d.last;
-  whole = e ∙ ap (λ l. front ++ l) d.whole ∙ sym (append_assoc front d.before d.last);
+  behind = d.behind;
+  whole = e ∙ ap (λ l. front ++ l) d.whole ∙ regroup front d.before d.last d.behind;
+  held = d.held;
+  unlocks = d.unlocks;
   top = d.top;
   text = d.text;
   rest = d.rest;
   mind = d.mind;
   comes = record { steps = suc d.comes.steps; plays = plays_then (step s) (on_to d.comes.steps) front d.before (Go t) (Some (Running (Do (Recipe d.top (Mailbox d.text)) ∷ d.rest) d.mind)) h d.comes.plays };
+  plain = d.plain;
   final = d.final;
   usable = d.usable;
   done = d.done;
@@ -269,9 +244,7 @@ ended y z s front [] h k good =
 ended y z s front (e ∷ rest) h k good = absurd k
 
 went : (s t : State) (front rest es : List Entry) → es ≡ front ++ rest → Plays (step s) front (Go t) → OverOrDelivers t rest → OverOrDelivers s es
-went s t front rest es e h (inl over) =
-    let same : es ≡ front = e ∙ ap (λ l. front ++ l) over.none ∙ append-nil front in
-    subst (OverOrDelivers s) (sym same) (inr (at_once s front (last_step s t front h (ap (λ x. is_last (Go x)) over.is))))
+went s t front rest es e h (inl over) = inr (at_once s front rest es over.mind.locks e over.unlocks (last_step s t front h (ap (λ x. is_last (Go x)) over.is)))
 went s t front rest es e h (inr d) = inr (later s t front rest es e h d)
 
 walks : (n : ℕ) (s : State) (es : List Entry) (z : Ending) → Plays (walk step n s) es (Some z) → z.end ≡ Delivered → OverOrDelivers s es

@@ -62,10 +62,14 @@ assigned name value p =
     else if bytes_eq name (codes "MAILDIR") then change_folder value (with_variable name value p)
     else Ends (GoesOn (with_variable name value p))
 
+-- the assignment asks for what isn't built yet, whatever its value is
+abbrev pub waits : List ℕ → List ℕ → Bool
+waits name text = is_later name || has_command One text
+
 -- the value is expanded by the variables as they stand
 abbrev pub assign : List ℕ → List ℕ → Mind → Plan Turn
 assign name text p =
-    if is_later name || has_command One text then not_built p
+    if waits name text then not_built p
     else if is_too_long One text p.vars then skip_value One text p
     else assigned name (value_in p.vars text) p
 

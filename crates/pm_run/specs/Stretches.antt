@@ -1,14 +1,13 @@
--- A stretch of a process: some statements.
-use Rattle.std.specs.Prelude.{Option, Some, None, []}
+-- A stretch of a process.
+use Rattle.std.specs.Prelude.{Result, IfOk, OnErr}
+use Rattle.pm_bytes.specs.declared.error.Memory.{Memory}
 use Rattle.pm_journal.specs.JournalState.{JournalState}
 use Rattle.pm_journal.specs.Entries.{View}
-use Rattle.pm_recipe.specs.Tree.{Trees}
-use Rattle.pm_meaning.specs.Running.{Running, ahead, step}
-use Rattle.pm_journal.specs.Walking.{Reaches, Completes}
-use Rattle.pm_meaning.specs.Minds.{Mind}
-use Rattle.pm_meaning.specs.declared.process.End.{End}
+use Rattle.pm_journal.specs.Walking.{Reaches, Interrupted}
+use Rattle.pm_meaning.specs.Running.{State, step}
+use Rattle.pm_meaning.specs.declared.process.Ending.{Ending}
 
--- without an end all statements were run, and nothing is left
-abbrev pub RunsThrough : Trees → Mind → Option End → Mind → JournalState → JournalState → View → View → Type 0
-RunsThrough statements p None q old new before after = Reaches {X = End} step (Running (ahead statements []) p) (Running [] q) old new before after
-RunsThrough statements p (Some end) q old new before after = Completes step (Running (ahead statements []) p) end old new before after
+-- the process went on to the state that the answer stands for, or memory was wanting in it
+abbrev pub Walks : {A : Type 0} → State → (A → State) → Result A Memory → JournalState → JournalState → View → View → Type 0
+Walks s to answer old new before after =
+    IfOk answer (λ a. Reaches {X = Ending} step s (to a) old new before after) × OnErr answer (Interrupted {X = Ending} step s old new before after)

@@ -1,19 +1,17 @@
 //! Assignments and unsettings, and what each has for an effect (procmailrc(5), "Environment").
-ghost use Rattle.std.specs.Prelude.{◌≡◌, ◌||◌, bytes_eq, codes, IfOk, OnErr};
-ghost use Rattle.pm_journal.specs.declared.acts.Act.TheVariants.{Probe};
-ghost use Rattle.pm_meaning.specs.Assigning.{is_one_of, is_later, leads_elsewhere, is_file_text, probed, change_folder, assigned, assign, unset};
+ghost use Rattle.std.specs.Prelude.{◌≡◌, bytes_eq, codes, IfOk};
 ghost use Rattle.pm_journal.specs.Executed.{Carries};
+ghost use Rattle.pm_journal.specs.Held.{Keeping};
 ghost use Rattle.pm_journal.specs.Plan.{Ends, and_then, ask};
-ghost use Rattle.pm_meaning.specs.Turns.{has_command};
-ghost use Rattle.pm_subst.specs.declared.kinds.Mode.TheVariants.{One};
-ghost use Rattle.pm_run.specs.Ends.{turn_of};
-ghost use Rattle.pm_actions.specs.Names.{file_name_of};
+ghost use Rattle.pm_journal.specs.declared.acts.Act.TheVariants.{Probe};
+ghost use Rattle.pm_meaning.specs.Assigning.{is_later, waits as asks_for_later, leads_elsewhere as leads_away, probed, change_folder, assigned, assign, unset};
+ghost use Rattle.pm_meaning.specs.Minds.{mind_of};
+ghost use Rattle.pm_actions.specs.Turning.{turn_of};
 
-use crate::acts::{probe, tell};
-use crate::expanding::{Expansion, expand_text, first_word, runs_command};
-use crate::statements::skip_value;
-use pm_bytes::{Blob, Memory, Name, NameRefused, full};
-use pm_host::{Host, Looked, Sink};
+use pm_actions::{Expansion, expand_text, file_name, first_word, runs_command, skip_value};
+use pm_acts::{Outside, probe, tell};
+use pm_bytes::{Blob, Memory, Name, full};
+use pm_host::Looked;
 use pm_journal::{Journal, couldnt_chdir, unusable_name};
 use pm_meaning::{End, Process};
 use pm_subst::Mode;
@@ -47,7 +45,7 @@ pub fn assign_text<D: Outside>(
 
 // Whether an assignment asks for what isn't built yet, whatever its value is.
 fn waits(alloc: Global, name: &[u8], text: &[u8]) -> Result<bool, Memory>
-    ensures { IfOk result (λ found. found ≡ (is_later name.now || has_command One text.now)) }
+    ensures { IfOk result (λ found. found ≡ asks_for_later name.now text.now) }
 {
     if is_later_name(name) {
         return Ok(true);
@@ -81,10 +79,10 @@ fn assign_value<D: Outside>(
         journal.old journal.new (D.told outside.old) (D.told outside.new) }
     ensures keeping { Keeping journal.new process.new.locks.names }
 {
-    if leads_away(name, value.as_slice(), process) {
+    if leads_elsewhere(name, value.as_slice(), process) {
         return Ok(Some(End::NotBuilt));
     }
-    if !names_folder(name) {
+    if !is_maildir(name) {
         process.vars.set(name, value)?;
         return Ok(None);
     }
@@ -94,15 +92,15 @@ fn assign_value<D: Outside>(
 }
 
 // Whether the variable is MAILDIR.
-fn names_folder(name: &[u8]) -> bool
+fn is_maildir(name: &[u8]) -> bool
     ensures { result ≡ bytes_eq name.now (codes "MAILDIR") }
 {
     name == b"MAILDIR".as_slice()
 }
 
 // Whether the value asks for another rcfile or another host's rcfiles.
-fn leads_away(name: &[u8], value: &[u8], process: &Process) -> bool
-    ensures { result ≡ leads_elsewhere name.now value.now (mind_of process.now) }
+fn leads_elsewhere(name: &[u8], value: &[u8], process: &Process) -> bool
+    ensures { result ≡ leads_away name.now value.now (mind_of process.now) }
 {
     (name == b"INCLUDERC".as_slice() && !value.is_empty())
         || name == b"SWITCHRC".as_slice()
@@ -129,7 +127,7 @@ fn move_to_folder<D: Outside>(
         }
         None => {
             let line = unusable_name(alloc, value)?;
-            tell(line, outside, journal)?;
+            tell(&process.locks, line, outside, journal)?;
             Ok(None)
         }
     }
@@ -148,30 +146,16 @@ fn probe_folder<D: Outside>(
     ensures keeping { Keeping journal.new process.new.locks.names }
 {
     let folder = name.copy(alloc)?;
-    match probe(name, outside, journal)? {
+    match probe(&process.locks, name, outside, journal)? {
         Looked::Folder => {
             process.base = folder;
             Ok(None)
         }
         _ => {
             let line = couldnt_chdir(alloc, &folder)?;
-            tell(line, outside, journal)?;
+            tell(&process.locks, line, outside, journal)?;
             Ok(None)
         }
-    }
-}
-
-/// The text as a file's name, where it is not empty and can be one.
-pub fn file_name(alloc: Global, text: &[u8]) -> Result<Option<Name>, Memory>
-    ensures { IfOk result (λ name. name ≡ file_name_of text.now) }
-{
-    if text.is_empty() {
-        return Ok(None);
-    }
-    match Name::read(alloc, text) {
-        Ok(name) => Ok(Some(name)),
-        Err(NameRefused::Unusable) => Ok(None),
-        Err(NameRefused::Memory) => Err(Memory),
     }
 }
 

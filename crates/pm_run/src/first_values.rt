@@ -2,9 +2,11 @@
 ghost use Rattle.std.specs.Prelude.{◌≡◌, nat_le, IfOk, option_copied};
 ghost use Rattle.std.specs.List.{list_all};
 ghost use Rattle.pm_vars.specs.Variables.{with_value};
+ghost use Rattle.pm_meaning.specs.Minds.{mind_of};
 ghost use Rattle.pm_meaning.specs.FirstValues.{environment_value, is_filled, is_login, login_name, home_folder, search_path, time_zone, first_folder, system_mailbox, user_values, place_values, mailbox_values, program_values, file_values, all_set, first_process};
 
 use pm_bytes::{Blob, Environ, Memory, Name};
+use pm_journal::HeldLocks;
 use pm_meaning::Process;
 use pm_message::Message;
 use pm_vars::Vars;
@@ -17,7 +19,7 @@ pub fn begin(
     env: &Environ,
     message: Message,
 ) -> Result<Process, Memory>
-    ensures { IfOk result (λ process. process ≡ first_process filter env.now message) }
+    ensures { IfOk result (λ process. mind_of process ≡ first_process filter env.now message) }
 {
     let mut vars = Vars::new(alloc, env.pid);
     set_user(alloc, &mut vars, env)?;
@@ -34,6 +36,7 @@ pub fn begin(
         vars,
         base,
         host_name,
+        locks: HeldLocks::new(alloc),
     })
 }
 

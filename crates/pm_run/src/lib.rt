@@ -1,13 +1,9 @@
 //! A process: the mail is prepared, the rcfile is read, and its statements are carried out one after the other. What
 //! each function asks of the outside is a part of the process's plan, and is noted; after want of memory the act that
-//! came next was left off.
+//! came next was left off, and the held locks are given back.
 #![tactic(auto)]
 
-mod acts;
 mod assigning;
-mod delivering;
-mod expanding;
-mod filing;
 mod first_values;
 mod process;
 mod statements;

@@ -1,21 +1,23 @@
 //! A whole process, from the mail's arrival to its end.
-ghost use Rattle.std.specs.Prelude.{◌≡◌, ◌≤◌, [], ◌∷◌, length, IfOk, OnErr};
-ghost use Rattle.pm_message.specs.FromLine.{makes_line, prepared_of};
-ghost use Rattle.pm_meaning.specs.Changes.{entered, is_given};
+ghost use Rattle.std.specs.Prelude.{◌≡◌, ◌≤◌, [], length, IfOk, OnErr};
 ghost use Rattle.pm_journal.specs.Executed.{Carries};
-ghost use Rattle.pm_meaning.specs.Running.{Arrived, Running, ahead, step, renewal, unread, has_default, fall_off as fall_off_plan};
-ghost use Rattle.pm_journal.specs.Walking.{Stop, Go, Completes, Interrupted};
-ghost use Rattle.pm_meaning.specs.declared.process.End.{End};
+ghost use Rattle.pm_journal.specs.Held.{Keeping};
+ghost use Rattle.pm_journal.specs.Walking.{Go, Completes, Abandoned};
+ghost use Rattle.pm_message.specs.FromLine.{makes_line, prepared_of};
 ghost use Rattle.pm_recipe.specs.Build.{rc_of};
+ghost use Rattle.pm_meaning.specs.Changes.{entered, is_given};
+ghost use Rattle.pm_meaning.specs.Minds.{mind_of};
+ghost use Rattle.pm_meaning.specs.Running.{Arrived, Running, Over, ahead, step, renewal as renewal_of, unread, has_default as default_given, fall_off as falls_off};
+ghost use Rattle.pm_meaning.specs.declared.process.Ending.{Ending};
 ghost use Rattle.pm_run.specs.Ends.{opening, opened_next};
+ghost use Rattle.pm_run.specs.Stretches.{Walks};
 
-use crate::acts::{ask_moment, read, tell};
 use crate::first_values::{begin, login};
 use crate::statements::run_statements;
+use pm_acts::{Outside, ask_moment, give_all, read, tell};
 use pm_bytes::{Blob, Environ, Memory, Name};
-use pm_host::{Host, Sink};
-use pm_journal::{Journal, couldnt_read, no_delivery};
-use pm_meaning::{CommandLine, End, Process};
+use pm_journal::{HeldLocks, Journal, couldnt_read, no_delivery};
+use pm_meaning::{CommandLine, End, Ending, Process};
 use pm_message::{Message, Renew, needs_line, prepare, split};
 use pm_recipe::{Rc, RcRefused, Statements, read_rc};
 use std::alloc::Global;
@@ -27,7 +29,8 @@ enum Opened {
     Ended(End),
 }
 
-/// Runs the process that delivers this mail. No lock is held afterwards where none was before.
+/// Runs the process that delivers this mail. No lock is held afterwards, and after want of memory the removal of each
+/// one that was held has been tried once.
 pub fn run_process<D: Outside>(
     alloc: Global,
     line: CommandLine,
@@ -35,16 +38,20 @@ pub fn run_process<D: Outside>(
     bytes: Blob,
     outside: &mut D,
     journal: &mut Journal,
-) -> Result<End, Memory>
-    ensures ok { IfOk result (λ end. Completes step (Arrived line env.now bytes) end journal.old journal.new
-        (D.told outside.old) (D.told outside.new)) }
-    ensures memory { OnErr result (Interrupted {X = End} step (Arrived line env.now bytes) journal.old journal.new
-        (D.told outside.old) (D.told outside.new)) }
+) -> Result<Ending, Memory>
+    requires keeping { Keeping journal.old [] }
+    ensures ok { IfOk result (λ ending. Completes step (Arrived line env.now bytes) ending
+        journal.old journal.new (D.told outside.old) (D.told outside.new)) }
+    ensures memory { OnErr result (Abandoned {X = Ending} step (Arrived line env.now bytes)
+        journal.old journal.new (D.told outside.old) (D.told outside.new)) }
+    ensures keeping { Keeping journal.new [] }
 {
     let mut process = arrive(alloc, &line, env, bytes.as_slice(), outside, journal)?;
     drop(bytes);
     let CommandLine { rcfile, .. } = line;
-    run_rcfile(alloc, rcfile, &mut process, outside, journal)
+    let ended = run_rcfile(alloc, rcfile, &mut process, outside, journal);
+    give_all(&mut process.locks, outside, journal);
+    Ok(Ending { end: ended? })
 }
 
 // The process that begins with this mail, which gets its From line.
@@ -56,46 +63,33 @@ fn arrive<D: Outside>(
     outside: &mut D,
     journal: &mut Journal,
 ) -> Result<Process, Memory>
-    requires keeping { Keeping journal.old process.old.locks.names }
-    ensures carries { Carries (step (Arrived line.now env.now bytes.now)) (λ process. Go (opening line.now.rcfile process) result
-        journal.old journal.new (D.told outside.old) (D.told outside.new) }
-    ensures keeping { Keeping journal.new process.new.locks.names }
+    requires keeping { Keeping journal.old [] }
+    ensures carries { Carries (step (Arrived line.now env.now bytes.now)) (λ process. Go (opening line.now.rcfile (mind_of process)))
+        result journal.old journal.new (D.told outside.old) (D.told outside.new) }
+    ensures locks { IfOk result (λ process. process.locks.names ≡ []) }
+    ensures keeping { Keeping journal.new [] }
 {
     if !wants_line(bytes, line.filter) {
         let message = split(alloc, bytes)?;
         return begin(alloc, line.filter, env, message);
     }
-    let moment = ask_moment(outside, journal)?;
-    let message = with_line(alloc, bytes, line.filter, login(env), moment)?;
+    let moment = ask_moment(&HeldLocks::new(alloc), outside, journal)?;
+    let message = prepare(alloc, bytes, &renewal(line.filter), login(env).as_bytes(), moment)?;
     begin(alloc, line.filter, env, message)
 }
 
-// Whether the mail lacks a From line and should have one: a mail filter takes it as it is.
-fn wants_line(bytes: &[u8], filter: bool) -> bool
-    ensures { result ≡ makes_line bytes.now (renewal filter) }
+// A mail filter takes the mail as it is.
+fn renewal(filter: bool) -> Renew
+    ensures { result ≡ renewal_of filter }
 {
-    if filter {
-        needs_line(bytes, &Renew::Keep)
-    } else {
-        needs_line(bytes, &Renew::AddMissing)
-    }
+    if filter { Renew::Keep } else { Renew::AddMissing }
 }
 
-// The mail with its From line.
-fn with_line(
-    alloc: Global,
-    bytes: &[u8],
-    filter: bool,
-    login: &str,
-    moment: i64,
-) -> Result<Message, Memory>
-    ensures { IfOk result (λ message. message ≡ prepared_of bytes.now (renewal filter) login.now moment) }
+// Whether the mail lacks a From line and should have one.
+fn wants_line(bytes: &[u8], filter: bool) -> bool
+    ensures { result ≡ makes_line bytes.now (renewal_of filter) }
 {
-    if filter {
-        prepare(alloc, bytes, &Renew::Keep, login.as_bytes(), moment)
-    } else {
-        prepare(alloc, bytes, &Renew::AddMissing, login.as_bytes(), moment)
-    }
+    needs_line(bytes, &renewal(filter))
 }
 
 // The process from the opening of its rcfile on.
@@ -106,16 +100,14 @@ fn run_rcfile<D: Outside>(
     outside: &mut D,
     journal: &mut Journal,
 ) -> Result<End, Memory>
-    ensures ok { IfOk result (λ end. Completes step (opening name (mind_of process.old)) end journal.old journal.new
-        (D.told outside.old) (D.told outside.new)) }
-    ensures memory { OnErr result (Interrupted {X = End} step (opening name (mind_of process.old)) journal.old journal.new
-        (D.told outside.old) (D.told outside.new)) }
+    requires keeping { Keeping journal.old process.old.locks.names }
+    ensures walks { Walks (opening name (mind_of process.old)) (λ end. Over end (mind_of process.new)) result
+        journal.old journal.new (D.told outside.old) (D.told outside.new) }
+    ensures keeping { Keeping journal.new process.new.locks.names }
 {
     match open_rcfile(alloc, name, process, outside, journal)? {
         Opened::Ended(end) => Ok(end),
-        Opened::Read(statements) => {
-            run_rest(alloc, &statements, process, outside, journal)
-        }
+        Opened::Read(statements) => run_rest(alloc, &statements, process, outside, journal),
     }
 }
 
@@ -127,10 +119,10 @@ fn run_rest<D: Outside>(
     outside: &mut D,
     journal: &mut Journal,
 ) -> Result<End, Memory>
-    ensures ok { IfOk result (λ end. Completes step (Running (ahead statements.now []) (mind_of process.old)) end journal.old journal.new
-        (D.told outside.old) (D.told outside.new)) }
-    ensures memory { OnErr result (Interrupted {X = End} step (Running (ahead statements.now []) (mind_of process.old)) journal.old journal.new
-        (D.told outside.old) (D.told outside.new)) }
+    requires keeping { Keeping journal.old process.old.locks.names }
+    ensures walks { Walks (Running (ahead statements.now []) (mind_of process.old)) (λ end. Over end (mind_of process.new)) result
+        journal.old journal.new (D.told outside.old) (D.told outside.new) }
+    ensures keeping { Keeping journal.new process.new.locks.names }
 {
     match run_statements(alloc, statements, process, outside, journal)? {
         Some(end) => Ok(end),
@@ -152,7 +144,7 @@ fn open_rcfile<D: Outside>(
     ensures keeping { Keeping journal.new process.new.locks.names }
 {
     let shown = name.copy(alloc)?;
-    match read(alloc, name, outside, journal)? {
+    match read(alloc, &process.locks, name, outside, journal)? {
         Some(rc) => {
             let statements = read_statements(alloc, rc.as_slice())?;
             enter(alloc, &shown, process)?;
@@ -178,7 +170,8 @@ fn read_statements(alloc: Global, rc: &[u8]) -> Result<Statements, Memory>
 
 // The rcfile has this name; one of the working folder is run from there.
 fn enter(alloc: Global, name: &Name, process: &mut Process) -> Result<(), Memory>
-    ensures { IfOk result (λ _. (mind_of process.new) ≡ entered name.now (mind_of process.old)) }
+    ensures ok { IfOk result (λ _. mind_of process.new ≡ entered name.now (mind_of process.old)) }
+    ensures locks { process.new.locks ≡ process.old.locks }
 {
     process.vars.set_rcfile(name)?;
     if !name.as_str().as_bytes().starts_with(b"./") {
@@ -198,16 +191,16 @@ fn miss_rcfile<D: Outside>(
     outside: &mut D,
     journal: &mut Journal,
 ) -> Result<Opened, Memory>
-    requires keeping { Keeping journal.old process.old.locks.names }
+    requires keeping { Keeping journal.old process.now.locks.names }
     ensures carries { Carries (unread name.now [] (mind_of process.now)) (λ opened. opened_next opened (mind_of process.now)) result
         journal.old journal.new (D.told outside.old) (D.told outside.new) }
-    ensures keeping { Keeping journal.new process.new.locks.names }
+    ensures keeping { Keeping journal.new process.now.locks.names }
 {
     if process.filter {
         return Ok(Opened::Ended(End::NoRc));
     }
     let line = couldnt_read(alloc, name)?;
-    tell(line, outside, journal)?;
+    tell(&process.locks, line, outside, journal)?;
     Ok(Opened::Read(Statements::new(alloc)))
 }
 
@@ -218,22 +211,22 @@ fn fall_off<D: Outside>(
     outside: &mut D,
     journal: &mut Journal,
 ) -> Result<End, Memory>
-    requires keeping { Keeping journal.old process.old.locks.names }
-    ensures carries { Carries (fall_off_plan (mind_of process.now)) (λ end. Stop end) result
+    requires keeping { Keeping journal.old process.now.locks.names }
+    ensures carries { Carries (falls_off (mind_of process.now)) (λ end. Go (Over end (mind_of process.now))) result
         journal.old journal.new (D.told outside.old) (D.told outside.new) }
-    ensures keeping { Keeping journal.new process.new.locks.names }
+    ensures keeping { Keeping journal.new process.now.locks.names }
 {
-    if has_mailbox(process) {
+    if has_default(process) {
         return Ok(End::NotBuilt);
     }
     let line = no_delivery(alloc)?;
-    tell(line, outside, journal)?;
+    tell(&process.locks, line, outside, journal)?;
     Ok(End::FellOff)
 }
 
 // Whether there is a default mailbox.
-fn has_mailbox(process: &Process) -> bool
-    ensures { result ≡ has_default (mind_of process.now) }
+fn has_default(process: &Process) -> bool
+    ensures { result ≡ default_given (mind_of process.now) }
 {
     !process.filter || is_set(process, b"DEFAULT") || is_set(process, b"ORGMAIL")
 }

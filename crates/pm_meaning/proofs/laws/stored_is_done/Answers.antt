@@ -1,4 +1,4 @@
-use Rattle.pm_meaning.proofs.DeliveredLast.{stored_is_done}
+use Rattle.pm_meaning.proofs.StoredDone.{stored_is_done}
 use Rattle.pm_meaning.proofs.laws.stored_is_done.Goals as goal
 
 pub returns : goal.returns
