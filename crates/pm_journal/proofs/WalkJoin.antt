@@ -1,10 +1,10 @@
 -- Steps of a process one after another.
-use Rattle.std.proofs.Common.{◌⊎◌, zero, suc, List, [], ◌++◌, Option, Some, inl, inr, refl, sym, ap, ◌∙◌, subst, append_assoc, append-nil}
+use Rattle.std.proofs.Common.{◌⊎◌, ℕ, zero, suc, List, [], ◌++◌, Option, Some, inl, inr, refl, sym, ap, ◌∙◌, subst, append_assoc, append-nil}
 use Rattle.pm_journal.specs.JournalState.{JournalState}
 use Rattle.pm_journal.specs.Entries.{View}
 use Rattle.pm_journal.specs.Plan.{Plan, Ends, Plays}
-use Rattle.pm_journal.specs.Executed.{Executes, OutOfMemory, WantsAct, HasEnded}
-use Rattle.pm_journal.specs.Walking.{Next, Stop, Go, walk, Means, IsUnfinished, Reaches, Completes, Interrupted}
+use Rattle.pm_journal.specs.Executed.{Executes, OutOfMemory, WantsAct, HasEnded, GivesEach}
+use Rattle.pm_journal.specs.Walking.{Next, Stop, Go, walk, Means, IsUnfinished, Reaches, Completes, Interrupted, Abandoned}
 use Rattle.pm_journal.proofs.PlanJoin.{plays_then, wants_then}
 use Rattle.pm_journal.proofs.WantsMemory.{wants_front, ended_front}
 use Rattle.pm_journal.proofs.AccountsJoin.{accounts_join, accounts_none}
@@ -134,3 +134,37 @@ interrupted_reached step s t x y z a b c h k = record {
   unfinished = h.unfinished k.more k.left_off k.unfinished;
   took = k.took;
 }
+
+-- a process that took one step
+pub reaches_once : {S X : Type 0} (step : S → Plan (Next S X)) (s t : S) (x y : JournalState) (a b : View) → Executes (step s) (Go t) x y a b → Reaches {X = X} step s t x y a b
+reaches_once step s t x y a b h = reaches_then step s s t x x y a a b (reaches_itself step s x a) h
+
+-- a process that took one step, and then went on
+pub reaches_after : {S X : Type 0} (step : S → Plan (Next S X)) (s t u : S) (x y z : JournalState) (a b c : View) → Executes (step s) (Go t) x y a b → Reaches {X = X} step t u y z b c → Reaches {X = X} step s u x z a c
+reaches_after step s t u x y z a b c h k = record {
+  more = h.more ++ k.more;
+  entries = k.entries ∙ ap (λ l. l ++ k.more) h.entries ∙ append_assoc x.entries h.more k.more;
+  means = λ later end m. subst (λ l. Means step s l end) (sym (append_assoc h.more k.more later)) (means_go step s t h.more (k.more ++ later) end h.plays (k.means later end m));
+  unfinished = λ later calls m. subst (λ l. IsUnfinished step s l calls) (sym (append_assoc h.more k.more later)) (unfinished_go step s t h.more (k.more ++ later) calls h.plays (k.unfinished later calls m));
+  accounts = accounts_join h.more k.more a b c h.accounts k.accounts;
+}
+
+-- a process that wanted memory, and then gave its locks back
+pub abandoned_by : {S X : Type 0} (step : S → Plan (Next S X)) (s : S) (held : List (List ℕ)) (x y z : JournalState) (a b c : View) → Interrupted {X = X} step s x y a b → GivesEach held y z b c → Abandoned {X = X} step s x z a c
+abandoned_by step s held x y z a b c h k = record {
+  done = h.more;
+  given = k.given;
+  entries = k.entries ∙ ap (λ l. l ++ k.given) h.entries;
+  middle = h.middle;
+  accounts = h.accounts;
+  left_off = h.left_off;
+  unfinished = h.unfinished;
+  later = b;
+  took = h.took;
+  held = held;
+  unlocks = k.unlocks;
+  back = k.accounts;
+}
+
+pub gives_none : (x : JournalState) (s : View) → GivesEach [] x x s s
+gives_none x s = record { given = []; entries = sym (append-nil x.entries); unlocks = tt; accounts = accounts_none s }

@@ -15,8 +15,8 @@ use Rattle.pm_subst.specs.declared.kinds.Mode.TheVariants.{One}
 use Rattle.pm_journal.specs.Plan.{Ends, and_then, ask}
 use Rattle.pm_journal.specs.Executed.{Executes, OutOfMemory}
 use Rattle.pm_meaning.specs.Changes.{with_variable, with_base}
-use Rattle.pm_meaning.specs.Turns.{Turn, GoesOn, Halts, say_then, not_built, is_too_long, has_command, skip_value}
-use Rattle.pm_meaning.specs.Assigning.{is_file_text, is_later, leads_elsewhere, value_in, probed, change_folder, assigned, assign}
+use Rattle.pm_meaning.specs.Turns.{Turn, GoesOn, Halts, say_then, not_built, is_too_long, skip_value}
+use Rattle.pm_meaning.specs.Assigning.{is_file_text, waits, leads_elsewhere, value_in, probed, change_folder, assigned, assign}
 use Rattle.pm_meaning.specs.Minds.{Mind}
 use Rattle.pm_meaning.specs.declared.process.End.TheVariants.{NotBuilt}
 use Rattle.pm_journal.proofs.ActPlans.{executes_then}
@@ -24,22 +24,6 @@ use Rattle.pm_journal.proofs.WantsMemory.{executes_nothing, out_then, out_anywhe
 use Rattle.pm_acts.specs.Acts.{Says}
 use Rattle.pm_actions.specs.Names.{file_name_of}
 use Rattle.pm_actions.proofs.Choices.{choose_then, choose_else, then_out, else_out, line_told, line_out}
-
--- what holds of an answer, and what follows from it
-pub ok_map : {T E : Type 0} (r : Result T E) (P Q : T → Type 0) → ((x : T) → P x → Q x) → IfOk r P → IfOk r Q
-ok_map (Ok x) P Q f h = f x h
-ok_map (Err e) P Q f h = tt
-
-pub err_map : {T E : Type 0} (r : Result T E) (P Q : Type 0) → (P → Q) → OnErr r P → OnErr r Q
-err_map (Ok x) P Q f h = tt
-err_map (Err e) P Q f h = f h
-
--- a variable that was set
-pub set_then : (name value : List ℕ) (p : Mind) (vars : Table) → vars ≡ record p.vars { variables = with_value name value p.vars.variables } → record p { vars = vars } ≡ with_variable name value p
-set_then name value p vars e = ap (λ v. record p { vars = v }) e
-
-pub set_copy : (name value copy : List ℕ) (p : Mind) (vars : Table) → copy ≡ value → vars ≡ record p.vars { variables = with_value name copy p.vars.variables } → record p { vars = vars } ≡ with_variable name value p
-set_copy name value copy p vars same e = set_then name copy p vars e ∙ ap (λ v. with_variable name v p) same
 
 probed_other : (name : List ℕ) (p : Mind) (looked : Looked) → looked ≢ Folder → say_then p (couldnt_chdir_line name) (GoesOn p) ≡ probed name p (Found looked)
 probed_other name p (LookedFile n) h = refl
@@ -59,13 +43,13 @@ pub folder_missed : (name folder line : List ℕ) (p : Mind) (looked : Looked) (
     → Executes (ask (Probe name)) (Found looked) x y a b → Says line y z b c → Executes (and_then (ask (Probe name)) (probed name p)) (GoesOn p) x z a c
 folder_missed name folder line p looked x y z a b c other same is h k =
     executes_then (ask (Probe name)) (probed name p) (Found looked) (GoesOn p) x y z a b c h
-    (subst (λ q. Executes q (GoesOn p) y z b c) (probed_other name p looked other) (line_told (couldnt_chdir_line name) line (GoesOn p) y z b c (is ∙ ap couldnt_chdir_line same) k))
+    (subst (λ q. Executes q (GoesOn p) y z b c) (probed_other name p looked other) (line_told p (couldnt_chdir_line name) line (GoesOn p) y z b c (is ∙ ap couldnt_chdir_line same) k))
 
 pub folder_untold : (name folder line : List ℕ) (p : Mind) (looked : Looked) (x y z : JournalState) (a b c : View) → looked ≢ Folder → folder ≡ name → line ≡ couldnt_chdir_line folder
     → Executes (ask (Probe name)) (Found looked) x y a b → OutOfMemory (ask (SayErr line)) y z b c → OutOfMemory (and_then (ask (Probe name)) (probed name p)) x z a c
 folder_untold name folder line p looked x y z a b c other same is h k =
     out_then (ask (Probe name)) (probed name p) (Found looked) x y z a b c h
-    (subst (λ q. OutOfMemory q y z b c) (probed_other name p looked other) (line_out (couldnt_chdir_line name) line (GoesOn p) y z b c (is ∙ ap couldnt_chdir_line same) k))
+    (subst (λ q. OutOfMemory q y z b c) (probed_other name p looked other) (line_out p (couldnt_chdir_line name) line (GoesOn p) y z b c (is ∙ ap couldnt_chdir_line same) k))
 
 pub probed_only : (name : List ℕ) (p : Mind) (looked : Looked) (x y : JournalState) (a b : View) → Executes (ask (Probe name)) (Found looked) x y a b → OutOfMemory (and_then (ask (Probe name)) (probed name p)) x y a b
 probed_only name p looked x y a b h = out_then (ask (Probe name)) (probed name p) (Found looked) x y y a b b h (out_anywhere (probed name p (Found looked)) y y b refl)
@@ -104,13 +88,13 @@ pub unusable_told : (value line : List ℕ) (p : Mind) (x y : JournalState) (a b
     → Executes (change_folder value p) (GoesOn p) x y a b
 unusable_told value line p x y a b none is h =
     choose_else (is_file_text value) (and_then (ask (Probe (full_name p.base value))) (probed (full_name p.base value) p)) (say_then p (unusable_name_line value) (GoesOn p)) (GoesOn p) x y a b (unusable_then value none)
-    (line_told (unusable_name_line value) line (GoesOn p) x y a b is h)
+    (line_told p (unusable_name_line value) line (GoesOn p) x y a b is h)
 
 pub unusable_out : (value line : List ℕ) (p : Mind) (x y : JournalState) (a b : View) → None ≡ file_name_of value → line ≡ unusable_name_line value → OutOfMemory (ask (SayErr line)) x y a b
     → OutOfMemory (change_folder value p) x y a b
 unusable_out value line p x y a b none is h =
     else_out (is_file_text value) (and_then (ask (Probe (full_name p.base value))) (probed (full_name p.base value) p)) (say_then p (unusable_name_line value) (GoesOn p)) x y a b (unusable_then value none)
-    (line_out (unusable_name_line value) line (GoesOn p) x y a b is h)
+    (line_out p (unusable_name_line value) line (GoesOn p) x y a b is h)
 
 -- a value that leads elsewhere, a plain one, and that of MAILDIR
 pub led_away : (name value : List ℕ) (p : Mind) (x : JournalState) (s : View) → leads_elsewhere name value p ≡ true → Executes (assigned name value p) (Halts NotBuilt p) x x s s
@@ -140,31 +124,31 @@ folder_changed_out name value copy p q x y a b here folder same is h =
     (subst (λ v. OutOfMemory (change_folder v (with_variable name value p)) x y a b) same (subst (λ r. OutOfMemory (change_folder copy r) x y a b) is h)))
 
 -- the text of an assignment
-pub assignment_waits : (name text : List ℕ) (p : Mind) (x : JournalState) (s : View) → (is_later name || has_command One text) ≡ true → Executes (assign name text p) (Halts NotBuilt p) x x s s
+pub assignment_waits : (name text : List ℕ) (p : Mind) (x : JournalState) (s : View) → waits name text ≡ true → Executes (assign name text p) (Halts NotBuilt p) x x s s
 assignment_waits name text p x s e =
-    choose_then (is_later name || has_command One text) (not_built p) (if is_too_long One text p.vars then skip_value One text p else assigned name (value_in p.vars text) p) (Halts NotBuilt p) x x s s e
+    choose_then (waits name text) (not_built p) (if is_too_long One text p.vars then skip_value One text p else assigned name (value_in p.vars text) p) (Halts NotBuilt p) x x s s e
     (executes_nothing (Halts NotBuilt p) x x s refl)
 
-pub value_assigned : (name text value : List ℕ) (p : Mind) (turn : Turn) (x y : JournalState) (a b : View) → (is_later name || has_command One text) ≡ false → is_too_long One text p.vars ≡ false → value ≡ value_in p.vars text
+pub value_assigned : (name text value : List ℕ) (p : Mind) (turn : Turn) (x y : JournalState) (a b : View) → waits name text ≡ false → is_too_long One text p.vars ≡ false → value ≡ value_in p.vars text
     → Executes (assigned name value p) turn x y a b → Executes (assign name text p) turn x y a b
 value_assigned name text value p turn x y a b now fits is h =
-    choose_else (is_later name || has_command One text) (not_built p) (if is_too_long One text p.vars then skip_value One text p else assigned name (value_in p.vars text) p) turn x y a b now
+    choose_else (waits name text) (not_built p) (if is_too_long One text p.vars then skip_value One text p else assigned name (value_in p.vars text) p) turn x y a b now
     (choose_else (is_too_long One text p.vars) (skip_value One text p) (assigned name (value_in p.vars text) p) turn x y a b fits (subst (λ v. Executes (assigned name v p) turn x y a b) is h))
 
-pub value_assigned_out : (name text value : List ℕ) (p : Mind) (x y : JournalState) (a b : View) → (is_later name || has_command One text) ≡ false → is_too_long One text p.vars ≡ false → value ≡ value_in p.vars text
+pub value_assigned_out : (name text value : List ℕ) (p : Mind) (x y : JournalState) (a b : View) → waits name text ≡ false → is_too_long One text p.vars ≡ false → value ≡ value_in p.vars text
     → OutOfMemory (assigned name value p) x y a b → OutOfMemory (assign name text p) x y a b
 value_assigned_out name text value p x y a b now fits is h =
-    else_out (is_later name || has_command One text) (not_built p) (if is_too_long One text p.vars then skip_value One text p else assigned name (value_in p.vars text) p) x y a b now
+    else_out (waits name text) (not_built p) (if is_too_long One text p.vars then skip_value One text p else assigned name (value_in p.vars text) p) x y a b now
     (else_out (is_too_long One text p.vars) (skip_value One text p) (assigned name (value_in p.vars text) p) x y a b fits (subst (λ v. OutOfMemory (assigned name v p) x y a b) is h))
 
-pub value_skipped : (name text : List ℕ) (p : Mind) (turn : Turn) (x y : JournalState) (a b : View) → (is_later name || has_command One text) ≡ false → is_too_long One text p.vars ≡ true
+pub value_skipped : (name text : List ℕ) (p : Mind) (turn : Turn) (x y : JournalState) (a b : View) → waits name text ≡ false → is_too_long One text p.vars ≡ true
     → Executes (skip_value One text p) turn x y a b → Executes (assign name text p) turn x y a b
 value_skipped name text p turn x y a b now long h =
-    choose_else (is_later name || has_command One text) (not_built p) (if is_too_long One text p.vars then skip_value One text p else assigned name (value_in p.vars text) p) turn x y a b now
+    choose_else (waits name text) (not_built p) (if is_too_long One text p.vars then skip_value One text p else assigned name (value_in p.vars text) p) turn x y a b now
     (choose_then (is_too_long One text p.vars) (skip_value One text p) (assigned name (value_in p.vars text) p) turn x y a b long h)
 
-pub value_skipped_out : (name text : List ℕ) (p : Mind) (x y : JournalState) (a b : View) → (is_later name || has_command One text) ≡ false → is_too_long One text p.vars ≡ true
+pub value_skipped_out : (name text : List ℕ) (p : Mind) (x y : JournalState) (a b : View) → waits name text ≡ false → is_too_long One text p.vars ≡ true
     → OutOfMemory (skip_value One text p) x y a b → OutOfMemory (assign name text p) x y a b
 value_skipped_out name text p x y a b now long h =
-    else_out (is_later name || has_command One text) (not_built p) (if is_too_long One text p.vars then skip_value One text p else assigned name (value_in p.vars text) p) x y a b now
+    else_out (waits name text) (not_built p) (if is_too_long One text p.vars then skip_value One text p else assigned name (value_in p.vars text) p) x y a b now
     (then_out (is_too_long One text p.vars) (skip_value One text p) (assigned name (value_in p.vars text) p) x y a b long h)

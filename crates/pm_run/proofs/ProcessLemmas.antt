@@ -1,5 +1,5 @@
 -- The steps of a process, one after the other.
-use Rattle.std.proofs.Common.{◌≡◌, true, false, List, ℕ, [], ◌∷◌, Option, Some, None, refl, sym, ap, ◌∙◌, subst}
+use Rattle.std.proofs.Common.{◌≡◌, ◌≢◌, true, false, List, ℕ, [], ◌∷◌, Option, Some, None, refl, sym, ap, ◌∙◌, subst}
 use Rattle.std.specs.Prelude.{ℤ}
 use Rattle.pm_bytes.specs.declared.environment.Environ.{Environ}
 use Rattle.pm_message.specs.FromLine.{makes_line, prepared_of}
@@ -19,47 +19,49 @@ use Rattle.pm_journal.specs.declared.acts.Act.TheVariants.{ReadFile, SayErr, Mom
 use Rattle.pm_journal.specs.declared.acts.Reply.{Reply}
 use Rattle.pm_journal.specs.declared.acts.Reply.TheVariants.{Content, Now}
 use Rattle.pm_journal.specs.Plan.{Ends, and_then, ask}
-use Rattle.pm_journal.specs.Executed.{Executes, OutOfMemory}
+use Rattle.pm_journal.specs.Executed.{Executes, OutOfMemory, GivesEach}
 use Rattle.pm_meaning.specs.FirstValues.{login_name, first_process}
 use Rattle.pm_meaning.specs.Changes.{entered}
 use Rattle.pm_meaning.specs.Turns.{Turn, GoesOn, Halts, say_then}
 use Rattle.pm_journal.specs.Walking.{Next, Stop, Go, Reaches, Completes, Interrupted}
-use Rattle.pm_meaning.specs.Running.{State, Arrived, Running, Item, Do, step, renewal, begun, dated, unread, ahead, after_read, has_default, fall_off, statement, next_of}
+use Rattle.pm_meaning.specs.Running.{State, Arrived, Running, Over, Item, Do, step, renewal, begun, dated, unread, ahead, after_read, has_default, fall_off, statement, next_of}
 use Rattle.pm_meaning.specs.declared.command_line.CommandLine.{CommandLine}
 use Rattle.pm_meaning.specs.Minds.{Mind}
 use Rattle.pm_meaning.specs.declared.process.End.{End}
+use Rattle.pm_meaning.specs.declared.process.Ending.{Ending}
 use Rattle.pm_meaning.specs.declared.process.End.TheVariants.{FellOff, NoRc, NotBuilt}
 use Rattle.pm_journal.proofs.ActPlans.{executes_then}
 use Rattle.pm_journal.proofs.WantsMemory.{executes_nothing, out_then, out_front, out_anywhere}
 use Rattle.pm_journal.proofs.WalkJoin.{reaches_then, completes_then, interrupted_then}
 use Rattle.pm_acts.specs.Acts.{Says, ReadsWhole}
+use Rattle.pm_meaning.proofs.Unlocks.{unlocks_played}
 use Rattle.pm_run.specs.Ends.{opening}
 use Rattle.pm_actions.proofs.Choices.{choose_then, choose_else, then_out, else_out, line_told, line_out}
 
 abbrev Onward : Type 0
-Onward = Next State End
+Onward = Next State Ending
 
 -- the default mailbox isn't built yet, or there is none
-pub default_waits : (p : Mind) (x : JournalState) (s : View) → has_default p ≡ true → Executes {R = Onward} (fall_off p) (Stop NotBuilt) x x s s
-default_waits p x s e = choose_then (has_default p) (Ends (Stop NotBuilt)) (say_then p no_delivery_line (Stop FellOff)) (Stop NotBuilt) x x s s e (executes_nothing (Stop NotBuilt) x x s refl)
+pub default_waits : (p : Mind) (x : JournalState) (s : View) → has_default p ≡ true → Executes {R = Onward} (fall_off p) (Go (Over NotBuilt p)) x x s s
+default_waits p x s e = choose_then (has_default p) (Ends (Go (Over NotBuilt p))) (say_then p no_delivery_line (Go (Over FellOff p))) (Go (Over NotBuilt p)) x x s s e (executes_nothing (Go (Over NotBuilt p)) x x s refl)
 
-pub fell_off : (p : Mind) (line : List ℕ) (x y : JournalState) (a b : View) → has_default p ≡ false → line ≡ no_delivery_line → Says line x y a b → Executes {R = Onward} (fall_off p) (Stop FellOff) x y a b
-fell_off p line x y a b e is h = choose_else (has_default p) (Ends (Stop NotBuilt)) (say_then p no_delivery_line (Stop FellOff)) (Stop FellOff) x y a b e (line_told no_delivery_line line (Stop FellOff) x y a b is h)
+pub fell_off : (p : Mind) (line : List ℕ) (x y : JournalState) (a b : View) → has_default p ≡ false → line ≡ no_delivery_line → Says line x y a b → Executes {R = Onward} (fall_off p) (Go (Over FellOff p)) x y a b
+fell_off p line x y a b e is h = choose_else (has_default p) (Ends (Go (Over NotBuilt p))) (say_then p no_delivery_line (Go (Over FellOff p))) (Go (Over FellOff p)) x y a b e (line_told p no_delivery_line line (Go (Over FellOff p)) x y a b is h)
 
 pub fell_off_out : (p : Mind) (line : List ℕ) (x y : JournalState) (a b : View) → has_default p ≡ false → line ≡ no_delivery_line → OutOfMemory (ask (SayErr line)) x y a b → OutOfMemory {R = Onward} (fall_off p) x y a b
-fell_off_out p line x y a b e is h = else_out (has_default p) (Ends (Stop NotBuilt)) (say_then p no_delivery_line (Stop FellOff)) x y a b e (line_out no_delivery_line line (Stop FellOff) x y a b is h)
+fell_off_out p line x y a b e is h = else_out (has_default p) (Ends (Go (Over NotBuilt p))) (say_then p no_delivery_line (Go (Over FellOff p))) x y a b e (line_out p no_delivery_line line (Go (Over FellOff p)) x y a b is h)
 
 -- the rcfile wasn't read
-pub filter_ends : (name : List ℕ) (p : Mind) (x : JournalState) (s : View) → p.filter ≡ true → Executes {R = Onward} (unread name [] p) (Stop NoRc) x x s s
-filter_ends name p x s e = choose_then p.filter (Ends (Stop NoRc)) (say_then p (couldnt_read_line name) (Go (Running [] p))) (Stop NoRc) x x s s e (executes_nothing (Stop NoRc) x x s refl)
+pub filter_ends : (name : List ℕ) (p : Mind) (x : JournalState) (s : View) → p.filter ≡ true → Executes {R = Onward} (unread name [] p) (Go (Over NoRc p)) x x s s
+filter_ends name p x s e = choose_then p.filter (Ends (Go (Over NoRc p))) (say_then p (couldnt_read_line name) (Go (Running [] p))) (Go (Over NoRc p)) x x s s e (executes_nothing (Go (Over NoRc p)) x x s refl)
 
 pub miss_told : (name line : List ℕ) (p : Mind) (x y : JournalState) (a b : View) → p.filter ≡ false → line ≡ couldnt_read_line name → Says line x y a b → Executes {R = Onward} (unread name [] p) (Go (Running [] p)) x y a b
 miss_told name line p x y a b e is h =
-    choose_else p.filter (Ends (Stop NoRc)) (say_then p (couldnt_read_line name) (Go (Running [] p))) (Go (Running [] p)) x y a b e (line_told (couldnt_read_line name) line (Go (Running [] p)) x y a b is h)
+    choose_else p.filter (Ends (Go (Over NoRc p))) (say_then p (couldnt_read_line name) (Go (Running [] p))) (Go (Running [] p)) x y a b e (line_told p (couldnt_read_line name) line (Go (Running [] p)) x y a b is h)
 
 pub miss_out : (name line : List ℕ) (p : Mind) (x y : JournalState) (a b : View) → p.filter ≡ false → line ≡ couldnt_read_line name → OutOfMemory (ask (SayErr line)) x y a b → OutOfMemory {R = Onward} (unread name [] p) x y a b
 miss_out name line p x y a b e is h =
-    else_out p.filter (Ends (Stop NoRc)) (say_then p (couldnt_read_line name) (Go (Running [] p))) x y a b e (line_out (couldnt_read_line name) line (Go (Running [] p)) x y a b is h)
+    else_out p.filter (Ends (Go (Over NoRc p))) (say_then p (couldnt_read_line name) (Go (Running [] p))) x y a b e (line_out p (couldnt_read_line name) line (Go (Running [] p)) x y a b is h)
 
 -- what comes after a reading, by what was read
 after_content : (name rc : List ℕ) (p : Mind) (reply : Reply) → Some rc ≡ content_of reply → Ends (Go (Running (ahead (rc_of rc) []) (entered name p))) ≡ after_read name [] p reply
@@ -135,23 +137,23 @@ stepped : (tree : Statement) (rest : List Item) (p : Mind) (turn : Turn) (x y : 
 stepped tree rest p turn x y a b h =
     executes_then (statement (tree_of tree) p) (λ turn. Ends (next_of rest turn)) turn (next_of rest turn) x y y a b b h (executes_nothing (next_of rest turn) y y b refl)
 
-pub statement_on : (s : State) (items rest : List Statement) (item : Statement) (p q : Mind) (x y z : JournalState) (a b c : View) → items ≡ item ∷ rest → Reaches {X = End} step s (Running (ahead (trees_of items) []) p) x y a b
-    → Executes (statement (tree_of item) p) (GoesOn q) y z b c → Reaches {X = End} step s (Running (ahead (trees_of rest) []) q) x z a c
+pub statement_on : (s : State) (items rest : List Statement) (item : Statement) (p q : Mind) (x y z : JournalState) (a b c : View) → items ≡ item ∷ rest → Reaches {X = Ending} step s (Running (ahead (trees_of items) []) p) x y a b
+    → Executes (statement (tree_of item) p) (GoesOn q) y z b c → Reaches {X = Ending} step s (Running (ahead (trees_of rest) []) q) x z a c
 statement_on s items rest item p q x y z a b c e h k =
     reaches_then step s (Running (Do (tree_of item) ∷ ahead (trees_of rest) []) p) (Running (ahead (trees_of rest) []) q) x y z a b c
-    (subst (λ t. Reaches {X = End} step s t x y a b) (first_statement items item rest p e) h) (stepped item (ahead (trees_of rest) []) p (GoesOn q) y z b c k)
+    (subst (λ t. Reaches {X = Ending} step s t x y a b) (first_statement items item rest p e) h) (stepped item (ahead (trees_of rest) []) p (GoesOn q) y z b c k)
 
-pub statement_ends : (s : State) (items rest : List Statement) (item : Statement) (p : Mind) (end : End) (x y z : JournalState) (a b c : View) → items ≡ item ∷ rest → Reaches {X = End} step s (Running (ahead (trees_of items) []) p) x y a b
-    → Executes (statement (tree_of item) p) (Halts end) y z b c → Completes step s end x z a c
-statement_ends s items rest item p end x y z a b c e h k =
-    completes_then step s (Running (Do (tree_of item) ∷ ahead (trees_of rest) []) p) end x y z a b c
-    (subst (λ t. Reaches {X = End} step s t x y a b) (first_statement items item rest p e) h) (stepped item (ahead (trees_of rest) []) p (Halts end) y z b c k)
+pub statement_ends : (s : State) (items rest : List Statement) (item : Statement) (p q : Mind) (end : End) (x y z : JournalState) (a b c : View) → items ≡ item ∷ rest → Reaches {X = Ending} step s (Running (ahead (trees_of items) []) p) x y a b
+    → Executes (statement (tree_of item) p) (Halts end q) y z b c → Reaches {X = Ending} step s (Over end q) x z a c
+statement_ends s items rest item p q end x y z a b c e h k =
+    reaches_then step s (Running (Do (tree_of item) ∷ ahead (trees_of rest) []) p) (Over end q) x y z a b c
+    (subst (λ t. Reaches {X = Ending} step s t x y a b) (first_statement items item rest p e) h) (stepped item (ahead (trees_of rest) []) p (Halts end q) y z b c k)
 
-pub statement_wants : (s : State) (items rest : List Statement) (item : Statement) (p : Mind) (x y z : JournalState) (a b c : View) → items ≡ item ∷ rest → Reaches {X = End} step s (Running (ahead (trees_of items) []) p) x y a b
-    → OutOfMemory (statement (tree_of item) p) y z b c → Interrupted {X = End} step s x z a c
+pub statement_wants : (s : State) (items rest : List Statement) (item : Statement) (p : Mind) (x y z : JournalState) (a b c : View) → items ≡ item ∷ rest → Reaches {X = Ending} step s (Running (ahead (trees_of items) []) p) x y a b
+    → OutOfMemory (statement (tree_of item) p) y z b c → Interrupted {X = Ending} step s x z a c
 statement_wants s items rest item p x y z a b c e h k =
     interrupted_then step s (Running (Do (tree_of item) ∷ ahead (trees_of rest) []) p) x y z a b c
-    (subst (λ t. Reaches {X = End} step s t x y a b) (first_statement items item rest p e) h) (out_front (statement (tree_of item) p) (λ turn. Ends (next_of (ahead (trees_of rest) []) turn)) y z b c k)
+    (subst (λ t. Reaches {X = Ending} step s t x y a b) (first_statement items item rest p e) h) (out_front (statement (tree_of item) p) (λ turn. Ends (next_of (ahead (trees_of rest) []) turn)) y z b c k)
 
 -- what a statement is
 pub by_text : (item shown : Statement) (p : Mind) (turn : Turn) (x y : JournalState) (a b : View) → item ≡ shown → Executes (statement (tree_of shown) p) turn x y a b → Executes (statement (tree_of item) p) turn x y a b
@@ -164,3 +166,18 @@ pub unset_done : (item : Statement) (name shown : List ℕ) (p : Mind) (turn : T
 unset_done item name shown p turn x s e same is =
     subst (λ i. Executes (statement (tree_of i) p) turn x x s s) (sym e)
     (subst (λ n. Executes (unset n p) turn x x s s) same (subst (λ q. Executes q turn x x s s) (sym is) (executes_nothing turn x x s refl)))
+
+-- a process that is over, and gave its locks back
+pub over_completes : (s : State) (end : End) (q : Mind) (x y z : JournalState) (a b c : View) → Reaches {X = Ending} step s (Over end q) x y a b → GivesEach q.locks y z b c
+    → Completes step s (record { end = end }) x z a c
+over_completes s end q x y z a b c h k =
+    completes_then step s (Over end q) (record { end = end }) x y z a b c h (record {
+      more = k.given;
+      entries = k.entries;
+      plays = unlocks_played q.locks (Stop (record { end = end })) k.given k.accounts.groups k.unlocks k.accounts.honest;
+      accounts = k.accounts;
+    })
+
+pub none_left : (o : Option End) → ((end : End) → o ≢ Some end) → o ≡ None
+none_left None h = refl
+none_left (Some end) h = absurd (h end refl)
