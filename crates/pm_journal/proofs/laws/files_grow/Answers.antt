@@ -1,0 +1,5 @@
+use Rattle.pm_journal.proofs.DeliveriesHold.{files_grow}
+use Rattle.pm_journal.proofs.laws.files_grow.Goals as goal
+
+pub returns : goal.returns
+returns c = files_grow
