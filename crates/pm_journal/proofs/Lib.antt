@@ -8,3 +8,5 @@ pub mod KeepsJoin
 pub mod LocksLeft
 pub mod DeliveriesHold
 pub mod Causes
+pub mod FilesGrow
+pub mod OneGrouping

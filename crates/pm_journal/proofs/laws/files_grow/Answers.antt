@@ -1,4 +1,4 @@
-use Rattle.pm_journal.proofs.DeliveriesHold.{files_grow}
+use Rattle.pm_journal.proofs.FilesGrow.{files_grow}
 use Rattle.pm_journal.proofs.laws.files_grow.Goals as goal
 
 pub returns : goal.returns
