@@ -1,22 +1,28 @@
 -- Each file ends as its opening bytes and what the entries added to it.
-use Rattle.std.proofs.Common.{◌≡◌, ℕ, Bool, true, false, cond, List, [], ◌∷◌, ◌++◌, take, Option, None, refl, sym, ap, ◌∙◌, subst, append_assoc, append-nil, bytes_eq}
+use Rattle.std.proofs.Common.{◌≡◌, ℕ, Bool, true, false, cond, List, [], ◌∷◌, ◌++◌, take, Option, Some, None, refl, sym, ap, ◌∙◌, subst, append_assoc, append-nil, bytes_eq}
 use Rattle.std.proofs.lemmas.Slice.Eq.{bytes_eq-Decides}
 use Rattle.pm_host.specs.World.{World, world_with}
 use Rattle.pm_host.specs.Told.{Tells}
-use Rattle.pm_host.specs.Runs.{AllRight, Steps, after_calls}
+use Rattle.pm_host.specs.Runs.{Steps, after_calls}
 use Rattle.pm_host.specs.declared.nodes.Node.{Node}
 use Rattle.pm_host.specs.declared.calls.Logged.{Logged}
-use Rattle.pm_host.proofs.RunsJoin.{tells_map, after_calls-append}
-use Rattle.pm_journal.specs.Deliveries.{bytes_at, AddsExactly, AddsAsReplied, DeliversRight, added, added_by, all_added, IsNoLock, appends_to, IsUnwritten, Grows, AllGrow}
+use Rattle.pm_host.proofs.RunsJoin.{after_calls-append}
+use Rattle.pm_journal.specs.Deliveries.{bytes_at, AddsExactly, AddsAsReplied, DeliversRight, AllDelivered, added, added_by, all_added, IsNoLock, appends_to, IsUnwritten, Grows, AllGrow}
 use Rattle.pm_journal.specs.Entries.{View, Protocol, Honest, joined, after_unlock, Accounts}
 use Rattle.pm_journal.specs.Held.{lock_name_is}
-use Rattle.pm_journal.proofs.AccountsJoin.{AllRight-split}
-use Rattle.pm_journal.proofs.DeliveriesHold.{act_delivers}
+use Rattle.pm_journal.specs.Laws.{DeliveriesStand, FilesGrow}
+use Rattle.pm_journal.proofs.DeliveriesHold.{accounts_deliver}
 use Rattle.pm_journal.specs.declared.acts.Act.{Act}
 use Rattle.pm_journal.specs.declared.acts.Act.TheVariants.{Append as AppendTo, ReadFile, Probe, Lock, Unlock, SayFile, SayErr, WriteOut, Moment}
 use Rattle.pm_journal.specs.declared.acts.Reply.{Reply}
 use Rattle.pm_journal.specs.declared.acts.Reply.TheVariants.{Done, Torn, Removed}
 use Rattle.pm_journal.specs.declared.acts.Entry.{Entry}
+
+tells_both : {T : Type 0} (R S U : T → T → Type 0) → ((a b : T) → R a b → S a b → U a b) → (x y : Option T) → Tells R x y → Tells S x y → Tells U x y
+tells_both R S U both (Some a) (Some b) r s = both a b r s
+tells_both R S U both (Some a) None r s = tt
+tells_both R S U both None (Some b) r s = absurd r
+tells_both R S U both None None r s = tt
 
 -- what stands at a name after one act
 record Leaves (act : Act) (reply : Reply) (name : List ℕ) (old new : World) : Type 0 where
@@ -74,19 +80,24 @@ grows_then e es name u v w one rest = record {
   same = λ unwritten. rest.same unwritten.1 ∙ one.same unwritten.0;
 }
 
-entries_grow : (es : List Entry) (gs : List (List Logged)) (w : World) (name : List ℕ) → Honest es gs → AllRight (joined gs) w → IsNoLock es name
+entries_grow : (es : List Entry) (gs : List (List Logged)) (w : World) (name : List ℕ) → Honest es gs → AllDelivered es gs w → IsNoLock es name
     → Grows es name w (after_calls (joined gs) w)
-entries_grow [] [] w name h right n = record { bytes = sym (append-nil (bytes_at (w.nodes name))); same = λ unwritten. refl }
-entries_grow [] (g ∷ gs) w name h right n = absurd h
-entries_grow (e ∷ es) [] w name h right n = absurd h
-entries_grow (e ∷ es) (g ∷ gs) w name h right n =
-    let parts = AllRight-split g (joined gs) w right in
-    let one = act_grows e.act e.reply g w (after_calls g w) name h.0 (act_delivers e.act e.reply g w h.0 parts.0) n.0 in
+entries_grow [] [] w name h d n = record { bytes = sym (append-nil (bytes_at (w.nodes name))); same = λ unwritten. refl }
+entries_grow [] (g ∷ gs) w name h d n = absurd h
+entries_grow (e ∷ es) [] w name h d n = absurd h
+entries_grow (e ∷ es) (g ∷ gs) w name h d n =
+    let one = act_grows e.act e.reply g w (after_calls g w) name h.0 d.0 n.0 in
     subst (Grows (e ∷ es) name w) (sym (after_calls-append g (joined gs) w))
-    (grows_then e es name w (after_calls g w) (after_calls (joined gs) (after_calls g w)) one (entries_grow es gs (after_calls g w) name h.1 parts.1 n.1))
+    (grows_then e es name w (after_calls g w) (after_calls (joined gs) (after_calls g w)) one (entries_grow es gs (after_calls g w) name h.1 d.1 n.1))
 
--- each file has its opening bytes and what the entries added
-pub files_grow : (es : List Entry) (a b : View) → Accounts es a b → Tells (AllGrow es) a.host.world b.host.world
-files_grow es a b accounts =
-    tells_map (Steps (joined accounts.groups)) (AllGrow es) (λ w v s name n. subst (Grows es name w) (sym s.made) (entries_grow es accounts.groups w name accounts.honest s.right n))
-    a.host.world b.host.world accounts.ran.world
+all_grow : (es : List Entry) (gs : List (List Logged)) (w v : World) → Honest es gs → AllDelivered es gs w → Steps (joined gs) w v → AllGrow es w v
+all_grow es gs w v h d s name n = subst (Grows es name w) (sym s.made) (entries_grow es gs w name h d n)
+
+-- each file has its opening bytes and what the entries added, where their deliveries stand
+pub files_grow : DeliveriesStand → FilesGrow
+files_grow stand es a b accounts =
+    tells_both (λ w v. AllDelivered es accounts.groups w) (Steps (joined accounts.groups)) (AllGrow es) (λ w v d s. all_grow es accounts.groups w v accounts.honest d s)
+    a.host.world b.host.world (stand es a b accounts) accounts.ran.world
+
+pub accounts_grow : (es : List Entry) (a b : View) → Accounts es a b → Tells (AllGrow es) a.host.world b.host.world
+accounts_grow = files_grow accounts_deliver

@@ -1,13 +1,15 @@
 -- Calls are shared out to entries in one way only.
-use Rattle.std.proofs.Common.{◌≡◌, ◌≤◌, ◌<◌, ℕ, List, [], ◌∷◌, ◌++◌, ◌+◌, length, refl, sym, ap, ◌∙◌, subst, arith}
+use Rattle.std.proofs.Common.{◌≡◌, ◌≤◌, ◌<◌, ℕ, List, [], ◌∷◌, ◌++◌, ◌+◌, length, Option, Some, None, refl, sym, ap, ◌∙◌, subst, arith}
 use Rattle.pm_host.specs.World.{IsAnswerTo}
 use Rattle.pm_host.specs.Runs.{Transitions}
+use Rattle.pm_host.specs.Told.{Tells, Adds}
 use Rattle.pm_host.specs.declared.calls.Call.{Call}
 use Rattle.pm_host.specs.declared.calls.Answer.{Answer}
 use Rattle.pm_host.specs.declared.calls.Logged.{Logged}
 use Rattle.pm_journal.specs.Appending.{AppendGroup, append_step, StepAsks, AppendAsks, append_heard}
 use Rattle.pm_journal.specs.Reading.{ReadState, ReadLooking, ReadOn, ReadEnded, ReadAsks, ReadDone, ReadGroup, read_heard}
-use Rattle.pm_journal.specs.Entries.{FileGroup, Protocol, Honest, joined}
+use Rattle.pm_journal.specs.Entries.{View, FileGroup, Protocol, Honest, joined, Accounts}
+use Rattle.pm_journal.specs.Laws.{OneGrouping, OneAccount, AreTold}
 use Rattle.pm_journal.specs.declared.appending.AppendState.{AppendState}
 use Rattle.pm_journal.specs.declared.appending.AppendState.TheVariants.{Looking}
 use Rattle.pm_journal.specs.declared.appending.AppendEnd.{AppendEnd}
@@ -94,3 +96,23 @@ one_grouping (e ∷ es) (g ∷ gs) [] x y same = absurd y
 one_grouping (e ∷ es) (g ∷ gs) (h ∷ hs) x y same =
     let first = same_group e.act e.reply g h (joined gs) (joined hs) x.0 y.0 same in
     ap (λ k. k ∷ gs) first.group ∙ ap (λ l. h ∷ l) (one_grouping es gs hs x.1 y.1 first.rest)
+
+abbrev rest_after : List Logged → List Logged → List Logged
+rest_after [] l = l
+rest_after (c ∷ cs) l = rest_after cs (rest_of l)
+
+rest_after-append : (cs ds : List Logged) → rest_after cs (cs ++ ds) ≡ ds
+rest_after-append [] ds = refl
+rest_after-append (c ∷ cs) ds = rest_after-append cs ds
+
+-- told calls that were added are known
+same_added : (told told' : Option (List Logged)) (p q : List Logged) → Tells (Adds p) told told' → Tells (Adds q) told told' → AreTold told' → p ≡ q
+same_added (Some l) (Some k) p q x y t = sym (rest_after-append l p) ∙ ap (rest_after l) (sym x ∙ y) ∙ rest_after-append l q
+same_added (Some l) None p q x y t = absurd t
+same_added None (Some k) p q x y t = absurd x
+same_added None None p q x y t = absurd t
+
+-- where the calls are told, two accounts have the same groups
+pub one_account : OneGrouping → OneAccount
+one_account one es a b first second told =
+    one es first.groups second.groups first.honest second.honest (same_added a.host.calls b.host.calls (joined first.groups) (joined second.groups) first.ran.listed second.ran.listed told)
