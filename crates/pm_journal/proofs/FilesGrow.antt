@@ -1,13 +1,12 @@
 -- Each file ends as its opening bytes and what the entries added to it.
 use Rattle.std.proofs.Common.{◌≡◌, ℕ, Bool, true, false, cond, List, [], ◌∷◌, ◌++◌, take, Option, Some, None, refl, sym, ap, ◌∙◌, subst, append_assoc, append-nil, bytes_eq}
 use Rattle.std.proofs.lemmas.Slice.Eq.{bytes_eq-Decides}
-use Rattle.pm_host.specs.World.{World, world_with}
+use Rattle.pm_host.specs.World.{World}
 use Rattle.pm_host.specs.Told.{Tells}
 use Rattle.pm_host.specs.Runs.{Steps, after_calls}
-use Rattle.pm_host.specs.declared.nodes.Node.{Node}
 use Rattle.pm_host.specs.declared.calls.Logged.{Logged}
 use Rattle.pm_host.proofs.RunsJoin.{after_calls-append}
-use Rattle.pm_journal.specs.Deliveries.{bytes_at, AddsExactly, AddsAsReplied, DeliversRight, AllDelivered, added, added_by, all_added, IsNoLock, appends_to, IsUnwritten, Grows, AllGrow}
+use Rattle.pm_journal.specs.Deliveries.{bytes_at, AddsExactly, AddsAsReplied, DeliversRight, AllDelivered, added, added_by, all_added, IsNoLock, appends_to, Grows, AllGrow}
 use Rattle.pm_journal.specs.Entries.{View, Protocol, Honest, joined, after_unlock, Accounts}
 use Rattle.pm_journal.specs.Held.{lock_name_is}
 use Rattle.pm_journal.specs.Laws.{DeliveriesStand, FilesGrow}

@@ -1,14 +1,13 @@
 -- Calls are shared out to entries in one way only.
 use Rattle.std.proofs.Common.{◌≡◌, ◌≤◌, ◌<◌, ℕ, List, [], ◌∷◌, ◌++◌, ◌+◌, length, Option, Some, None, refl, sym, ap, ◌∙◌, subst, arith}
-use Rattle.pm_host.specs.World.{IsAnswerTo}
 use Rattle.pm_host.specs.Runs.{Transitions}
 use Rattle.pm_host.specs.Told.{Tells, Adds}
 use Rattle.pm_host.specs.declared.calls.Call.{Call}
 use Rattle.pm_host.specs.declared.calls.Answer.{Answer}
 use Rattle.pm_host.specs.declared.calls.Logged.{Logged}
-use Rattle.pm_journal.specs.Appending.{AppendGroup, append_step, StepAsks, AppendAsks, append_heard}
-use Rattle.pm_journal.specs.Reading.{ReadState, ReadLooking, ReadOn, ReadEnded, ReadAsks, ReadDone, ReadGroup, read_heard}
-use Rattle.pm_journal.specs.Entries.{View, FileGroup, Protocol, Honest, joined, Accounts}
+use Rattle.pm_journal.specs.Appending.{append_step, StepAsks, AppendAsks, append_heard}
+use Rattle.pm_journal.specs.Reading.{ReadState, ReadLooking, ReadOn, ReadEnded, ReadAsks, ReadDone, read_heard}
+use Rattle.pm_journal.specs.Entries.{FileGroup, Protocol, Honest, joined}
 use Rattle.pm_journal.specs.Laws.{OneGrouping, OneAccount, AreTold}
 use Rattle.pm_journal.specs.declared.appending.AppendState.{AppendState}
 use Rattle.pm_journal.specs.declared.appending.AppendState.TheVariants.{Looking}
