@@ -10,3 +10,4 @@ pub mod DeliveriesHold
 pub mod Causes
 pub mod FilesGrow
 pub mod OneGrouping
+pub mod Spans

@@ -1,5 +1,5 @@
 -- Known bytes that stayed, and then were read.
-use Rattle.std.proofs.Common.{◌≡◌, ℕ, List, ◌++◌, take, append-nil, ap, Option, Some, None, refl, sym, ◌∙◌, subst}
+use Rattle.std.proofs.Common.{ℕ, List, ◌++◌, take, append-nil, ap, Option, Some, None, refl, sym, ◌∙◌}
 use Rattle.std.specs.Io.KnownBytes.{Keeps, Consumes, Appends}
 
 pub kept_consumes : (a b c : Option (List ℕ)) (bs : List ℕ) → Keeps a b → Consumes b c bs → Consumes a c bs
