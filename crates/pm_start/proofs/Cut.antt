@@ -14,8 +14,8 @@ not_true false h = refl
 pub lacks_before : (sign : ℕ) (hay : List ℕ) (k : ℕ) → k ≤ length hay → Nowhere (Passes (is_byte sign) hay) 0 k → list_any (λ b. b == sign) (take k hay) ≡ false
 lacks_before sign hay k within nowhere =
     list_any_none (λ b. b == sign) (take k hay) (All-from_get_or (λ b. (b == sign) ≡ false) (take k hay) 0 (λ i less.
-      let below : i < k = subst (λ n. i < n) (length-take-le k hay within) less in
-      subst (λ b. (b == sign) ≡ false) (sym (get_or-take k hay i 0 below)) (not_true (get_or hay i 0 == sign) (nowhere i (omega arith) below))))
+    let below : i < k = subst (λ n. i < n) (length-take-le k hay within) less in
+    subst (λ b. (b == sign) ≡ false) (sym (get_or-take k hay i 0 below)) (not_true (get_or hay i 0 == sign) (nowhere i (omega arith) below))))
 
 is_sign : (b sign : ℕ) → (b == sign) ≡ true → b ≡ sign
 is_sign b sign h = grind arith

@@ -47,7 +47,14 @@ const LONG: &[u8] = b"LONG=01234567890123456789012345678901234567890123456789012
 fn reads_variables_that_can_be_names(rt: HostRuntime) {
     let env = Given {
         words: &[],
-        entries: &[b"HOME=/home/joe", b"no sign", LONG, b"BAD=\xff", b"SUM=a=b", b"EMPTY="],
+        entries: &[
+            b"HOME=/home/joe",
+            b"no sign",
+            LONG,
+            b"BAD=\xff",
+            b"SUM=a=b",
+            b"EMPTY=",
+        ],
     };
     let Ok(pairs) = read_environment(rt.alloc(), &env) else {
         panic!(rt; "want of memory");
