@@ -1,7 +1,7 @@
 # What the scripts of this folder share: the built program, a fresh folder in which they run, and how they fail.
 name=$(basename "$0" .sh)
 cd "$(dirname "$0")/.."
-make -s build
+make -s build > /dev/null
 program=$PWD/bin/procmail
 folder=$(mktemp -d)
 trap 'rm -rf "$folder"' EXIT

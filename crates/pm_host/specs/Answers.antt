@@ -10,6 +10,7 @@ abbrev pub read_answer : Got → List ℕ → Answer
 read_answer (GotSome n) room = AnswerRead (take n room)
 read_answer GotFailed room = AnswerFailed
 
+-- no more came than the room holds
 abbrev pub IsWithin : Got → ℕ → Type 0
 IsWithin (GotSome n) room = n ≤ room
 IsWithin GotFailed room = Unit {0}

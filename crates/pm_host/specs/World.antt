@@ -23,6 +23,7 @@ use Rattle.pm_host.specs.declared.calls.Answer.TheVariants.{Look as AnswerLook, 
 abbrev pub Nodes : Type 0
 Nodes = List ℕ → Option Node
 
+-- a tree of files with its moment
 pub record World : Type 0 where
   pub nodes : Nodes
   pub moment : ℤ
@@ -49,18 +50,22 @@ kept (Some (AFile f)) len = Some (AFile (record { bytes = take len f.bytes; made
 kept (Some AFolder) len = Some AFolder
 kept None len = None
 
+-- the world after a `create`
 abbrev pub after_create : Answer → List ℕ → World → World
 after_create (AnswerCreate MadeNew) name w = world_with w name (Some (AFile (record { bytes = []; made = w.moment })))
 after_create other name w = w
 
+-- the world after an `append`
 abbrev pub after_append : Answer → List ℕ → List ℕ → World → World
 after_append (AnswerAppend (TookSome n)) name piece w = world_with w name (grown (w.nodes name) (take n piece))
 after_append other name piece w = w
 
+-- the world after a `cut`
 abbrev pub after_cut : Answer → List ℕ → ℕ → World → World
 after_cut (AnswerCut CutDone) name len w = world_with w name (kept (w.nodes name) len)
 after_cut other name len w = w
 
+-- the world after a `remove`
 abbrev pub after_remove : Answer → List ℕ → World → World
 after_remove (AnswerRemove RemovedDone) name w = world_with w name None
 after_remove other name w = w
@@ -85,6 +90,7 @@ after_call Now answer w = w
 abbrev pub after_child : Call → Answer → Child → Child
 after_child call answer child = child
 
+-- a file stands there
 abbrev pub IsFile : Option Node → Type 0
 IsFile (Some (AFile f)) = Unit {0}
 IsFile (Some AFolder) = ⊥
@@ -108,6 +114,7 @@ ReadsRight (Some (AFile f)) at bytes = (bytes ≡ take (length bytes) (drop at f
 ReadsRight (Some AFolder) at bytes = ⊥
 ReadsRight None at bytes = ⊥
 
+-- what `create` may answer over what stands there
 abbrev pub MakesRight : Option Node → Made → Type 0
 MakesRight (Some n) MadeNew = ⊥
 MakesRight None MadeNew = Unit {0}
@@ -115,14 +122,17 @@ MakesRight (Some n) Exists = Unit {0}
 MakesRight None Exists = ⊥
 MakesRight _ MadeFailed = Unit {0}
 
+-- what `append` may answer over what stands there
 abbrev pub AppendsRight : Option Node → Took → Type 0
 AppendsRight here (TookSome n) = IsFile here
 AppendsRight _ TookFailed = Unit {0}
 
+-- what `cut` may answer over what stands there
 abbrev pub CutsRight : Option Node → Cut → Type 0
 CutsRight here CutDone = IsFile here
 CutsRight _ CutFailed = Unit {0}
 
+-- what `remove` may answer over what stands there
 abbrev pub RemovesRight : Option Node → Removed → Type 0
 RemovesRight here RemovedDone = IsFile here
 RemovesRight (Some n) Absent = ⊥
@@ -145,6 +155,7 @@ pub record Step (call : Call) (answer : Answer) (old new : World) : Type 0 where
   pub right : IsRight call answer old
   pub made : new ≡ after_call call answer old
 
+-- at least one byte was taken, and no more than this
 abbrev pub TookAtMost : ℕ → Took → Type 0
 TookAtMost most (TookSome n) = (1 ≤ n) × (n ≤ most)
 TookAtMost most TookFailed = Unit {0}
@@ -161,6 +172,7 @@ IsAnswerTo (Remove name) (AnswerRemove _) = Unit {0}
 IsAnswerTo Now (AnswerNow moment) = Unit {0}
 IsAnswerTo call answer = ⊥
 
+-- the call failed
 abbrev pub IsFailed : Answer → Type 0
 IsFailed (AnswerLook LookFailed) = Unit {0}
 IsFailed (AnswerCreate MadeFailed) = Unit {0}

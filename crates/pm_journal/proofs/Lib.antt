@@ -15,3 +15,6 @@ pub mod WalkJoin
 pub mod PlanLeads
 pub mod FirstActs
 pub mod KeepingActs
+pub mod FilesGrow
+pub mod OneGrouping
+pub mod Spans

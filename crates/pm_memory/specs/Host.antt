@@ -38,6 +38,7 @@ limits_of h = limits_in h.plan
 abbrev pub record_of : MemoryHost → Calls
 record_of h = h.calls
 
+-- the calls that it took
 abbrev pub calls_of : MemoryHost → List Logged
 calls_of h = h.calls.list.items
 
@@ -49,6 +50,7 @@ reserved_of h = h.calls.reserved
 abbrev pub came_of : MemoryHost → ℕ
 came_of h = h.calls.came
 
+-- its count of faults
 abbrev pub faults_of : MemoryHost → ℕ
 faults_of h = h.calls.faults
 

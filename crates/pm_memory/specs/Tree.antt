@@ -16,6 +16,7 @@ world_in t = record { nodes = λ name. get_by_text t.nodes name; moment = t.mome
 abbrev pub no_files : ℤ → World
 no_files moment = record { nodes = λ name. None; moment = moment; others = [] }
 
+-- what stands at a name of the tree
 abbrev pub node_at : Tree → List ℕ → Option Node
 node_at t name = (world_in t).nodes name
 

@@ -19,6 +19,7 @@ makes_line bytes AddMissing = not (has_from_line bytes)
 makes_line bytes (Sender who) = true
 makes_line bytes Date = true
 
+-- the byte ends a line
 abbrev pub is_newline : ℕ → Bool
 is_newline byte = byte == 10
 
@@ -26,6 +27,7 @@ is_newline byte = byte == 10
 abbrev pub without_line : List ℕ → List ℕ
 without_line bytes = if has_from_line bytes then after_first is_newline bytes else bytes
 
+-- the byte is no blank
 abbrev pub is_no_blank : ℕ → Bool
 is_no_blank byte = not (is_blank_byte byte)
 

@@ -14,9 +14,11 @@ abbrev pub body_lines : List (List ℕ) → List (List ℕ)
 body_lines [] = []
 body_lines (line ∷ rest) = if bytes_eq line (codes "\n") then rest else body_lines rest
 
+-- the lines up to the first empty one, and it
 abbrev pub head_of : List ℕ → List ℕ
 head_of bytes = concat (head_lines (lines bytes))
 
+-- the lines behind them
 abbrev pub body_of : List ℕ → List ℕ
 body_of bytes = concat (body_lines (lines bytes))
 

@@ -25,7 +25,7 @@ pub struct RealHost<R: Files + Clock + Clone + Drop> {
 }
 
 impl<R: Files + Clock + Clone + Drop> RealHost<R> {
-    /// The allocator and the process number serve the names of files that hold what children write.
+    /// The allocator and the process number are for the names of files that children will write to. Neither is used yet.
     pub fn new(rt: &R, _alloc: Global, _pid: u32) -> Result<RealHost<R>, Memory>
         ensures { IfOk result (λ host. host.faults ≡ 0) }
     {

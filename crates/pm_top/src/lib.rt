@@ -9,5 +9,5 @@ pub mod top;
 pub mod words;
 
 pub use drain::{Mail, read_mail};
-pub use top::procmail;
+pub use top::{procmail, refuse};
 pub use words::read_words;

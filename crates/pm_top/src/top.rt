@@ -125,8 +125,8 @@ fn finish<E: Sink>(err: &mut E, end: End) -> Status
     }
 }
 
-// Says the line of this status. It takes no memory.
-fn refuse<E: Sink>(err: &mut E, status: Status) -> Status
+/// Says the line of this status, if it has one, and answers the status. It takes no memory.
+pub fn refuse<E: Sink>(err: &mut E, status: Status) -> Status
     ensures same { result ≡ status }
     ensures said { SaysLine (status_line status) (E.told err.old) (E.told err.new) }
 {

@@ -2,39 +2,42 @@
 //! status of the run.
 #![tactic(auto)]
 
-mod surroundings;
-
-use pm_bytes::Memory;
+use pm_bytes::{Environ, Memory};
 use pm_journal::Journal;
+use pm_meaning::Status;
 use pm_real::{RealHost, RealSink, RealSource};
-use pm_top::procmail;
+use pm_start::{Words, machine_name, read_environment, read_words};
+use pm_top::{procmail, refuse};
+use std::fs;
+use std::io::Stderr;
 use std::process::ExitCode;
-use surroundings::{Words, environment, read_words};
-
-// The numbers of sysexits(3) for a run that doesn't begin.
-const USAGE: u8 = 64;
-
-const SYSTEM_ERROR: u8 = 71;
 
 fn main(rt: HostRuntime) -> ExitCode {
-    let status = match read_words(&rt) {
-        Words::Read(words) => match run(&rt, words.as_slice()) {
-            Ok(status) => status,
-            Err(Memory) => SYSTEM_ERROR,
-        },
-        Words::NoText => USAGE,
-        Words::Memory => SYSTEM_ERROR,
+    let status = match RealSink::stderr(&rt, rt.alloc()) {
+        Ok(mut err) => run(&rt, &mut err),
+        Err(Memory) => Status::SystemError.number(),
     };
     ExitCode::from(status)
 }
 
-fn run(rt: &HostRuntime, words: &[String]) -> Result<u8, Memory> {
+// Words that aren't UTF-8 are refused like all others that aren't read.
+fn run(rt: &HostRuntime, err: &mut RealSink<Stderr>) -> u8 {
+    match read_words(rt.alloc(), rt) {
+        Words::Read(words) => match deliver(rt, words.as_slice(), err) {
+            Ok(status) => status,
+            Err(Memory) => refuse(err, Status::SystemError).number(),
+        },
+        Words::NoText => refuse(err, Status::Usage).number(),
+        Words::Memory => refuse(err, Status::SystemError).number(),
+    }
+}
+
+fn deliver(rt: &HostRuntime, words: &[String], err: &mut RealSink<Stderr>) -> Result<u8, Memory> {
     let alloc = rt.alloc();
-    let env = environment(rt)?;
+    let env = surroundings(rt)?;
     let mut source = RealSource::stdin(rt, alloc)?;
     let mut host = RealHost::new(rt, alloc, env.pid)?;
     let mut out = RealSink::stdout(rt, alloc)?;
-    let mut err = RealSink::stderr(rt, alloc)?;
     let mut journal = Journal::new(alloc);
     Ok(procmail(
         alloc,
@@ -43,7 +46,21 @@ fn run(rt: &HostRuntime, words: &[String]) -> Result<u8, Memory> {
         &mut source,
         &mut host,
         &mut out,
-        &mut err,
+        err,
         &mut journal,
     ))
+}
+
+// A machine whose `/etc/hostname` can't be read has no name there.
+fn surroundings(rt: &HostRuntime) -> Result<Environ, Memory> {
+    let alloc = rt.alloc();
+    let host_name = match fs::read(rt, "/etc/hostname") {
+        Ok(text) => machine_name(alloc, text.as_slice())?,
+        Err(_) => machine_name(alloc, b"")?,
+    };
+    Ok(Environ {
+        vars: read_environment(alloc, rt)?,
+        pid: std::process::id(rt.process()),
+        host_name,
+    })
 }

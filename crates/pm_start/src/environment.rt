@@ -1,0 +1,100 @@
+//! The environment that the program is started with.
+ghost use Rattle.std.specs.Prelude.{◌≡◌, ◌⊎◌, None, true, false, codes, IfOk, IfSome};
+ghost use Rattle.pm_bytes.specs.Name.{is_usable};
+ghost use Rattle.pm_start.specs.Entry.{Lacks, IsEntry, HasUnusable, IsMachineName, name_in};
+
+use crate::{before_sign, first_line};
+use pm_bytes::{Memory, Name, NameRefused, Pair, Pairs};
+use std::alloc::Global;
+use std::env::{Env, FillError};
+
+/// Reads the variables whose name and value can each be a `Name`, in order.
+pub fn read_environment<R: Env>(alloc: Global, env: &R) -> Result<Pairs, Memory> {
+    let mut vars = Vec::new(alloc);
+    for index in 0..usize::MAX {
+        let Some(entry) = read_entry(alloc, env, index)? else {
+            break;
+        };
+        if let Some(pair) = read_pair(alloc, entry.as_slice())? {
+            vars.push(pair)?;
+        }
+    }
+    Ok(Pairs::from_vec(vars))
+}
+
+// One entry of the environment, as `NAME=value`; None behind the last. The room grows until the entry fits.
+fn read_entry<R: Env>(alloc: Global, env: &R, index: usize) -> Result<Option<Vec<u8>>, Memory> {
+    let mut size = 256usize;
+    for _ in 0..usize::BITS {
+        let mut room = vec![in alloc; 0u8; size]?;
+        match env.var_at(index, room.as_mut_slice()) {
+            Ok(length) => {
+                room.truncate(length);
+                return Ok(Some(room));
+            }
+            Err(FillError::NotPresent) => return Ok(None),
+            Err(FillError::TooLong) => size = size.saturating_mul(2),
+        }
+    }
+    Err(Memory)
+}
+
+/// The name before the first equals sign and the value behind it, where each can be a `Name`.
+#[tactic(auto, using(crate::proofs::Machine::unusable_name, crate::proofs::Machine::unusable_value))]
+pub fn read_pair(alloc: Global, entry: &[u8]) -> Result<Option<Pair>, Memory>
+    ensures pair { IfOk result (λ found. IfSome found (λ pair. IsEntry entry.now pair.name pair.value)) }
+    ensures none { IfOk result (λ found. found ≡ None → Lacks 61 entry.now ⊎ HasUnusable entry.now) }
+{
+    let Some((name, value)) = before_sign(entry, b'=') else {
+        return Ok(None);
+    };
+    let Some(name) = usable(alloc, name)? else {
+        return Ok(None);
+    };
+    let Some(value) = usable(alloc, value)? else {
+        return Ok(None);
+    };
+    Ok(Some(Pair { name, value }))
+}
+
+fn usable(alloc: Global, bytes: &[u8]) -> Result<Option<Name>, Memory>
+    ensures name { IfOk result (λ found. IfSome found (λ name. (name ≡ bytes.now) × (is_usable bytes.now ≡ true))) }
+    ensures none { IfOk result (λ found. found ≡ None → is_usable bytes.now ≡ false) }
+{
+    match Name::read(alloc, bytes) {
+        Ok(name) => Ok(Some(name)),
+        Err(NameRefused::Unusable) => Ok(None),
+        Err(NameRefused::Memory) => Err(Memory),
+    }
+}
+
+/// The machine's name, by the text of `/etc/hostname`: its first line, where it can be a name and isn't empty, else
+/// `localhost`.
+#[tactic(auto, using(crate::proofs::Machine::is_machine_name))]
+pub fn machine_name(alloc: Global, text: &[u8]) -> Result<Name, Memory>
+    ensures { IfOk result (λ name. IsMachineName text.now name) }
+{
+    name_or_local(alloc, first_line(text))
+}
+
+#[tactic(auto, using(crate::proofs::Machine::name_in_line, crate::proofs::Machine::name_in_other))]
+fn name_or_local(alloc: Global, line: &[u8]) -> Result<Name, Memory>
+    ensures { IfOk result (λ name. name ≡ name_in line.now) }
+{
+    if line.is_empty() {
+        return local(alloc);
+    }
+    match usable(alloc, line)? {
+        Some(name) => Ok(name),
+        None => local(alloc),
+    }
+}
+
+fn local(alloc: Global) -> Result<Name, Memory>
+    ensures { IfOk result (λ name. name ≡ codes "localhost") }
+{
+    match usable(alloc, b"localhost")? {
+        Some(name) => Ok(name),
+        None => Err(Memory),
+    }
+}

@@ -1,0 +1,12 @@
+//! What a program is started with: the words behind its name, its environment and the machine's name.
+#![tactic(auto)]
+
+mod environment;
+mod first;
+#[cfg(test)]
+mod tests;
+mod words;
+
+pub use environment::{machine_name, read_environment, read_pair};
+pub use first::{before_sign, first_line};
+pub use words::{Words, read_words, without_first};
