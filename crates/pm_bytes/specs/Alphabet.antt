@@ -110,18 +110,22 @@ MINUS = 45
 abbrev pub ZERO : ℕ
 ZERO = 48
 
--- each is the byte of its character
+-- each name is the byte of its character: blanks and the newline
 blanks : codes " \t\n" ≡ SPACE ∷ TAB ∷ NEWLINE ∷ []
 blanks = refl
 
+-- the backslash and quotes
 quotes : codes "\\'\"`" ≡ BACKSLASH ∷ SINGLE_QUOTE ∷ DOUBLE_QUOTE ∷ BACKQUOTE ∷ []
 quotes = refl
 
+-- braces, parentheses and brackets
 brackets : codes "{}()[]" ≡ OPEN_BRACE ∷ CLOSE_BRACE ∷ OPEN_PARENTHESIS ∷ CLOSE_PARENTHESIS ∷ OPEN_BRACKET ∷ CLOSE_BRACKET ∷ []
 brackets = refl
 
+-- signs
 signs : codes "$#:_=|!" ≡ DOLLAR ∷ HASH ∷ COLON ∷ UNDERSCORE ∷ EQUALS ∷ BAR ∷ BANG ∷ []
 signs = refl
 
+-- signs of expressions and numbers
 others : codes "*?^.+-0" ≡ STAR ∷ QUESTION ∷ CARET ∷ DOT ∷ PLUS ∷ MINUS ∷ ZERO ∷ []
 others = refl
