@@ -4,7 +4,7 @@ use Rattle.std.proofs.lemmas.List.{drop-drop, take_all}
 use Rattle.std.proofs.lemmas.Bool.Decides.{nat_tests}
 use Rattle.pm_recipe.specs.declared.fronts.Front.{Front}
 use Rattle.pm_recipe.specs.declared.fronts.Situation.{Situation}
-use Rattle.pm_recipe.specs.declared.bytes.TheConstants.{NEWLINE}
+use Rattle.pm_bytes.specs.Alphabet.{NEWLINE}
 use Rattle.pm_recipe.specs.declared.fronts.Kind.TheVariants.{Close, Missing}
 use Rattle.pm_recipe.specs.Front.{front_of}
 use Rattle.pm_recipe.specs.Spans.{Span, spans, span_of, situation_after, line_past, newlines, bare, ends, missed}

@@ -2,9 +2,9 @@
 use Rattle.std.proofs.Common.{◌≡◌, ◌+◌, ◌≤◌, ℕ, zero, suc, Bool, true, false, not, ◌&&◌, ◌||◌, cond, nat_eq, List, [], ◌∷◌, ◌++◌, refl, ap, sym, ◌∙◌, length, take, drop, arith, subst}
 use Rattle.std.proofs.lemmas.Bool.{cond_both}
 use Rattle.std.proofs.lemmas.Bool.Decides.{nat_tests}
-use Rattle.pm_bytes.specs.Letter.{is_blank_byte}
-use Rattle.pm_recipe.specs.Bytes.{begins_with, is_name_byte}
-use Rattle.pm_recipe.specs.declared.bytes.TheConstants.{NEWLINE, HASH}
+use Rattle.pm_bytes.specs.Letter.{is_blank_byte, is_name_byte}
+use Rattle.pm_recipe.specs.Bytes.{begins_with}
+use Rattle.pm_bytes.specs.Alphabet.{NEWLINE, HASH}
 use Rattle.pm_recipe.specs.declared.places.Place.{Place}
 use Rattle.pm_recipe.specs.declared.places.Place.TheVariants as place
 use Rattle.pm_recipe.specs.Places.{ends_at, place_after, joins_before, place_behind, reach_of, far, behind}

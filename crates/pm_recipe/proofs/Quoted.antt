@@ -1,7 +1,8 @@
 -- A reader of words comes as far as a word goes, and no quote is open there.
 use Rattle.std.proofs.Common.{◌≡◌, ◌+◌, ℕ, Bool, true, false, not, ◌&&◌, cond, nat_eq, List, [], ◌∷◌, ◌++◌, refl, ap, sym, ◌∙◌, length, arith, subst}
-use Rattle.pm_recipe.specs.Bytes.{begins_with, is_space}
-use Rattle.pm_recipe.specs.declared.bytes.TheConstants.{SINGLE, DOUBLE, BACKQUOTE, BACKSLASH}
+use Rattle.pm_bytes.specs.Letter.{is_space_byte}
+use Rattle.pm_recipe.specs.Bytes.{begins_with}
+use Rattle.pm_bytes.specs.Alphabet.{SINGLE_QUOTE, DOUBLE_QUOTE, BACKQUOTE, BACKSLASH}
 use Rattle.pm_recipe.specs.declared.places.Place.{Place}
 use Rattle.pm_recipe.specs.declared.places.Place.TheVariants as place
 use Rattle.pm_recipe.specs.Places.{joins_at, ends_at, place_after, joins_before, reach_of, rest_of}
@@ -53,12 +54,12 @@ is-false false h = refl
 is-false true h = sym h
 
 -- a byte of a word
-pub plain-on : (byte : ℕ) (rest : List ℕ) → is_space byte ≡ false → nat_eq byte BACKSLASH ≡ false → nat_eq byte SINGLE ≡ false → nat_eq byte DOUBLE ≡ false
+pub plain-on : (byte : ℕ) (rest : List ℕ) → is_space_byte byte ≡ false → nat_eq byte BACKSLASH ≡ false → nat_eq byte SINGLE_QUOTE ≡ false → nat_eq byte DOUBLE_QUOTE ≡ false
     → nat_eq byte BACKQUOTE ≡ false → Goes place.Word (byte ∷ rest) place.Word rest
 plain-on byte rest space backslash single double backquote =
     byte-on place.Word place.Word byte rest (ap (λ b. b && begins_with 10 rest) backslash) space
-    (ap (λ b. cond b place.Escaped (cond (nat_eq byte SINGLE) place.Single (cond (nat_eq byte DOUBLE) place.Double (cond (nat_eq byte BACKQUOTE) place.Backquote place.Word)))) backslash
-    ∙ ap (λ b. cond b place.Single (cond (nat_eq byte DOUBLE) place.Double (cond (nat_eq byte BACKQUOTE) place.Backquote place.Word))) single
+    (ap (λ b. cond b place.Escaped (cond (nat_eq byte SINGLE_QUOTE) place.Single (cond (nat_eq byte DOUBLE_QUOTE) place.Double (cond (nat_eq byte BACKQUOTE) place.Backquote place.Word)))) backslash
+    ∙ ap (λ b. cond b place.Single (cond (nat_eq byte DOUBLE_QUOTE) place.Double (cond (nat_eq byte BACKQUOTE) place.Backquote place.Word))) single
     ∙ ap (λ b. cond b place.Double (cond (nat_eq byte BACKQUOTE) place.Backquote place.Word)) double
     ∙ ap (λ b. cond b place.Backquote place.Word) backquote)
 
@@ -92,24 +93,24 @@ inner-command-on marks rest good =
     marks-on place.Inner place.InnerEscaped place.Double refl refl (λ b. refl) (λ b. refl) (λ b. refl) (λ b. refl) marks rest good
 
 -- a byte in double quotes
-pub double-plain-on : (byte : ℕ) (rest : List ℕ) → nat_eq byte BACKSLASH ≡ false → nat_eq byte DOUBLE ≡ false → nat_eq byte BACKQUOTE ≡ false
+pub double-plain-on : (byte : ℕ) (rest : List ℕ) → nat_eq byte BACKSLASH ≡ false → nat_eq byte DOUBLE_QUOTE ≡ false → nat_eq byte BACKQUOTE ≡ false
     → Goes place.Double (byte ∷ rest) place.Double rest
 double-plain-on byte rest backslash double backquote =
     byte-on place.Double place.Double byte rest refl refl
-    (ap (λ b. cond b place.DoubleEscaped (cond (nat_eq byte DOUBLE) place.Word (cond (nat_eq byte BACKQUOTE) place.Inner place.Double))) backslash
+    (ap (λ b. cond b place.DoubleEscaped (cond (nat_eq byte DOUBLE_QUOTE) place.Word (cond (nat_eq byte BACKQUOTE) place.Inner place.Double))) backslash
     ∙ ap (λ b. cond b place.Word (cond (nat_eq byte BACKQUOTE) place.Inner place.Double)) double
     ∙ ap (λ b. cond b place.Inner place.Double) backquote)
 
 pub inners-on : (inners : List Inner) (rest : List ℕ) → are_inners inners ≡ true → Goes place.Double (inners_text inners rest) place.Word rest
-inners-on [] rest good = byte-on place.Double place.Word DOUBLE rest refl refl refl
+inners-on [] rest good = byte-on place.Double place.Word DOUBLE_QUOTE rest refl refl refl
 inners-on (Inner.Plain byte ∷ inners) rest good =
-    let three = and-left (not (nat_eq byte BACKSLASH) && not (nat_eq byte DOUBLE) && not (nat_eq byte BACKQUOTE)) (are_inners inners) good in
-    let two = and-left (not (nat_eq byte BACKSLASH) && not (nat_eq byte DOUBLE)) (not (nat_eq byte BACKQUOTE)) three in
+    let three = and-left (not (nat_eq byte BACKSLASH) && not (nat_eq byte DOUBLE_QUOTE) && not (nat_eq byte BACKQUOTE)) (are_inners inners) good in
+    let two = and-left (not (nat_eq byte BACKSLASH) && not (nat_eq byte DOUBLE_QUOTE)) (not (nat_eq byte BACKQUOTE)) three in
     on place.Double place.Double place.Word _ (inners_text inners rest) rest
-    (double-plain-on byte _ (is-false _ (and-left (not (nat_eq byte BACKSLASH)) (not (nat_eq byte DOUBLE)) two))
-    (is-false _ (and-right (not (nat_eq byte BACKSLASH)) (not (nat_eq byte DOUBLE)) two))
-    (is-false _ (and-right (not (nat_eq byte BACKSLASH) && not (nat_eq byte DOUBLE)) (not (nat_eq byte BACKQUOTE)) three)))
-    (inners-on inners rest (and-right (not (nat_eq byte BACKSLASH) && not (nat_eq byte DOUBLE) && not (nat_eq byte BACKQUOTE)) (are_inners inners) good))
+    (double-plain-on byte _ (is-false _ (and-left (not (nat_eq byte BACKSLASH)) (not (nat_eq byte DOUBLE_QUOTE)) two))
+    (is-false _ (and-right (not (nat_eq byte BACKSLASH)) (not (nat_eq byte DOUBLE_QUOTE)) two))
+    (is-false _ (and-right (not (nat_eq byte BACKSLASH) && not (nat_eq byte DOUBLE_QUOTE)) (not (nat_eq byte BACKQUOTE)) three)))
+    (inners-on inners rest (and-right (not (nat_eq byte BACKSLASH) && not (nat_eq byte DOUBLE_QUOTE) && not (nat_eq byte BACKQUOTE)) (are_inners inners) good))
 inners-on (Inner.Taken byte ∷ inners) rest good =
     on place.Double place.DoubleEscaped place.Word _ (byte ∷ inners_text inners rest) rest (byte-on place.Double place.DoubleEscaped BACKSLASH _ refl refl refl)
     (on place.DoubleEscaped place.Double place.Word _ (inners_text inners rest) rest (byte-on place.DoubleEscaped place.Double byte _ refl refl refl) (inners-on inners rest good))
@@ -118,20 +119,20 @@ inners-on (Inner.Command marks ∷ inners) rest good =
     (on place.Inner place.Double place.Word _ (inners_text inners rest) rest (inner-command-on marks _ (and-left _ (are_inners inners) good))
     (inners-on inners rest (and-right (are_marks marks) _ good)))
 
-pub single-on : (bytes rest : List ℕ) → are_single bytes ≡ true → Goes place.Single (bytes ++ (SINGLE ∷ rest)) place.Word rest
-single-on [] rest good = byte-on place.Single place.Word SINGLE rest refl refl refl
+pub single-on : (bytes rest : List ℕ) → are_single bytes ≡ true → Goes place.Single (bytes ++ (SINGLE_QUOTE ∷ rest)) place.Word rest
+single-on [] rest good = byte-on place.Single place.Word SINGLE_QUOTE rest refl refl refl
 single-on (byte ∷ bytes) rest good =
-    on place.Single place.Single place.Word _ (bytes ++ (SINGLE ∷ rest)) rest
+    on place.Single place.Single place.Word _ (bytes ++ (SINGLE_QUOTE ∷ rest)) rest
     (byte-on place.Single place.Single byte _ refl refl (ap (λ b. cond b place.Word place.Single) (is-false _ (and-left _ (are_single bytes) good))))
-    (single-on bytes rest (and-right (not (nat_eq byte SINGLE)) _ good))
+    (single-on bytes rest (and-right (not (nat_eq byte SINGLE_QUOTE)) _ good))
 
 pub word-on : (parts : List Part) (rest : List ℕ) → are_parts parts ≡ true → Goes place.Word (word_text parts rest) place.Word rest
 word-on [] rest good = none-gone place.Word rest
 word-on (Part.Plain byte ∷ parts) rest good =
-    let a = not (is_space byte) in
+    let a = not (is_space_byte byte) in
     let b = not (nat_eq byte BACKSLASH) in
-    let c = not (nat_eq byte SINGLE) in
-    let d = not (nat_eq byte DOUBLE) in
+    let c = not (nat_eq byte SINGLE_QUOTE) in
+    let d = not (nat_eq byte DOUBLE_QUOTE) in
     let e = not (nat_eq byte BACKQUOTE) in
     let five = and-left (a && b && c && d && e) (are_parts parts) good in
     let four = and-left (a && b && c && d) e five in
@@ -143,11 +144,11 @@ word-on (Part.Plain byte ∷ parts) rest good =
     (word-on parts rest (and-right (a && b && c && d && e) (are_parts parts) good))
 word-on (Part.Taken byte ∷ parts) rest good = on place.Word place.Word place.Word _ (word_text parts rest) rest (taken-on byte _) (word-on parts rest good)
 word-on (Part.Single bytes ∷ parts) rest good =
-    on place.Word place.Single place.Word _ (bytes ++ (SINGLE ∷ word_text parts rest)) rest (byte-on place.Word place.Single SINGLE _ refl refl refl)
+    on place.Word place.Single place.Word _ (bytes ++ (SINGLE_QUOTE ∷ word_text parts rest)) rest (byte-on place.Word place.Single SINGLE_QUOTE _ refl refl refl)
     (on place.Single place.Word place.Word _ (word_text parts rest) rest (single-on bytes _ (and-left _ (are_parts parts) good))
     (word-on parts rest (and-right (are_single bytes) _ good)))
 word-on (Part.Double inners ∷ parts) rest good =
-    on place.Word place.Double place.Word _ (inners_text inners (word_text parts rest)) rest (byte-on place.Word place.Double DOUBLE _ refl refl refl)
+    on place.Word place.Double place.Word _ (inners_text inners (word_text parts rest)) rest (byte-on place.Word place.Double DOUBLE_QUOTE _ refl refl refl)
     (on place.Double place.Word place.Word _ (word_text parts rest) rest (inners-on inners _ (and-left _ (are_parts parts) good))
     (word-on parts rest (and-right (are_inners inners) _ good)))
 word-on (Part.Command marks ∷ parts) rest good =

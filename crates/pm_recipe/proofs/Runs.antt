@@ -2,7 +2,7 @@
 use Rattle.std.proofs.Common.{◌≡◌, ◌+◌, ℕ, suc, Bool, true, false, not, ◌&&◌, ◌||◌, cond, nat_eq, List, [], ◌∷◌, ◌++◌, refl, ap, sym, ◌∙◌, length, take, drop, arith, subst}
 use Rattle.std.proofs.lemmas.List.{take-append-drop}
 use Rattle.std.proofs.lemmas.Bool.Decides.{nat_tests}
-use Rattle.pm_recipe.specs.declared.bytes.TheConstants.{NEWLINE, BACKSLASH}
+use Rattle.pm_bytes.specs.Alphabet.{NEWLINE, BACKSLASH}
 use Rattle.pm_recipe.specs.declared.places.Place.{Place}
 use Rattle.pm_recipe.specs.Bytes.{begins_with}
 use Rattle.pm_recipe.specs.Places.{joins_at, ends_at, place_after, joins_before, place_behind, reach_of}

@@ -3,9 +3,9 @@ use Rattle.std.proofs.Common.{◌≡◌, ◌+◌, ◌-◌, ◌<◌, ◌≤◌, �
 use Rattle.std.proofs.lemmas.List.{take-append-drop, drop-drop, drop_at, take_all, drop_all}
 use Rattle.std.proofs.lemmas.Bool.{cond_both}
 use Rattle.std.proofs.lemmas.Bool.Decides.{nat_tests}
-use Rattle.pm_bytes.specs.Letter.{is_blank_byte}
-use Rattle.pm_recipe.specs.Bytes.{begins_with, is_space, is_name_start, is_name_byte, is_digit}
-use Rattle.pm_recipe.specs.declared.bytes.TheConstants.{NEWLINE, HASH, STAR, OPEN, CLOSE, COLON, EQUALS, BAR, BANG, BACKSLASH}
+use Rattle.pm_bytes.specs.Letter.{is_blank_byte, is_digit_byte, is_name_byte, is_name_start, is_space_byte}
+use Rattle.pm_recipe.specs.Bytes.{begins_with}
+use Rattle.pm_bytes.specs.Alphabet.{NEWLINE, HASH, STAR, OPEN_BRACE, CLOSE_BRACE, COLON, EQUALS, BAR, BANG, BACKSLASH}
 use Rattle.pm_recipe.specs.declared.places.Place.TheVariants as place
 use Rattle.pm_recipe.specs.declared.fronts.Front.{Front}
 use Rattle.pm_recipe.specs.declared.fronts.Situation.{Situation}
@@ -13,7 +13,7 @@ use Rattle.pm_recipe.specs.declared.fronts.Kind.{Kind}
 use Rattle.pm_recipe.specs.declared.fronts.Kind.TheVariants as kind
 use Rattle.pm_recipe.specs.Places.{reach_of, far, behind}
 use Rattle.pm_recipe.specs.Colon.{word_length, is_unclosed, begins_recipe, has_lock, lock_part, behind_lock, behind_flags, behind_colon}
-use Rattle.pm_recipe.specs.Front.{front_of, piece, gap, line_front, ends_name, behind_name, name_width, named, statement_of, opens, ends_line, behind_equals, captures, capture, brace, recipe_line, deepest}
+use Rattle.pm_recipe.specs.Front.{front_of, piece, gap, line_front, ends_name, behind_name, name_width, named, statement_of, opens, ends_line, behind_equals, captures, capture, brace, recipe_line, most_blocks}
 use Rattle.pm_recipe.specs.Words.{belongs, IsRun, IsLine, AreBlanks, IsName, AreJoins, in_line}
 use Rattle.pm_recipe.specs.Quotes.{IsValue}
 use Rattle.pm_recipe.specs.Spells.{IsGap, IsMarked, IsOpened, IsNamed, IsSet, IsHead, IsLockHead, IsColonLine, HasForm, HasNone, IsBroken, IsUnclosed, IsMailbox, IsJunk, Spells}
@@ -66,8 +66,8 @@ whole Q n byte bytes h =
     three Q (byte ∷ take n bytes) (byte ∷ take n bytes) (drop n bytes) (take (n + 1 - 0) (byte ∷ bytes)) (take (n + 1) (byte ∷ bytes)) (drop (n + 1) (byte ∷ bytes))
     (ap (λ k. take k (byte ∷ bytes)) f) (ap (λ k. take k (byte ∷ bytes)) e) (ap (λ k. drop k (byte ∷ bytes)) e) h
 
-mailbox-stands : (situation : Situation) (byte : ℕ) (bytes : List ℕ) → (situation.in_recipe && not (nat_eq byte CLOSE || nat_eq byte COLON)) ≡ true
-    → is_space byte ≡ false → (nat_eq byte BACKSLASH && begins_with 10 bytes) ≡ false
+mailbox-stands : (situation : Situation) (byte : ℕ) (bytes : List ℕ) → (situation.in_recipe && not (nat_eq byte CLOSE_BRACE || nat_eq byte COLON)) ≡ true
+    → is_space_byte byte ≡ false → (nat_eq byte BACKSLASH && begins_with 10 bytes) ≡ false
     → Stands situation (byte ∷ bytes) (line_front kind.Mailbox 0 (far place.Line bytes + 1))
 mailbox-stands situation byte bytes here space join =
     let n = far place.Line bytes in
@@ -79,14 +79,14 @@ mailbox-stands situation byte bytes here space join =
     (omega arith, whole (λ t b r. IsMailbox situation [] t b r) n byte bytes (here, refl, refl, (first, r)))
 
 -- what isn't understood
-broken-stands : (situation : Situation) (byte : ℕ) (bytes : List ℕ) → (situation.in_recipe && not (nat_eq byte CLOSE || nat_eq byte COLON)) ≡ false
+broken-stands : (situation : Situation) (byte : ℕ) (bytes : List ℕ) → (situation.in_recipe && not (nat_eq byte CLOSE_BRACE || nat_eq byte COLON)) ≡ false
     → IsBroken (byte ∷ bytes) → Stands situation (byte ∷ bytes) (line_front kind.Skipped 0 (far place.Comment bytes + 1))
 broken-stands situation byte bytes here broken =
     let n = far place.Comment bytes in
     let again : IsBroken (byte ∷ (take n bytes ++ drop n bytes)) = subst (λ xs. IsBroken (byte ∷ xs)) (sym (take-append-drop n bytes)) broken in
     (omega arith, whole (λ t b r. IsJunk situation [] t b r) n byte bytes (here, refl, refl, Broken byte (take n bytes) refl (rest-run bytes) again))
 
-other-stands : (situation : Situation) (byte : ℕ) (bytes : List ℕ) → (situation.in_recipe && not (nat_eq byte CLOSE || nat_eq byte COLON)) ≡ false
+other-stands : (situation : Situation) (byte : ℕ) (bytes : List ℕ) → (situation.in_recipe && not (nat_eq byte CLOSE_BRACE || nat_eq byte COLON)) ≡ false
     → (IsBroken (byte ∷ bytes) → ⊥) → Stands situation (byte ∷ bytes) (line_front kind.Skipped 0 (far place.TailWord bytes + 1))
 other-stands situation byte bytes here sound =
     let n = far place.TailWord bytes in
@@ -192,7 +192,7 @@ colon-stands situation byte bytes h closed =
 named-at : (byte : ℕ) (bytes last : List ℕ) → is_name_start byte ≡ true → last ≡ drop (far place.Name (byte ∷ bytes)) (byte ∷ bytes)
     → IsNamed (take (far place.Name (byte ∷ bytes)) (byte ∷ bytes)) last
 named-at byte bytes last start last_is =
-    let first : belongs is_name_byte 0 byte bytes ≡ true = ap (λ b. b || is_digit byte || (nat_eq byte BACKSLASH && begins_with 10 bytes) || false) start in
+    let first : belongs is_name_byte 0 byte bytes ≡ true = ap (λ b. b || is_digit_byte byte || (nat_eq byte BACKSLASH && begins_with 10 bytes) || false) start in
     let goes : far place.Name (byte ∷ bytes) ≡ suc (reach_of (nat_eq byte BACKSLASH && begins_with 10 bytes) place.Name bytes) =
     go place.Name is_name_byte refl (λ b. refl) (λ b. refl) 0 byte bytes first in
     record {
@@ -205,7 +205,7 @@ named-at byte bytes last start last_is =
 
 name-some : (byte : ℕ) (bytes : List ℕ) → is_name_start byte ≡ true → 0 < far place.Name (byte ∷ bytes)
 name-some byte bytes start =
-    let first : belongs is_name_byte 0 byte bytes ≡ true = ap (λ b. b || is_digit byte || (nat_eq byte BACKSLASH && begins_with 10 bytes) || false) start in
+    let first : belongs is_name_byte 0 byte bytes ≡ true = ap (λ b. b || is_digit_byte byte || (nat_eq byte BACKSLASH && begins_with 10 bytes) || false) start in
     omega (arith, go place.Name is_name_byte refl (λ b. refl) (λ b. refl) 0 byte bytes first)
 
 -- a name and an `=`
@@ -305,7 +305,7 @@ named-stands : (situation : Situation) (byte : ℕ) (bytes : List ℕ) → situa
     → Stands situation (byte ∷ bytes) (named (byte ∷ bytes))
 named-stands situation byte bytes here start =
     let text : List ℕ = byte ∷ bytes in
-    let outside : (situation.in_recipe && not (nat_eq byte CLOSE || nat_eq byte COLON)) ≡ false = ap (λ b. b && not (nat_eq byte CLOSE || nat_eq byte COLON)) here in
+    let outside : (situation.in_recipe && not (nat_eq byte CLOSE_BRACE || nat_eq byte COLON)) ≡ false = ap (λ b. b && not (nat_eq byte CLOSE_BRACE || nat_eq byte COLON)) here in
     let value = behind place.Blanks (drop 1 (behind_name text)) in
     cond_both (begins_with EQUALS (behind_name text)) _ _ (Stands situation text)
     (λ equals. cond_both (is_unclosed value) _ _ (Stands situation text)
@@ -332,23 +332,23 @@ named-stands situation byte bytes here start =
     sound h (Value name after set u) = true-false (sym (known name (byte ∷ bytes) after set).equals ∙ h)
     sound h (Lock lock head u) = no-lock byte bytes lock start head
 
-no-brace : (byte : ℕ) → is_name_start byte ≡ true → (nat_eq byte CLOSE || nat_eq byte COLON) ≡ false
+no-brace : (byte : ℕ) → is_name_start byte ≡ true → (nat_eq byte CLOSE_BRACE || nat_eq byte COLON) ≡ false
 no-brace byte h = grind (arith, nat_tests)
 
 -- a statement at its first byte
 statement-stands : (situation : Situation) (byte : ℕ) (bytes : List ℕ)
-    → (situation.in_recipe && not (nat_eq byte CLOSE || nat_eq byte COLON)) ≡ false
+    → (situation.in_recipe && not (nat_eq byte CLOSE_BRACE || nat_eq byte COLON)) ≡ false
     → Stands situation (byte ∷ bytes) (statement_of (nat_lt 0 situation.depth) (byte ∷ bytes))
 statement-stands situation byte bytes here =
     let text : List ℕ = byte ∷ bytes in
-    cond_both (nat_eq byte CLOSE && nat_lt 0 situation.depth) _ _ (Stands situation text)
+    cond_both (nat_eq byte CLOSE_BRACE && nat_lt 0 situation.depth) _ _ (Stands situation text)
     (λ h. (
       omega arith,
       (
-        deep (and-right (nat_eq byte CLOSE) _ h),
+        deep (and-right (nat_eq byte CLOSE_BRACE) _ h),
         refl,
-        ap (λ b. b ∷ []) (equal byte CLOSE (and-left _ (nat_lt 0 situation.depth) h)),
-        ap (λ b. b ∷ []) (equal byte CLOSE (and-left _ (nat_lt 0 situation.depth) h)),
+        ap (λ b. b ∷ []) (equal byte CLOSE_BRACE (and-left _ (nat_lt 0 situation.depth) h)),
+        ap (λ b. b ∷ []) (equal byte CLOSE_BRACE (and-left _ (nat_lt 0 situation.depth) h)),
       ),
     ))
     (λ h. cond_both (begins_recipe text) _ _ (Stands situation text)
@@ -384,19 +384,19 @@ statement-stands situation byte bytes here =
     sound e f (Lock lock head u) = true-false (sym (known-head (byte ∷ bytes) _ head.head).begins ∙ e)
 
 -- a brace
-brace-stands : (situation : Situation) (byte : ℕ) (bytes : List ℕ) → situation.in_recipe ≡ true → (nat_eq byte OPEN && opens bytes) ≡ true
-    → Stands situation (byte ∷ bytes) (brace (nat_le deepest situation.depth) (byte ∷ bytes))
+brace-stands : (situation : Situation) (byte : ℕ) (bytes : List ℕ) → situation.in_recipe ≡ true → (nat_eq byte OPEN_BRACE && opens bytes) ≡ true
+    → Stands situation (byte ∷ bytes) (brace (nat_le most_blocks situation.depth) (byte ∷ bytes))
 brace-stands situation byte bytes here h =
     let text : List ℕ = byte ∷ bytes in
-    let byte_is : byte ≡ OPEN = equal byte OPEN (and-left _ (opens bytes) h) in
+    let byte_is : byte ≡ OPEN_BRACE = equal byte OPEN_BRACE (and-left _ (opens bytes) h) in
     let o : IsOpened bytes = record {
       joins = take (far place.Joins bytes) bytes;
       rest = behind place.Joins bytes;
       behind_is = sym (take-append-drop (far place.Joins bytes) bytes);
       joined = joins-run bytes;
-      ends = and-right (nat_eq byte OPEN) _ h;
+      ends = and-right (nat_eq byte OPEN_BRACE) _ h;
     } in
-    cond_both (nat_le deepest situation.depth) _ _ (Stands situation text)
+    cond_both (nat_le most_blocks situation.depth) _ _ (Stands situation text)
     (λ e. (
       omega arith,
       (
@@ -443,15 +443,15 @@ bar-stands situation byte bytes here bar =
     ))
 
 -- a line of a recipe
-line-stands : (situation : Situation) (byte : ℕ) (bytes : List ℕ) → (situation.in_recipe && not (nat_eq byte CLOSE || nat_eq byte COLON)) ≡ true → is_space byte ≡ false
+line-stands : (situation : Situation) (byte : ℕ) (bytes : List ℕ) → (situation.in_recipe && not (nat_eq byte CLOSE_BRACE || nat_eq byte COLON)) ≡ true → is_space_byte byte ≡ false
     → (nat_eq byte BACKSLASH && begins_with 10 bytes) ≡ false
-    → Stands situation (byte ∷ bytes) (recipe_line (nat_le deepest situation.depth) (byte ∷ bytes))
+    → Stands situation (byte ∷ bytes) (recipe_line (nat_le most_blocks situation.depth) (byte ∷ bytes))
 line-stands situation byte bytes on space join =
     let text : List ℕ = byte ∷ bytes in
-    let here : situation.in_recipe ≡ true = and-left _ (not (nat_eq byte CLOSE || nat_eq byte COLON)) on in
+    let here : situation.in_recipe ≡ true = and-left _ (not (nat_eq byte CLOSE_BRACE || nat_eq byte COLON)) on in
     cond_both (nat_eq byte STAR) _ _ (Stands situation text)
     (λ h. (omega arith, marked (λ t b r. HasForm situation kind.Condition [] t b r) byte bytes (here, refl, mark-line STAR byte bytes h)))
-    (λ h. cond_both (nat_eq byte OPEN && opens bytes) _ _ (Stands situation text)
+    (λ h. cond_both (nat_eq byte OPEN_BRACE && opens bytes) _ _ (Stands situation text)
     (λ e. brace-stands situation byte bytes here e)
     (λ e. cond_both (nat_eq byte BANG) _ _ (Stands situation text)
     (λ f. (omega arith, marked (λ t b r. HasForm situation kind.Forward [] t b r) byte bytes (here, refl, mark-line BANG byte bytes f)))
@@ -465,7 +465,7 @@ line-stands situation byte bytes on space join =
 pub front-stands : (situation : Situation) (byte : ℕ) (bytes : List ℕ) → Stands situation (byte ∷ bytes) (front_of situation (byte ∷ bytes))
 front-stands situation byte bytes =
     let text : List ℕ = byte ∷ bytes in
-    cond_both (is_space byte) _ _ (Stands situation text)
+    cond_both (is_space_byte byte) _ _ (Stands situation text)
     (λ h. (omega arith, (refl, refl, Space byte refl h)))
     (λ space. cond_both (nat_eq byte BACKSLASH && begins_with 10 bytes) _ _ (Stands situation text)
     (λ h. (
@@ -479,7 +479,7 @@ front-stands situation byte bytes =
     ))
     (λ join. cond_both (nat_eq byte HASH) _ _ (Stands situation text)
     (λ h. comment h)
-    (λ h. cond_both (situation.in_recipe && not (nat_eq byte CLOSE || nat_eq byte COLON)) _ _ (Stands situation text)
+    (λ h. cond_both (situation.in_recipe && not (nat_eq byte CLOSE_BRACE || nat_eq byte COLON)) _ _ (Stands situation text)
     (λ e. line-stands situation byte bytes e space join)
     (λ e. statement-stands situation byte bytes e))))
   where

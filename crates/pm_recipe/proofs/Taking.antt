@@ -3,9 +3,9 @@ use Rattle.std.proofs.Common.{◌≡◌, ◌+◌, ◌-◌, ◌<◌, ◌≤◌, �
 use Rattle.std.proofs.lemmas.List.{take-append-drop, drop-drop, take_at, drop_at, length-append, append-nil, length-take-le}
 use Rattle.std.proofs.lemmas.Bool.{cond-true, cond-false}
 use Rattle.std.proofs.lemmas.Bool.Decides.{nat_tests}
-use Rattle.pm_bytes.specs.Letter.{is_blank_byte}
-use Rattle.pm_recipe.specs.Bytes.{begins_with, is_space, is_name_start, is_name_byte}
-use Rattle.pm_recipe.specs.declared.bytes.TheConstants.{NEWLINE, HASH, STAR, OPEN, CLOSE, COLON, EQUALS, BAR, BANG, BACKSLASH}
+use Rattle.pm_bytes.specs.Letter.{is_blank_byte, is_name_byte, is_name_start, is_space_byte}
+use Rattle.pm_recipe.specs.Bytes.{begins_with}
+use Rattle.pm_bytes.specs.Alphabet.{NEWLINE, HASH, STAR, OPEN_BRACE, CLOSE_BRACE, COLON, EQUALS, BAR, BANG, BACKSLASH}
 use Rattle.pm_recipe.specs.declared.places.Place.TheVariants as place
 use Rattle.pm_recipe.specs.declared.fronts.Front.{Front}
 use Rattle.pm_recipe.specs.declared.fronts.Situation.{Situation}
@@ -13,7 +13,7 @@ use Rattle.pm_recipe.specs.declared.fronts.Kind.{Kind}
 use Rattle.pm_recipe.specs.declared.fronts.Kind.TheVariants as kind
 use Rattle.pm_recipe.specs.Places.{far, behind}
 use Rattle.pm_recipe.specs.Colon.{word_length, is_unclosed, begins_recipe, has_lock, lock_part, behind_lock, behind_flags, behind_colon}
-use Rattle.pm_recipe.specs.Front.{front_of, piece, gap, line_front, ends_name, behind_name, name_width, named, colon_front, opens, ends_line, behind_equals, captures, capture, brace, deepest}
+use Rattle.pm_recipe.specs.Front.{front_of, piece, gap, line_front, ends_name, behind_name, name_width, named, colon_front, opens, ends_line, behind_equals, captures, capture, brace, most_blocks}
 use Rattle.pm_recipe.specs.Words.{belongs, IsLine, AreBlanks, IsName, AreJoins, in_line, in_join}
 use Rattle.pm_recipe.specs.Spells.{IsGap, IsMarked, IsOpened, IsNamed, IsSet, IsSetting, IsCapture, IsLoneName, IsHead, IsColonLine, HasForm}
 use Rattle.pm_recipe.specs.Spells.IsGap.{Space, Join, Comment}
@@ -78,7 +78,7 @@ to-value text =
     sym (ap (λ xs. drop ind (drop 1 xs)) (drop-drop bl na text) ∙ ap (λ xs. drop ind xs) (drop-drop 1 (na + bl) text) ∙ drop-drop ind (na + bl + 1) text)
 
 -- a byte that begins a name is no other
-space-name : (byte : ℕ) → is_name_start byte ≡ true → is_space byte ≡ false
+space-name : (byte : ℕ) → is_name_start byte ≡ true → is_space_byte byte ≡ false
 space-name byte h = grind (arith, nat_tests)
 
 pub other-name : (byte other : ℕ) → is_name_start byte ≡ true → is_name_start other ≡ false → nat_eq byte other ≡ false
@@ -91,11 +91,11 @@ other-name byte other h i = by (nat_eq byte other) refl
 pub name-statement : (situation : Situation) (byte : ℕ) (bytes : List ℕ) → situation.in_recipe ≡ false → is_name_start byte ≡ true
     → front_of situation (byte ∷ bytes) ≡ named (byte ∷ bytes)
 name-statement situation byte bytes here start =
-    cond-false (is_space byte) _ _ (space-name byte start)
+    cond-false (is_space_byte byte) _ _ (space-name byte start)
     ∙ cond-false (nat_eq byte BACKSLASH && begins_with 10 bytes) _ _ (ap (λ b. b && begins_with 10 bytes) (other-name byte BACKSLASH start refl))
     ∙ cond-false (nat_eq byte HASH) _ _ (other-name byte HASH start refl)
-    ∙ cond-false (situation.in_recipe && not (nat_eq byte CLOSE || nat_eq byte COLON)) _ _ (ap (λ b. b && not (nat_eq byte CLOSE || nat_eq byte COLON)) here)
-    ∙ cond-false (nat_eq byte CLOSE && nat_lt 0 situation.depth) _ _ (ap (λ b. b && nat_lt 0 situation.depth) (other-name byte CLOSE start refl))
+    ∙ cond-false (situation.in_recipe && not (nat_eq byte CLOSE_BRACE || nat_eq byte COLON)) _ _ (ap (λ b. b && not (nat_eq byte CLOSE_BRACE || nat_eq byte COLON)) here)
+    ∙ cond-false (nat_eq byte CLOSE_BRACE && nat_lt 0 situation.depth) _ _ (ap (λ b. b && nat_lt 0 situation.depth) (other-name byte CLOSE_BRACE start refl))
     ∙ cond-false (begins_recipe (byte ∷ bytes)) _ _ (ap (λ b. b && begins_with 48 (behind place.Joins bytes)) (other-name byte COLON start refl))
     ∙ cond-true (is_name_start byte) _ _ start
 
@@ -103,14 +103,14 @@ pub name-recipe : (situation : Situation) (byte : ℕ) (bytes : List ℕ) → si
     → front_of situation (byte ∷ bytes)
     ≡ capture (byte ∷ bytes) (name_width (byte ∷ bytes) + 1 + far place.Blanks (drop 1 (behind_name (byte ∷ bytes))) + 1)
 name-recipe situation byte bytes here start h =
-    cond-false (is_space byte) _ _ (space-name byte start)
+    cond-false (is_space_byte byte) _ _ (space-name byte start)
     ∙ cond-false (nat_eq byte BACKSLASH && begins_with 10 bytes) _ _ (ap (λ b. b && begins_with 10 bytes) (other-name byte BACKSLASH start refl))
     ∙ cond-false (nat_eq byte HASH) _ _ (other-name byte HASH start refl)
-    ∙ cond-true (situation.in_recipe && not (nat_eq byte CLOSE || nat_eq byte COLON)) _ _
-    (ap (λ b. b && not (nat_eq byte CLOSE || nat_eq byte COLON)) here ∙ ap (λ b. not (b || nat_eq byte COLON)) (other-name byte CLOSE start refl)
+    ∙ cond-true (situation.in_recipe && not (nat_eq byte CLOSE_BRACE || nat_eq byte COLON)) _ _
+    (ap (λ b. b && not (nat_eq byte CLOSE_BRACE || nat_eq byte COLON)) here ∙ ap (λ b. not (b || nat_eq byte COLON)) (other-name byte CLOSE_BRACE start refl)
     ∙ ap not (other-name byte COLON start refl))
     ∙ cond-false (nat_eq byte STAR) _ _ (other-name byte STAR start refl)
-    ∙ cond-false (nat_eq byte OPEN && opens bytes) _ _ (ap (λ b. b && opens bytes) (other-name byte OPEN start refl))
+    ∙ cond-false (nat_eq byte OPEN_BRACE && opens bytes) _ _ (ap (λ b. b && opens bytes) (other-name byte OPEN_BRACE start refl))
     ∙ cond-false (nat_eq byte BANG) _ _ (other-name byte BANG start refl)
     ∙ cond-false (nat_eq byte BAR) _ _ (other-name byte BAR start refl)
     ∙ cond-true (is_name_start byte && captures (byte ∷ bytes)) _ _ (ap (λ b. b && captures (byte ∷ bytes)) start ∙ h)
@@ -296,7 +296,7 @@ opened last o =
     ∙ ap ends_name (drop_at o.joins o.rest _ (sym (joins-far o.joins o.rest o.joined))) ∙ o.ends
 
 open-front : (situation : Situation) (last : List ℕ) → situation.in_recipe ≡ true → opens last ≡ true
-    → front_of situation (OPEN ∷ last) ≡ brace (nat_le deepest situation.depth) (OPEN ∷ last)
+    → front_of situation (OPEN_BRACE ∷ last) ≡ brace (nat_le most_blocks situation.depth) (OPEN_BRACE ∷ last)
 open-front situation last here o = cond-true (situation.in_recipe && true) _ _ (and-true _ here) ∙ cond-true (opens last) _ _ o
 
 -- a colon line
@@ -366,7 +366,7 @@ gap-taken : (situation : Situation) (name text bytes last : List ℕ) → name �
     → Takes (front_of situation (bytes ++ last)) kind.Gap name text bytes (bytes ++ last)
 gap-taken situation name text bytes last none empty (Space byte is space) =
     subst (λ b. Takes (front_of situation (b ++ last)) kind.Gap name text b (b ++ last)) (sym is)
-    (subst (λ f. Takes f kind.Gap name text (byte ∷ []) (byte ∷ last)) (sym (cond-true (is_space byte) (gap 1) _ space))
+    (subst (λ f. Takes f kind.Gap name text (byte ∷ []) (byte ∷ last)) (sym (cond-true (is_space_byte byte) (gap 1) _ space))
     (record { kind_is = refl; taken_is = refl; name_is = sym none; text_is = sym empty }))
 gap-taken situation name text bytes last none empty (Join is) =
     subst (λ b. Takes (front_of situation (b ++ last)) kind.Gap name text b (b ++ last)) (sym is)
@@ -397,23 +397,23 @@ taken situation kind.WriteOut name text bytes last h =
 taken situation kind.Capture name text bytes last h = capture-taken situation name text bytes last h.0 h.1
 taken situation kind.Open name text bytes last h =
     subst (λ b. Takes (front_of situation (b ++ last)) kind.Open name text b (b ++ last)) (sym h.3)
-    (subst (λ f. Takes f kind.Open name text (OPEN ∷ []) (OPEN ∷ last)) (sym (open-front situation last h.0 (opened last h.4) ∙ cond-false (nat_le 1000 situation.depth) _ _ (shallow h.5)))
+    (subst (λ f. Takes f kind.Open name text (OPEN_BRACE ∷ []) (OPEN_BRACE ∷ last)) (sym (open-front situation last h.0 (opened last h.4) ∙ cond-false (nat_le 1000 situation.depth) _ _ (shallow h.5)))
     (record { kind_is = refl; taken_is = refl; name_is = sym h.1; text_is = sym h.2 }))
   where
     shallow : situation.depth < 1000 → nat_le 1000 situation.depth ≡ false
     shallow h = grind (arith, nat_tests)
 taken situation kind.TooDeep name text bytes last h =
     let rest = h.3 in
-    let whole : bytes ++ last ≡ OPEN ∷ rest = ap (λ xs. bytes ++ xs) h.6 ∙ append-nil bytes ∙ h.4 in
+    let whole : bytes ++ last ≡ OPEN_BRACE ∷ rest = ap (λ xs. bytes ++ xs) h.6 ∙ append-nil bytes ∙ h.4 in
     subst (λ w. Takes (front_of situation w) kind.TooDeep name text bytes w) (sym whole)
-    (subst (λ f. Takes f kind.TooDeep name text bytes (OPEN ∷ rest)) (sym (open-front situation rest h.0 (opened rest h.5) ∙ cond-true (nat_le 1000 situation.depth) _ _ (deep h.7)))
+    (subst (λ f. Takes f kind.TooDeep name text bytes (OPEN_BRACE ∷ rest)) (sym (open-front situation rest h.0 (opened rest h.5) ∙ cond-true (nat_le 1000 situation.depth) _ _ (deep h.7)))
     (record { kind_is = refl; taken_is = sym (ap length h.4); name_is = sym h.1; text_is = sym h.2 }))
   where
     deep : 1000 ≤ situation.depth → nat_le 1000 situation.depth ≡ true
     deep h = grind (arith, nat_tests)
 taken situation kind.Close name text bytes last h =
     subst (λ b. Takes (front_of situation (b ++ last)) kind.Close name text b (b ++ last)) (sym h.3)
-    (subst (λ f. Takes f kind.Close name text (CLOSE ∷ []) (CLOSE ∷ last))
+    (subst (λ f. Takes f kind.Close name text (CLOSE_BRACE ∷ []) (CLOSE_BRACE ∷ last))
     (sym (cond-false (situation.in_recipe && false) _ _ (and-false situation.in_recipe) ∙ cond-true (nat_lt 0 situation.depth) _ _ (deep h.0)))
     (record { kind_is = refl; taken_is = refl; name_is = sym h.1; text_is = sym h.2 }))
   where

@@ -2,8 +2,9 @@
 use Rattle.std.proofs.Common.{◌≡◌, ◌+◌, ℕ, Bool, true, false, not, ◌&&◌, cond, nat_eq, List, [], ◌∷◌, ◌++◌, refl, ap, sym, ◌∙◌, length, take, drop, arith, subst, ◌⊎◌, inl, inr}
 use Rattle.std.proofs.lemmas.Bool.Decides.{nat_tests}
 use Rattle.std.proofs.lemmas.List.{take_at, drop_at, length-append, append_assoc, take-append-drop}
-use Rattle.pm_recipe.specs.Bytes.{begins_with, is_space}
-use Rattle.pm_recipe.specs.declared.bytes.TheConstants.{HASH, SINGLE, DOUBLE, BACKQUOTE, BACKSLASH}
+use Rattle.pm_bytes.specs.Letter.{is_space_byte}
+use Rattle.pm_recipe.specs.Bytes.{begins_with}
+use Rattle.pm_bytes.specs.Alphabet.{HASH, SINGLE_QUOTE, DOUBLE_QUOTE, BACKQUOTE, BACKSLASH}
 use Rattle.pm_recipe.specs.declared.places.Place.{Place}
 use Rattle.pm_recipe.specs.declared.places.Place.TheVariants as place
 use Rattle.pm_recipe.specs.Places.{joins_before, place_behind, reach_of, rest_of, is_quote, far}
@@ -27,7 +28,7 @@ pub record Reads (text : List ℕ) : Type 0 where
 pub record InSingle (text : List ℕ) : Type 0 where
   pub bytes : List ℕ
   pub after : List ℕ
-  pub text_is : text ≡ bytes ++ (SINGLE ∷ after)
+  pub text_is : text ≡ bytes ++ (SINGLE_QUOTE ∷ after)
   pub good : are_single bytes ≡ true
   pub reads : Reads after
 
@@ -81,22 +82,22 @@ with-taken byte text r = record {
   ends = r.ends;
 }
 
-with-single : (text : List ℕ) → InSingle text → Reads (SINGLE ∷ text)
+with-single : (text : List ℕ) → InSingle text → Reads (SINGLE_QUOTE ∷ text)
 with-single text q = record {
   parts = Part.Single q.bytes ∷ q.reads.parts;
   last = q.reads.last;
   behind = q.reads.behind;
-  text_is = ap (λ xs. SINGLE ∷ xs) (q.text_is ∙ ap (λ xs. q.bytes ++ (SINGLE ∷ xs)) q.reads.text_is);
+  text_is = ap (λ xs. SINGLE_QUOTE ∷ xs) (q.text_is ∙ ap (λ xs. q.bytes ++ (SINGLE_QUOTE ∷ xs)) q.reads.text_is);
   good = both _ _ q.good q.reads.good;
   ends = q.reads.ends;
 }
 
-with-double : (text : List ℕ) → InDouble text → Reads (DOUBLE ∷ text)
+with-double : (text : List ℕ) → InDouble text → Reads (DOUBLE_QUOTE ∷ text)
 with-double text q = record {
   parts = Part.Double q.inners ∷ q.reads.parts;
   last = q.reads.last;
   behind = q.reads.behind;
-  text_is = ap (λ xs. DOUBLE ∷ xs) (q.text_is ∙ ap (λ xs. inners_text q.inners xs) q.reads.text_is);
+  text_is = ap (λ xs. DOUBLE_QUOTE ∷ xs) (q.text_is ∙ ap (λ xs. inners_text q.inners xs) q.reads.text_is);
   good = both _ _ q.good q.reads.good;
   ends = q.reads.ends;
 }
@@ -112,11 +113,11 @@ with-command text q = record {
 }
 
 -- at a byte that begins no quote
-plain-word : (byte : ℕ) (text : List ℕ) → nat_eq byte BACKSLASH ≡ false → nat_eq byte SINGLE ≡ false → nat_eq byte DOUBLE ≡ false → nat_eq byte BACKQUOTE ≡ false
+plain-word : (byte : ℕ) (text : List ℕ) → nat_eq byte BACKSLASH ≡ false → nat_eq byte SINGLE_QUOTE ≡ false → nat_eq byte DOUBLE_QUOTE ≡ false → nat_eq byte BACKQUOTE ≡ false
     → (Closed place.Word text → Reads text) → Closed place.Word (byte ∷ text) → Reads (byte ∷ text)
-plain-word byte text backslash single double backquote more closed = by (is_space byte) refl
+plain-word byte text backslash single double backquote more closed = by (is_space_byte byte) refl
   where
-    by : (b : Bool) → is_space byte ≡ b → Reads (byte ∷ text)
+    by : (b : Bool) → is_space_byte byte ≡ b → Reads (byte ∷ text)
     by true h = end-word (byte ∷ text) h
     by false h =
         let r = more (sym (ap is_quote (plain-on byte text h backslash single double backquote).place_is) ∙ closed) in
@@ -133,25 +134,25 @@ plain-word byte text backslash single double backquote more closed = by (is_spac
 word-step : (byte : ℕ) (text : List ℕ) → (Closed place.Word text → Reads text) → (Closed place.Single text → InSingle text)
     → (Closed place.Double text → InDouble text) → (Closed place.Backquote text → InCommand text)
     → (Closed place.Word (BACKSLASH ∷ text) → Reads (BACKSLASH ∷ text)) → Closed place.Word (byte ∷ text) → Reads (byte ∷ text)
-word-step byte text word single double command taken = by (nat_eq byte BACKSLASH) (nat_eq byte SINGLE) (nat_eq byte DOUBLE) (nat_eq byte BACKQUOTE) refl refl refl refl
+word-step byte text word single double command taken = by (nat_eq byte BACKSLASH) (nat_eq byte SINGLE_QUOTE) (nat_eq byte DOUBLE_QUOTE) (nat_eq byte BACKQUOTE) refl refl refl refl
   where
-    by : (a b c d : Bool) → nat_eq byte BACKSLASH ≡ a → nat_eq byte SINGLE ≡ b → nat_eq byte DOUBLE ≡ c → nat_eq byte BACKQUOTE ≡ d
+    by : (a b c d : Bool) → nat_eq byte BACKSLASH ≡ a → nat_eq byte SINGLE_QUOTE ≡ b → nat_eq byte DOUBLE_QUOTE ≡ c → nat_eq byte BACKQUOTE ≡ d
         → Closed place.Word (byte ∷ text) → Reads (byte ∷ text)
     by true b c d h i j k = subst (λ x. Closed place.Word (x ∷ text) → Reads (x ∷ text)) (sym (equal byte BACKSLASH h)) taken
-    by false true c d h i j k = subst (λ x. Closed place.Word (x ∷ text) → Reads (x ∷ text)) (sym (equal byte SINGLE i)) (λ closed. with-single text (single closed))
-    by false false true d h i j k = subst (λ x. Closed place.Word (x ∷ text) → Reads (x ∷ text)) (sym (equal byte DOUBLE j)) (λ closed. with-double text (double closed))
+    by false true c d h i j k = subst (λ x. Closed place.Word (x ∷ text) → Reads (x ∷ text)) (sym (equal byte SINGLE_QUOTE i)) (λ closed. with-single text (single closed))
+    by false false true d h i j k = subst (λ x. Closed place.Word (x ∷ text) → Reads (x ∷ text)) (sym (equal byte DOUBLE_QUOTE j)) (λ closed. with-double text (double closed))
     by false false false true h i j k = subst (λ x. Closed place.Word (x ∷ text) → Reads (x ∷ text)) (sym (equal byte BACKQUOTE k)) (λ closed. with-command text (command closed))
     by false false false false h i j k = plain-word byte text h i j k word
 
 single-step : (byte : ℕ) (text : List ℕ) → (Closed place.Word text → Reads text) → (Closed place.Single text → InSingle text)
     → Closed place.Single (byte ∷ text) → InSingle (byte ∷ text)
-single-step byte text word single = by (nat_eq byte SINGLE) refl
+single-step byte text word single = by (nat_eq byte SINGLE_QUOTE) refl
   where
-    by : (b : Bool) → nat_eq byte SINGLE ≡ b → Closed place.Single (byte ∷ text) → InSingle (byte ∷ text)
+    by : (b : Bool) → nat_eq byte SINGLE_QUOTE ≡ b → Closed place.Single (byte ∷ text) → InSingle (byte ∷ text)
     by true h closed = record {
       bytes = [];
       after = text;
-      text_is = ap (λ x. x ∷ text) (equal byte SINGLE h);
+      text_is = ap (λ x. x ∷ text) (equal byte SINGLE_QUOTE h);
       good = refl;
       reads = word (ap (λ b. is_quote (rest_of false (cond b place.Word place.Single) text)) (sym h) ∙ closed);
     }
@@ -201,11 +202,11 @@ inner-step byte text double command taken = by (nat_eq byte BACKSLASH) (nat_eq b
 -- in double quotes, at a byte
 double-step : (byte : ℕ) (text : List ℕ) → (Closed place.Word text → Reads text) → (Closed place.Double text → InDouble text) → (Closed place.Inner text → InInner text)
     → (Closed place.Double (BACKSLASH ∷ text) → InDouble (BACKSLASH ∷ text)) → Closed place.Double (byte ∷ text) → InDouble (byte ∷ text)
-double-step byte text word double command taken = by (nat_eq byte BACKSLASH) (nat_eq byte DOUBLE) (nat_eq byte BACKQUOTE) refl refl refl
+double-step byte text word double command taken = by (nat_eq byte BACKSLASH) (nat_eq byte DOUBLE_QUOTE) (nat_eq byte BACKQUOTE) refl refl refl
   where
-    by : (a b c : Bool) → nat_eq byte BACKSLASH ≡ a → nat_eq byte DOUBLE ≡ b → nat_eq byte BACKQUOTE ≡ c → Closed place.Double (byte ∷ text) → InDouble (byte ∷ text)
+    by : (a b c : Bool) → nat_eq byte BACKSLASH ≡ a → nat_eq byte DOUBLE_QUOTE ≡ b → nat_eq byte BACKQUOTE ≡ c → Closed place.Double (byte ∷ text) → InDouble (byte ∷ text)
     by true b c h i j = subst (λ x. Closed place.Double (x ∷ text) → InDouble (x ∷ text)) (sym (equal byte BACKSLASH h)) taken
-    by false true c h i j = subst (λ x. Closed place.Double (x ∷ text) → InDouble (x ∷ text)) (sym (equal byte DOUBLE i))
+    by false true c h i j = subst (λ x. Closed place.Double (x ∷ text) → InDouble (x ∷ text)) (sym (equal byte DOUBLE_QUOTE i))
         (λ closed. record { inners = []; after = text; text_is = refl; good = refl; reads = word closed })
     by false false true h i j = subst (λ x. Closed place.Double (x ∷ text) → InDouble (x ∷ text)) (sym (equal byte BACKQUOTE j))
         (λ closed. let q = command closed in record {
@@ -290,9 +291,9 @@ parts-append [] xs ys = refl
 parts-append (Part.Plain byte ∷ parts) xs ys = ap (λ t. byte ∷ t) (parts-append parts xs ys)
 parts-append (Part.Taken byte ∷ parts) xs ys = ap (λ t. BACKSLASH ∷ (byte ∷ t)) (parts-append parts xs ys)
 parts-append (Part.Single bytes ∷ parts) xs ys =
-    ap (λ t. SINGLE ∷ t) (append_assoc bytes (SINGLE ∷ word_text parts xs) ys ∙ ap (λ t. bytes ++ (SINGLE ∷ t)) (parts-append parts xs ys))
+    ap (λ t. SINGLE_QUOTE ∷ t) (append_assoc bytes (SINGLE_QUOTE ∷ word_text parts xs) ys ∙ ap (λ t. bytes ++ (SINGLE_QUOTE ∷ t)) (parts-append parts xs ys))
 parts-append (Part.Double inners ∷ parts) xs ys =
-    ap (λ t. DOUBLE ∷ t) (inners-append inners (word_text parts xs) ys ∙ ap (λ t. inners_text inners t) (parts-append parts xs ys))
+    ap (λ t. DOUBLE_QUOTE ∷ t) (inners-append inners (word_text parts xs) ys ∙ ap (λ t. inners_text inners t) (parts-append parts xs ys))
 parts-append (Part.Command marks ∷ parts) xs ys =
     ap (λ t. BACKQUOTE ∷ t) (marks-append marks (word_text parts xs) ys ∙ ap (λ t. marks_text marks t) (parts-append parts xs ys))
 
@@ -301,7 +302,7 @@ pub record IsRead (word : List ℕ) (behind : List ℕ) : Type 0 where
   pub length_is : far place.Word (word ++ behind) ≡ length word
   pub closed : is_quote (rest_of false place.Word (word ++ behind)) ≡ false
 
-space-stops : (byte : ℕ) (bytes : List ℕ) → is_space byte ≡ true → (not (nat_eq byte BACKSLASH && begins_with 10 bytes) && is_space byte) ≡ true
+space-stops : (byte : ℕ) (bytes : List ℕ) → is_space_byte byte ≡ true → (not (nat_eq byte BACKSLASH && begins_with 10 bytes) && is_space_byte byte) ≡ true
 space-stops byte bytes h = grind (arith, nat_tests)
 
 read-ends : (behind : List ℕ) → ends_name behind ≡ true → (far place.Word behind ≡ 0) × (is_quote (rest_of false place.Word behind) ≡ false)

@@ -28,10 +28,12 @@ pub record Ahead : Type 0 where
   pub recipe : Option Rest
   pub lists : List Trees
 
+-- the statements of the innermost block
 abbrev pub first : List Trees → Trees
 first [] = nil
 first (trees ∷ lists) = trees
 
+-- those of the blocks around it
 abbrev pub others : List Trees → List Trees
 others [] = []
 others (trees ∷ lists) = lists
@@ -40,6 +42,7 @@ others (trees ∷ lists) = lists
 abbrev pub put : Tree → List Trees → List Trees
 put tree lists = cons tree (first lists) ∷ others lists
 
+-- no recipe's end is to come
 abbrev pub plain : List Trees → Ahead
 plain lists = record { recipe = None; lists = lists }
 
@@ -65,6 +68,7 @@ recipe_of head conditions (Some rest) = ended head (conditions ++ rest.condition
 abbrev pub with_junk : ℕ → List ℕ → List Trees → List Trees
 with_junk line text lists = if has_junk text then put (tree.Defect line text) lists else lists
 
+-- with a condition in front
 abbrev pub with_condition : Judged → Option Rest → Option Rest
 with_condition condition None = None
 with_condition condition (Some rest) = Some (record { conditions = condition ∷ rest.conditions; ending = rest.ending })
@@ -73,6 +77,7 @@ with_condition condition (Some rest) = Some (record { conditions = condition ∷
 abbrev pub acts : Act → List Trees → Ahead
 acts act lists = record { recipe = Some (record { conditions = []; ending = Acts act }); lists = lists }
 
+-- a brace too deep in an action's place, with no condition before it
 abbrev pub fails : ℕ → List ℕ → List Trees → Ahead
 fails line text lists = record { recipe = Some (record { conditions = []; ending = Fails line text }); lists = lists }
 
@@ -80,6 +85,7 @@ fails line text lists = record { recipe = Some (record { conditions = []; ending
 abbrev pub program_line : List ℕ → List ℕ
 program_line text = behind Blanks (unjoined text)
 
+-- what a defect tells where braces are missing
 abbrev pub missing : List ℕ
 missing = codes "missing }"
 
@@ -101,6 +107,7 @@ in_front span Unset ahead = plain (put (tree.Unset (unjoined span.name)) ahead.l
 in_front span Skipped ahead = plain (put (tree.Defect span.line span.text) ahead.lists)
 in_front span Missing ahead = plain (put (tree.Defect span.line missing) ahead.lists)
 
+-- what stands from the first of these spans on
 abbrev pub ahead_of : List Span → Ahead
 ahead_of [] = plain []
 ahead_of (span ∷ spans) = in_front span span.kind (ahead_of spans)

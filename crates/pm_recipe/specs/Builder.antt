@@ -32,10 +32,12 @@ pub record Begun : Type 0 where
   pub head : Head
   pub conditions : List Condition
 
+-- the statements ahead, with the recipe that has begun in front
 abbrev pub settled : Option Begun → Ahead → List Trees
 settled None ahead = ahead.lists
 settled (Some begun) ahead = put (recipe_of begun.head begun.conditions ahead.recipe) ahead.lists
 
+-- the open blocks, the statements behind them, and the recipe that has begun
 pub record Built : Type 0 where
   pub levels : List Level
   pub done : Trees
@@ -45,13 +47,16 @@ pub record Built : Type 0 where
 abbrev pub whole : Built → List Span → Trees
 whole built spans = joined built.levels built.done (settled built.begun (ahead_of spans))
 
+-- a level of the code
 abbrev pub level_of : level.Level → Level
 level_of level = record { done = level.done; head = level.head; conditions = level.conditions.items }
 
+-- a recipe of the code that has begun
 abbrev pub begun_of : Option begun.Begun → Option Begun
 begun_of None = None
 begun_of (Some begun) = Some (record { head = begun.head; conditions = begun.conditions.items })
 
+-- what the code's builder has built
 abbrev pub built_of : Builder → Built
 built_of builder = record { levels = map level_of builder.levels.items; done = builder.done; begun = begun_of builder.begun }
 

@@ -17,16 +17,19 @@ pub data Node : Type 0 where
   Opens : Top → Node
 
 abbrev mutual
+  -- the nodes of statements, before others
   pub nodes_onto : Trees → List Node → List Node
   nodes_onto nil rest = End ∷ rest
   nodes_onto (cons tree trees) rest = tree_onto tree (nodes_onto trees rest)
 
+  -- the nodes of a statement, before others
   pub tree_onto : Tree → List Node → List Node
   tree_onto (Assign name value) rest = Assigns name value ∷ rest
   tree_onto (Unset name) rest = Unsets name ∷ rest
   tree_onto (Defect line text) rest = Fails line text ∷ rest
   tree_onto (Recipe top act) rest = act_onto act top rest
 
+  -- the nodes of a recipe with this action, before others
   pub act_onto : Act → Top → List Node → List Node
   act_onto (Mailbox text) top rest = Stores top text ∷ rest
   act_onto (Pipe line) top rest = Pipes top line ∷ rest
@@ -59,13 +62,16 @@ stack_of (Forwards top text ∷ nodes) = put (Recipe top (Forward text)) (stack_
 stack_of (Writes top ∷ nodes) = put (Recipe top WriteOut) (stack_of nodes)
 stack_of (Opens top ∷ nodes) = put_block top (stack_of nodes)
 
+-- the list on top
 abbrev pub top_of : List Trees → Trees
 top_of [] = nil
 top_of (trees ∷ stack) = trees
 
+-- the nodes of statements
 abbrev pub nodes_of : Trees → List Node
 nodes_of trees = nodes_onto trees []
 
+-- the statements that nodes write
 abbrev pub trees_from : List Node → Trees
 trees_from nodes = top_of (stack_of nodes)
 

@@ -1,9 +1,9 @@
 -- The line on which a recipe begins.
-use Rattle.std.specs.Prelude.{ℕ, List, [], ◌∷◌, if◌then◌else◌, nat_eq, nat_lt, Bool, false, true, not, ◌&&◌, ◌||◌, take, drop, length, Option, Some, None}
+use Rattle.std.specs.Prelude.{ℕ, List, [], ◌∷◌, if◌then◌else◌, nat_eq, nat_lt, Bool, false, true, not, ◌&&◌, ◌||◌, take, drop, length, Option, Some, None, codes}
 use Rattle.std.specs.List.{list_any}
 use Rattle.pm_recipe.specs.Bytes.{begins_with}
 use Rattle.pm_recipe.specs.Places.{far, behind, rest_of, is_quote}
-use Rattle.pm_recipe.specs.declared.bytes.TheConstants.{NEWLINE, HASH, COLON}
+use Rattle.pm_bytes.specs.Alphabet.{NEWLINE, HASH, COLON, ZERO}
 use Rattle.pm_recipe.specs.declared.places.Place.TheVariants.{Joins, Blanks, Comment, FlagsWord, Letters, Tail, Word}
 use Rattle.pm_recipe.specs.declared.tree.Flags.{Flags}
 
@@ -22,15 +22,17 @@ ends_statement (byte ∷ bytes) = nat_eq byte NEWLINE || nat_eq byte HASH
 
 -- whether a colon and a zero begin the text
 abbrev pub begins_recipe : List ℕ → Bool
-begins_recipe text = begins_with COLON text && begins_with 48 (behind Joins (drop 1 text))
+begins_recipe text = begins_with COLON text && begins_with ZERO (behind Joins (drop 1 text))
 
--- the bytes among which the flags stand, behind the zero, and what follows them
+-- what follows the zero
 abbrev pub behind_zero : List ℕ → List ℕ
 behind_zero text = drop 1 (behind Joins (drop 1 text))
 
+-- the bytes behind the zero among which the flags stand
 abbrev pub flags_part : List ℕ → List ℕ
 flags_part text = take (far FlagsWord (behind_zero text)) (behind_zero text)
 
+-- what follows the flags
 abbrev pub behind_flags : List ℕ → List ℕ
 behind_flags text = behind FlagsWord (behind_zero text)
 
@@ -42,6 +44,7 @@ has_lock text = begins_with COLON (behind_flags text)
 abbrev pub lock_part : List ℕ → List ℕ
 lock_part text = behind Blanks (drop 1 (behind_flags text))
 
+-- what follows the lock's text
 abbrev pub behind_lock : List ℕ → List ℕ
 behind_lock text = drop (word_length (lock_part text)) (lock_part text)
 
@@ -59,26 +62,26 @@ has_junk text =
     nat_lt (far Letters (flags_part text)) (length (flags_part text))
     || (has_lock text && not (ends_statement (behind Blanks (behind_lock text))))
 
--- whether a letter is there
-abbrev pub has_letter : ℕ → List ℕ → Bool
-has_letter letter text = list_any (λ byte. nat_eq letter byte) text
+-- whether the flag of a letter is among these bytes
+abbrev pub has_letter : List ℕ → List ℕ → Bool
+has_letter letter text = list_any (λ byte. begins_with byte letter) text
 
 -- the flags H B D h b f c w W i r A a E e
 abbrev pub flags_of : List ℕ → Flags
 flags_of text = record {
-  search_head = has_letter 72 text;
-  search_body = has_letter 66 text;
-  distinguish = has_letter 68 text;
-  feed_head = has_letter 104 text;
-  feed_body = has_letter 98 text;
-  filter = has_letter 102 text;
-  copy = has_letter 99 text;
-  wait = has_letter 119 text;
-  wait_quiet = has_letter 87 text;
-  ignore = has_letter 105 text;
-  raw = has_letter 114 text;
-  and_chain = has_letter 65 text;
-  and_ok = has_letter 97 text;
-  or_else = has_letter 69 text;
-  on_error = has_letter 101 text;
+  search_head = has_letter (codes "H") text;
+  search_body = has_letter (codes "B") text;
+  distinguish = has_letter (codes "D") text;
+  feed_head = has_letter (codes "h") text;
+  feed_body = has_letter (codes "b") text;
+  filter = has_letter (codes "f") text;
+  copy = has_letter (codes "c") text;
+  wait = has_letter (codes "w") text;
+  wait_quiet = has_letter (codes "W") text;
+  ignore = has_letter (codes "i") text;
+  raw = has_letter (codes "r") text;
+  and_chain = has_letter (codes "A") text;
+  and_ok = has_letter (codes "a") text;
+  or_else = has_letter (codes "E") text;
+  on_error = has_letter (codes "e") text;
 }

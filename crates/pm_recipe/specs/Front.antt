@@ -1,9 +1,10 @@
 -- What stands at the front of an rcfile's text, by its first bytes and the situation.
 use Rattle.std.specs.Prelude.{ℕ, ◌+◌, ◌-◌, ◌<◌, ◌≤◌, List, [], ◌∷◌, if◌then◌else◌, nat_eq, nat_le, nat_lt, Bool, true, not, ◌&&◌, ◌||◌, length, drop}
-use Rattle.pm_recipe.specs.Bytes.{begins_with, is_name_start, is_space}
+use Rattle.pm_bytes.specs.Letter.{is_name_start, is_space_byte}
+use Rattle.pm_recipe.specs.Bytes.{begins_with}
 use Rattle.pm_recipe.specs.Places.{far, behind}
 use Rattle.pm_recipe.specs.Colon.{word_length, is_unclosed, begins_recipe, has_lock, lock_part, behind_colon}
-use Rattle.pm_recipe.specs.declared.bytes.TheConstants.{NEWLINE, HASH, STAR, OPEN, CLOSE, COLON, EQUALS, BAR, BANG, BACKSLASH}
+use Rattle.pm_bytes.specs.Alphabet.{NEWLINE, HASH, STAR, OPEN_BRACE, CLOSE_BRACE, COLON, EQUALS, BAR, BANG, BACKSLASH}
 use Rattle.pm_recipe.specs.declared.places.Place.TheVariants as place
 use Rattle.pm_recipe.specs.declared.fronts.Front.{Front}
 use Rattle.pm_recipe.specs.declared.fronts.Situation.{Situation}
@@ -40,7 +41,7 @@ assignment text mid before rest =
 -- behind a name there is a blank, a newline or the end
 abbrev pub ends_name : List ℕ → Bool
 ends_name [] = true
-ends_name (byte ∷ bytes) = is_space byte
+ends_name (byte ∷ bytes) = is_space_byte byte
 
 -- from a name on: what follows it and its blanks
 abbrev pub behind_name : List ℕ → List ℕ
@@ -67,7 +68,7 @@ colon_front text =
 abbrev pub statement_of : Bool → List ℕ → Front
 statement_of in_block [] = gap 0
 statement_of in_block (byte ∷ bytes) =
-    if nat_eq byte CLOSE && in_block then piece Close 0 0 1 1 else
+    if nat_eq byte CLOSE_BRACE && in_block then piece Close 0 0 1 1 else
     if begins_recipe (byte ∷ bytes) then colon_front (byte ∷ bytes) else
     if is_name_start byte then named (byte ∷ bytes) else skipped (byte ∷ bytes)
 
@@ -110,25 +111,25 @@ abbrev pub recipe_line : Bool → List ℕ → Front
 recipe_line deep [] = gap 0
 recipe_line deep (byte ∷ bytes) =
     if nat_eq byte STAR then line_front Condition 1 (far place.Line bytes + 1) else
-    if nat_eq byte OPEN && opens bytes then brace deep (byte ∷ bytes) else
+    if nat_eq byte OPEN_BRACE && opens bytes then brace deep (byte ∷ bytes) else
     if nat_eq byte BANG then line_front Forward 1 (far place.Line bytes + 1) else
     if nat_eq byte BAR then
     (if ends_line (behind place.Blanks bytes) then line_front WriteOut 1 (far place.Line bytes + 1)
     else line_front Pipe 1 (far place.Line bytes + 1))
     else other_action (byte ∷ bytes)
 
--- the deepest that blocks may be nested
-abbrev pub deepest : ℕ
-deepest = 1000
+-- as many blocks may be nested
+abbrev pub most_blocks : ℕ
+most_blocks = 1000
 
 -- blanks, newlines, joins and comments stand between statements and between the lines of a recipe
 abbrev pub front_of : Situation → List ℕ → Front
 front_of situation [] = gap 0
 front_of situation (byte ∷ bytes) =
-    if is_space byte then gap 1 else
-    if nat_eq byte BACKSLASH && begins_with 10 bytes then gap 2 else
+    if is_space_byte byte then gap 1 else
+    if nat_eq byte BACKSLASH && begins_with NEWLINE bytes then gap 2 else
     if nat_eq byte HASH then gap (far place.Comment bytes + 1) else
-    if situation.in_recipe && not (nat_eq byte CLOSE || nat_eq byte COLON) then recipe_line (nat_le deepest situation.depth) (byte ∷ bytes)
+    if situation.in_recipe && not (nat_eq byte CLOSE_BRACE || nat_eq byte COLON) then recipe_line (nat_le most_blocks situation.depth) (byte ∷ bytes)
     else statement_of (nat_lt 0 situation.depth) (byte ∷ bytes)
 
 -- a front takes something, and lies within a text of this length

@@ -3,14 +3,14 @@ use Rattle.std.specs.Prelude.{ℕ, List, [], ◌∷◌, if◌then◌else◌, nat
 use Rattle.pm_bytes.specs.Letter.{is_blank_byte}
 use Rattle.pm_recipe.specs.Bytes.{begins_with, is_empty}
 use Rattle.pm_recipe.specs.Places.{behind}
-use Rattle.pm_recipe.specs.declared.bytes.TheConstants.{BACKSLASH}
+use Rattle.pm_bytes.specs.Alphabet.{NEWLINE, BACKSLASH}
 use Rattle.pm_recipe.specs.declared.joins.Side.{Side}
 use Rattle.pm_recipe.specs.declared.joins.Side.TheVariants.{Text, Newline, Indent}
 use Rattle.pm_recipe.specs.declared.places.Place.TheVariants.{Blanks}
 
 -- whether a backslash stands before a newline
 abbrev pub is_join : ℕ → List ℕ → Bool
-is_join byte bytes = nat_eq byte BACKSLASH && begins_with 10 bytes
+is_join byte bytes = nat_eq byte BACKSLASH && begins_with NEWLINE bytes
 
 -- whether a byte is dropped: one of a join, or a blank behind one
 abbrev pub is_dropped : Side → ℕ → List ℕ → Bool

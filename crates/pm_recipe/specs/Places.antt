@@ -1,8 +1,8 @@
 -- How far a reader comes in a text, from the place where it stands.
 use Rattle.std.specs.Prelude.{ℕ, ◌+◌, List, [], ◌∷◌, if◌then◌else◌, nat_eq, Bool, false, true, not, ◌&&◌, ◌||◌, drop}
-use Rattle.pm_bytes.specs.Letter.{is_blank_byte}
-use Rattle.pm_recipe.specs.Bytes.{is_space, is_digit, is_name_start, is_name_byte, is_flag_letter, begins_with}
-use Rattle.pm_recipe.specs.declared.bytes.TheConstants.{NEWLINE, HASH, COLON, BANG, DOLLAR, QUESTION, DOT, PLUS, MINUS, SINGLE, DOUBLE, BACKQUOTE, BACKSLASH}
+use Rattle.pm_bytes.specs.Letter.{is_blank_byte, is_digit_byte, is_name_byte, is_name_start, is_space_byte}
+use Rattle.pm_recipe.specs.Bytes.{is_flag_letter, begins_with}
+use Rattle.pm_bytes.specs.Alphabet.{NEWLINE, HASH, COLON, BANG, DOLLAR, QUESTION, DOT, PLUS, MINUS, SINGLE_QUOTE, DOUBLE_QUOTE, BACKQUOTE, BACKSLASH}
 use Rattle.pm_recipe.specs.declared.places.Place.{Place}
 use Rattle.pm_recipe.specs.declared.places.Place.TheVariants.{Joins, Blanks, Name, Comment, Line, Flags, FlagsWord, Tail, TailWord, Word, Escaped, Single, Double, DoubleEscaped, Backquote, BackquoteEscaped, Inner, InnerEscaped, Dollar, Sign, Number, Lead, LeadName, LeadBlanks, LeadMark, Letters}
 
@@ -31,10 +31,10 @@ ends_at Flags byte = nat_eq byte NEWLINE || nat_eq byte COLON || nat_eq byte HAS
 ends_at FlagsWord byte = nat_eq byte NEWLINE || nat_eq byte COLON
 ends_at Tail byte = nat_eq byte NEWLINE
 ends_at TailWord byte = nat_eq byte NEWLINE
-ends_at Word byte = is_space byte
+ends_at Word byte = is_space_byte byte
 ends_at Dollar byte = nat_eq byte DOLLAR
-ends_at Sign byte = not (is_digit byte || nat_eq byte DOT || nat_eq byte PLUS || nat_eq byte MINUS)
-ends_at Number byte = not (is_digit byte || nat_eq byte DOT)
+ends_at Sign byte = not (is_digit_byte byte || nat_eq byte DOT || nat_eq byte PLUS || nat_eq byte MINUS)
+ends_at Number byte = not (is_digit_byte byte || nat_eq byte DOT)
 ends_at Lead byte = not (is_blank_byte byte || nat_eq byte BANG || is_name_start byte)
 ends_at LeadName byte = not (is_blank_byte byte || nat_eq byte QUESTION || is_name_byte byte)
 ends_at LeadBlanks byte = not (is_blank_byte byte || nat_eq byte QUESTION)
@@ -49,12 +49,12 @@ place_after FlagsWord byte = if is_blank_byte byte then Flags else FlagsWord
 place_after Tail byte = if nat_eq byte HASH then Comment else if is_blank_byte byte then Tail else TailWord
 place_after TailWord byte = if is_blank_byte byte then Tail else TailWord
 place_after Word byte =
-    if nat_eq byte BACKSLASH then Escaped else if nat_eq byte SINGLE then Single else
-    if nat_eq byte DOUBLE then Double else if nat_eq byte BACKQUOTE then Backquote else Word
+    if nat_eq byte BACKSLASH then Escaped else if nat_eq byte SINGLE_QUOTE then Single else
+    if nat_eq byte DOUBLE_QUOTE then Double else if nat_eq byte BACKQUOTE then Backquote else Word
 place_after Escaped byte = Word
-place_after Single byte = if nat_eq byte SINGLE then Word else Single
+place_after Single byte = if nat_eq byte SINGLE_QUOTE then Word else Single
 place_after Double byte =
-    if nat_eq byte BACKSLASH then DoubleEscaped else if nat_eq byte DOUBLE then Word else if nat_eq byte BACKQUOTE then Inner else Double
+    if nat_eq byte BACKSLASH then DoubleEscaped else if nat_eq byte DOUBLE_QUOTE then Word else if nat_eq byte BACKQUOTE then Inner else Double
 place_after DoubleEscaped byte = Double
 place_after Backquote byte = if nat_eq byte BACKSLASH then BackquoteEscaped else if nat_eq byte BACKQUOTE then Word else Backquote
 place_after BackquoteEscaped byte = Backquote
@@ -80,7 +80,7 @@ is_quote _ = false
 
 -- whether the backslash in front of these bytes joins two lines
 abbrev pub joins_before : Place → ℕ → List ℕ → Bool
-joins_before place byte bytes = joins_at place && nat_eq byte BACKSLASH && begins_with 10 bytes
+joins_before place byte bytes = joins_at place && nat_eq byte BACKSLASH && begins_with NEWLINE bytes
 
 -- the place behind a byte; a join changes none
 abbrev pub place_behind : Bool → Place → ℕ → List ℕ → Place
@@ -100,9 +100,10 @@ rest_of joined place (byte ∷ bytes) =
     if not joined && not (joins_before place byte bytes) && ends_at place byte then place
     else rest_of (joins_before place byte bytes && not joined) (place_behind joined place byte bytes) bytes
 
--- how far a reader comes from this place, and what is behind
+-- how far a reader comes from this place
 abbrev pub far : Place → List ℕ → ℕ
 far place text = reach_of false place text
 
+-- what stands behind there
 abbrev pub behind : Place → List ℕ → List ℕ
 behind place text = drop (far place text) text

@@ -1,8 +1,9 @@
 -- A word of an rcfile in the words of the language: bytes, bytes behind a backslash, and quotes.
 use Rattle.std.specs.Prelude.{ℕ, List, [], ◌∷◌, ◌++◌, ◌≡◌, nat_eq, Bool, true, false, not, ◌&&◌, ◌⊎◌}
-use Rattle.pm_recipe.specs.Bytes.{begins_with, is_space}
+use Rattle.pm_bytes.specs.Letter.{is_space_byte}
+use Rattle.pm_recipe.specs.Bytes.{begins_with}
 use Rattle.pm_recipe.specs.Front.{ends_name}
-use Rattle.pm_recipe.specs.declared.bytes.TheConstants.{HASH, SINGLE, DOUBLE, BACKQUOTE, BACKSLASH}
+use Rattle.pm_bytes.specs.Alphabet.{HASH, SINGLE_QUOTE, DOUBLE_QUOTE, BACKQUOTE, BACKSLASH}
 
 -- what stands in backquotes: a byte, or a backslash and the byte that it takes along
 pub data Mark : Type 0 where
@@ -32,7 +33,7 @@ marks_text (Mark.Taken byte ∷ marks) rest = BACKSLASH ∷ (byte ∷ marks_text
 
 -- the bytes in double quotes, which a double quote ends
 abbrev pub inners_text : List Inner → List ℕ → List ℕ
-inners_text [] rest = DOUBLE ∷ rest
+inners_text [] rest = DOUBLE_QUOTE ∷ rest
 inners_text (Inner.Plain byte ∷ inners) rest = byte ∷ inners_text inners rest
 inners_text (Inner.Taken byte ∷ inners) rest = BACKSLASH ∷ (byte ∷ inners_text inners rest)
 inners_text (Inner.Command marks ∷ inners) rest = BACKQUOTE ∷ marks_text marks (inners_text inners rest)
@@ -42,8 +43,8 @@ abbrev pub word_text : List Part → List ℕ → List ℕ
 word_text [] rest = rest
 word_text (Part.Plain byte ∷ parts) rest = byte ∷ word_text parts rest
 word_text (Part.Taken byte ∷ parts) rest = BACKSLASH ∷ (byte ∷ word_text parts rest)
-word_text (Part.Single bytes ∷ parts) rest = SINGLE ∷ (bytes ++ (SINGLE ∷ word_text parts rest))
-word_text (Part.Double inners ∷ parts) rest = DOUBLE ∷ inners_text inners (word_text parts rest)
+word_text (Part.Single bytes ∷ parts) rest = SINGLE_QUOTE ∷ (bytes ++ (SINGLE_QUOTE ∷ word_text parts rest))
+word_text (Part.Double inners ∷ parts) rest = DOUBLE_QUOTE ∷ inners_text inners (word_text parts rest)
 word_text (Part.Command marks ∷ parts) rest = BACKQUOTE ∷ marks_text marks (word_text parts rest)
 
 -- in backquotes a byte is no backquote and no backslash
@@ -56,20 +57,20 @@ are_marks (Mark.Taken byte ∷ marks) = are_marks marks
 abbrev pub are_inners : List Inner → Bool
 are_inners [] = true
 are_inners (Inner.Plain byte ∷ inners) =
-    not (nat_eq byte BACKSLASH) && not (nat_eq byte DOUBLE) && not (nat_eq byte BACKQUOTE) && are_inners inners
+    not (nat_eq byte BACKSLASH) && not (nat_eq byte DOUBLE_QUOTE) && not (nat_eq byte BACKQUOTE) && are_inners inners
 are_inners (Inner.Taken byte ∷ inners) = are_inners inners
 are_inners (Inner.Command marks ∷ inners) = are_marks marks && are_inners inners
 
 -- in single quotes there is no single quote
 abbrev pub are_single : List ℕ → Bool
 are_single [] = true
-are_single (byte ∷ bytes) = not (nat_eq byte SINGLE) && are_single bytes
+are_single (byte ∷ bytes) = not (nat_eq byte SINGLE_QUOTE) && are_single bytes
 
 -- outside quotes a byte is no blank, no newline, no backslash and no quote
 abbrev pub are_parts : List Part → Bool
 are_parts [] = true
 are_parts (Part.Plain byte ∷ parts) =
-    not (is_space byte) && not (nat_eq byte BACKSLASH) && not (nat_eq byte SINGLE) && not (nat_eq byte DOUBLE) && not (nat_eq byte BACKQUOTE)
+    not (is_space_byte byte) && not (nat_eq byte BACKSLASH) && not (nat_eq byte SINGLE_QUOTE) && not (nat_eq byte DOUBLE_QUOTE) && not (nat_eq byte BACKQUOTE)
     && are_parts parts
 are_parts (Part.Taken byte ∷ parts) = are_parts parts
 are_parts (Part.Single bytes ∷ parts) = are_single bytes && are_parts parts

@@ -1,6 +1,6 @@
 -- An rcfile cut into spans, from the left.
 use Rattle.std.specs.Prelude.{ℕ, zero, suc, ◌+◌, ◌-◌, List, [], ◌∷◌, ◌++◌, if◌then◌else◌, nat_eq, Bool, false, true, ◌||◌, slice_range, take}
-use Rattle.pm_recipe.specs.declared.bytes.TheConstants.{NEWLINE}
+use Rattle.pm_bytes.specs.Alphabet.{NEWLINE}
 use Rattle.pm_recipe.specs.declared.fronts.Front.{Front}
 use Rattle.pm_recipe.specs.declared.fronts.Situation.{Situation}
 use Rattle.pm_recipe.specs.declared.fronts.Kind.{Kind}
@@ -14,6 +14,7 @@ pub record Span : Type 0 where
   pub name : List ℕ
   pub text : List ℕ
 
+-- the span of a front on this line
 abbrev pub span_of : Front → ℕ → List ℕ → Span
 span_of front line text = record { kind = front.kind; line = line; name = take front.mid text; text = slice_range text front.from front.to }
 

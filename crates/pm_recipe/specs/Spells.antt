@@ -1,20 +1,21 @@
 -- How each span of an rcfile is spelled (procmailrc(5)), and what a cut of a text into spans is.
 use Rattle.std.specs.Prelude.{ℕ, ◌+◌, ◌-◌, ◌≤◌, ◌<◌, zero, suc, List, [], ◌∷◌, ◌++◌, map, ◌≡◌, Bool, true, false, not, ◌&&◌, ◌||◌, take, length}
-use Rattle.pm_recipe.specs.Bytes.{begins_with, is_space, is_name_start}
-use Rattle.pm_recipe.specs.Front.{front_of, ends_name, deepest}
+use Rattle.pm_bytes.specs.Letter.{is_name_start, is_space_byte}
+use Rattle.pm_recipe.specs.Bytes.{begins_with}
+use Rattle.pm_recipe.specs.Front.{front_of, ends_name, most_blocks}
 use Rattle.pm_recipe.specs.Spans.{Span, span_of, line_past, newlines, situation_after, start, closings}
 use Rattle.pm_recipe.specs.Build.{tree_of_spans}
 use Rattle.pm_recipe.specs.Tree.{Trees}
 use Rattle.pm_recipe.specs.Words.{IsLine, AreBlanks, IsName, AreJoins, AreWords, in_flags, IsRest, IsTail}
 use Rattle.pm_recipe.specs.Quotes.{IsValue}
-use Rattle.pm_recipe.specs.declared.bytes.TheConstants.{NEWLINE, HASH, STAR, OPEN, CLOSE, COLON, EQUALS, BAR, BANG, BACKSLASH}
+use Rattle.pm_bytes.specs.Alphabet.{NEWLINE, HASH, STAR, OPEN_BRACE, CLOSE_BRACE, COLON, EQUALS, BAR, BANG, BACKSLASH, ZERO}
 use Rattle.pm_recipe.specs.declared.fronts.Situation.{Situation}
 use Rattle.pm_recipe.specs.declared.fronts.Kind.{Kind}
 use Rattle.pm_recipe.specs.declared.fronts.Kind.TheVariants.{Gap, Colon, Condition, Mailbox, Pipe, WriteOut, Capture, Forward, Open, TooDeep, Close, Assign, Unset, Skipped}
 
 -- a blank, a newline, a join or a comment
 pub data IsGap (bytes : List ℕ) (behind : List ℕ) : Type 0 where
-  Space : (byte : ℕ) → bytes ≡ byte ∷ [] → is_space byte ≡ true → IsGap bytes behind
+  Space : (byte : ℕ) → bytes ≡ byte ∷ [] → is_space_byte byte ≡ true → IsGap bytes behind
   Join : bytes ≡ BACKSLASH ∷ NEWLINE ∷ [] → IsGap bytes behind
   Comment : (text : List ℕ) → bytes ≡ HASH ∷ text → IsRest text behind → IsGap bytes behind
 
@@ -69,8 +70,8 @@ pub record IsLoneName (name : List ℕ) (bytes : List ℕ) (behind : List ℕ) :
 pub record IsHead (text : List ℕ) (after : List ℕ) : Type 0 where
   pub joins : List ℕ
   pub flags : List ℕ
-  pub text_is : text ≡ COLON ∷ (joins ++ (48 ∷ (flags ++ after)))
-  pub joined : AreJoins 0 joins (48 ∷ (flags ++ after))
+  pub text_is : text ≡ COLON ∷ (joins ++ (ZERO ∷ (flags ++ after)))
+  pub joined : AreJoins 0 joins (ZERO ∷ (flags ++ after))
   pub flagged : AreWords in_flags false 0 flags after
 
 -- the same and a colon and blanks, before a lock's text
@@ -105,33 +106,35 @@ HasForm situation WriteOut name text bytes behind =
     (situation.in_recipe ≡ true) × (name ≡ []) × IsMarked BAR text bytes behind × AreBlanks 0 text behind
 HasForm situation Capture name text bytes behind = (situation.in_recipe ≡ true) × IsCapture name text bytes behind
 HasForm situation Open name text bytes behind =
-    (situation.in_recipe ≡ true) × (name ≡ []) × (text ≡ OPEN ∷ []) × (bytes ≡ OPEN ∷ []) × IsOpened behind × (situation.depth < deepest)
+    (situation.in_recipe ≡ true) × (name ≡ []) × (text ≡ OPEN_BRACE ∷ []) × (bytes ≡ OPEN_BRACE ∷ []) × IsOpened behind × (situation.depth < most_blocks)
 HasForm situation TooDeep name text bytes behind =
-    (situation.in_recipe ≡ true) × (name ≡ []) × (text ≡ OPEN ∷ []) × (rest : List ℕ) × (bytes ≡ OPEN ∷ rest) × IsOpened rest × (behind ≡ [])
-    × (deepest ≤ situation.depth)
-HasForm situation Close name text bytes behind = (0 < situation.depth) × (name ≡ []) × (text ≡ CLOSE ∷ []) × (bytes ≡ CLOSE ∷ [])
+    (situation.in_recipe ≡ true) × (name ≡ []) × (text ≡ OPEN_BRACE ∷ []) × (rest : List ℕ) × (bytes ≡ OPEN_BRACE ∷ rest) × IsOpened rest × (behind ≡ [])
+    × (most_blocks ≤ situation.depth)
+HasForm situation Close name text bytes behind = (0 < situation.depth) × (name ≡ []) × (text ≡ CLOSE_BRACE ∷ []) × (bytes ≡ CLOSE_BRACE ∷ [])
 HasForm situation Colon name text bytes behind = (name ≡ []) × (bytes ≡ text) × IsColonLine (bytes ++ behind) behind
 HasForm situation Assign name text bytes behind = (situation.in_recipe ≡ false) × IsSetting name text bytes behind
 HasForm situation Unset name text bytes behind = (situation.in_recipe ≡ false) × (text ≡ []) × IsLoneName name bytes behind
 HasForm situation _ name text bytes behind = ⊥
 
+-- no form of the language begins a text
 abbrev pub HasNone : Situation → List ℕ → Type 0
 HasNone situation whole =
     (kind : Kind) (name text bytes behind : List ℕ) → whole ≡ bytes ++ behind → HasForm situation kind name text bytes behind → ⊥
 
 -- a line of a recipe goes on here; a colon or a closing brace doesn't
 abbrev pub goes_on : Situation → List ℕ → Bool
-goes_on situation text = situation.in_recipe && not (begins_with CLOSE text || begins_with COLON text)
+goes_on situation text = situation.in_recipe && not (begins_with CLOSE_BRACE text || begins_with COLON text)
 
 -- the first line as written of a statement that is broken, or else a text to a line's end
 pub data IsSkipped (text : List ℕ) (behind : List ℕ) : Type 0 where
   Broken : (first : ℕ) (rest : List ℕ) → text ≡ first ∷ rest → IsRest rest behind → IsBroken (text ++ behind) → IsSkipped text behind
   Other : (first : ℕ) (rest : List ℕ) → text ≡ first ∷ rest → IsTail false 0 rest behind → (IsBroken (text ++ behind) → ⊥) → IsSkipped text behind
 
--- what a mailbox and what isn't understood look like
+-- what a mailbox looks like
 abbrev pub IsMailbox : Situation → List ℕ → List ℕ → List ℕ → List ℕ → Type 0
 IsMailbox situation name text bytes behind = (goes_on situation bytes ≡ true) × (name ≡ []) × (bytes ≡ text) × IsLine 0 text behind
 
+-- what a text that isn't understood looks like
 abbrev pub IsJunk : Situation → List ℕ → List ℕ → List ℕ → List ℕ → Type 0
 IsJunk situation name text bytes behind = (goes_on situation bytes ≡ false) × (name ≡ []) × (bytes ≡ text) × IsSkipped text behind
 

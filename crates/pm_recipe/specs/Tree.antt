@@ -37,10 +37,12 @@ abbrev mutual
   trees_size nil = 0
   trees_size (cons tree trees) = tree_size tree + trees_size trees + 1
 
+  -- how much a statement holds
   pub tree_size : Tree → ℕ
   tree_size (Recipe top act) = act_size act + 1
   tree_size _ = 0
 
+  -- how much an action holds
   pub act_size : Act → ℕ
   act_size (Block trees) = trees_size trees + 1
   act_size _ = 0

@@ -1,11 +1,11 @@
 -- The weight of a condition, and its text.
 use Rattle.std.specs.Prelude.{ℕ, ◌+◌, ◌-◌, ◌*◌, List, [], ◌∷◌, ◌++◌, if◌then◌else◌, nat_eq, nat_lt, Bool, false, true, ◌&&◌, ◌||◌, take, drop, Option, Some, None, pos, neg_ℤ}
 use Rattle.std.specs.List.{list_any}
-use Rattle.pm_bytes.specs.Letter.{is_blank_byte}
-use Rattle.pm_recipe.specs.Bytes.{is_digit, begins_with}
+use Rattle.pm_bytes.specs.Letter.{is_blank_byte, is_digit_byte}
+use Rattle.pm_recipe.specs.Bytes.{begins_with}
 use Rattle.pm_recipe.specs.Places.{far, behind, rest_of}
 use Rattle.pm_recipe.specs.Joins.{unjoined, unindented, trimmed}
-use Rattle.pm_recipe.specs.declared.bytes.TheConstants.{DOLLAR, DOT, PLUS, MINUS, CARET}
+use Rattle.pm_bytes.specs.Alphabet.{DOLLAR, DOT, PLUS, MINUS, CARET, ZERO}
 use Rattle.pm_recipe.specs.declared.places.Place.{Place}
 use Rattle.pm_recipe.specs.declared.places.Place.TheVariants.{Blanks, Sign, Dollar, Lead}
 use Rattle.pm_recipe.specs.declared.tree.Weight.{Weight}
@@ -15,7 +15,7 @@ use Rattle.pm_recipe.specs.declared.tree.Condition.{Condition}
 -- the number that digits write behind those that were read; a dot has no value
 abbrev pub digits_value : ℕ → List ℕ → ℕ
 digits_value value [] = value
-digits_value value (byte ∷ bytes) = digits_value (10 * value + (byte - 48)) bytes
+digits_value value (byte ∷ bytes) = digits_value (10 * value + (byte - ZERO)) bytes
 
 -- the number that digits and nothing else write, where it is at most this one
 abbrev pub number_within : ℕ → List ℕ → Option ℕ
@@ -23,7 +23,7 @@ number_within most text =
     if list_any (λ byte. nat_eq DOT byte) text then None else
     if nat_lt most (digits_value 0 text) then None else Some (digits_value 0 text)
 
--- whether a minus stands first, and the digits behind a sign
+-- the digits behind a sign, which may be absent
 abbrev pub digits_of : List ℕ → List ℕ
 digits_of text = if begins_with PLUS text || begins_with MINUS text then drop 1 text else text
 
@@ -37,8 +37,9 @@ weight_of negative (Some w) (Some x) = weight.Some (if negative then neg_ℤ (po
 abbrev pub numeral : List ℕ → List ℕ
 numeral text = take (far Sign text) text
 
+-- whether there is a digit
 abbrev pub has_digit : List ℕ → Bool
-has_digit text = list_any is_digit text
+has_digit text = list_any is_digit_byte text
 
 -- what stands behind the caret
 abbrev pub exponent : List ℕ → List ℕ
@@ -48,6 +49,10 @@ exponent text = drop 1 (behind Sign text)
 abbrev pub ends_word : List ℕ → Bool
 ends_word [] = true
 ends_word (byte ∷ bytes) = is_blank_byte byte
+
+-- the greatest absolute value of a weight
+abbrev pub most_weight : ℕ
+most_weight = 2147483647
 
 -- two numerals with a caret between them, and a blank or the end behind
 abbrev pub has_weight : List ℕ → Bool
@@ -59,10 +64,11 @@ has_weight text =
 abbrev pub exponent_value : List ℕ → Option ℕ
 exponent_value text = number_within (if begins_with MINUS text then 0 else 1) (digits_of text)
 
+-- the weight at the front of a text, if there is one
 abbrev pub weight_at : List ℕ → Weight
 weight_at text =
     if has_weight text
-    then weight_of (begins_with MINUS text) (number_within 2147483647 (digits_of (numeral text))) (exponent_value (numeral (exponent text)))
+    then weight_of (begins_with MINUS text) (number_within most_weight (digits_of (numeral text))) (exponent_value (numeral (exponent text)))
     else weight.None
 
 -- what follows the weight, where there is one

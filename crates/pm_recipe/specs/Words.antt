@@ -1,11 +1,10 @@
 -- Runs of bytes in the words of the language: names, blanks and lines, with joins in them.
 use Rattle.std.specs.Prelude.{ℕ, List, [], ◌∷◌, ◌++◌, ◌≡◌, nat_eq, if◌then◌else◌, Bool, true, false, not, ◌&&◌, ◌||◌}
-use Rattle.pm_bytes.specs.Letter.{is_blank_byte}
-use Rattle.pm_recipe.specs.Bytes.{is_name_byte}
+use Rattle.pm_bytes.specs.Letter.{is_blank_byte, is_name_byte}
 use Rattle.pm_recipe.specs.Joins.{is_join}
 use Rattle.pm_recipe.specs.Front.{ends_line}
 use Rattle.pm_recipe.specs.Spans.{newlines}
-use Rattle.pm_recipe.specs.declared.bytes.TheConstants.{NEWLINE, BACKSLASH, COLON, HASH}
+use Rattle.pm_bytes.specs.Alphabet.{NEWLINE, BACKSLASH, COLON, HASH}
 
 -- a byte is allowed, or is the backslash or the newline of a join
 abbrev pub belongs : (ℕ → Bool) → ℕ → ℕ → List ℕ → Bool
@@ -29,12 +28,15 @@ in_join byte = false
 abbrev pub IsLine : ℕ → List ℕ → List ℕ → Type 0
 IsLine before text behind = IsRun in_line before text behind
 
+-- blanks, as many as stand here
 abbrev pub AreBlanks : ℕ → List ℕ → List ℕ → Type 0
 AreBlanks before text behind = IsRun is_blank_byte before text behind
 
+-- the bytes of a name, as many as stand here
 abbrev pub IsName : List ℕ → List ℕ → Type 0
 IsName text behind = IsRun is_name_byte 0 text behind
 
+-- joins, as many as stand here
 abbrev pub AreJoins : ℕ → List ℕ → List ℕ → Type 0
 AreJoins before text behind = IsRun in_join before text behind
 

@@ -1,13 +1,13 @@
 //! The line on which a recipe begins: its flags and its lock.
-ghost use Rattle.std.specs.Prelude.{◌≡◌, ◌≤◌, ◌<◌, ◌+◌, ◌-◌, length, IfOk, nat_lt, drop};
+ghost use Rattle.std.specs.Prelude.{◌≡◌, ◌≤◌, ◌<◌, ◌+◌, ◌-◌, length, IfOk, nat_lt, drop, [], ◌∷◌};
 ghost use Rattle.pm_recipe.specs.Places.{far};
 ghost use Rattle.pm_recipe.specs.declared.places.Place.TheVariants.{Letters};
 ghost use Rattle.pm_recipe.specs.Colon.{word_length, is_unclosed, ends_statement, begins_recipe, behind_zero, flags_part, behind_flags, has_lock, lock_part, behind_lock, behind_colon, lock_of, has_junk, has_letter, flags_of};
 
-use crate::bytes::{COLON, HASH, NEWLINE, starts_with};
+use crate::bytes::starts_with;
 use crate::places::{Place, in_quote, past, past_first, reach};
 use crate::tree::Flags;
-use pm_bytes::{Blob, Memory};
+use pm_bytes::{Blob, COLON, HASH, Memory, NEWLINE};
 use std::alloc::Global;
 
 pub fn word_in(text: &[u8]) -> usize
@@ -132,7 +132,7 @@ pub fn is_junked(text: &[u8]) -> bool
 }
 
 fn has(letter: u8, text: &[u8]) -> bool
-    ensures { result ≡ has_letter letter text.now }
+    ensures { result ≡ has_letter (letter ∷ []) text.now }
 {
     text.contains(&letter)
 }

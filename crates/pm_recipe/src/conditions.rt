@@ -1,16 +1,16 @@
 //! A condition's weight and text.
 ghost use Rattle.std.specs.Prelude.{◌≡◌, ◌≤◌, ◌<◌, ◌^◌, IfOk, IfSome, None, Some, if◌then◌else◌, nat_lt, neg_ℤ, pos};
-ghost use Rattle.pm_recipe.specs.Weights.{digits_value, number_within, digits_of, weight_of, numeral, has_digit, exponent, ends_word, has_weight, exponent_value, weight_at, behind_weight, is_expanded, condition_line, condition_of, is_at_dollar, dollar_line};
+ghost use Rattle.pm_recipe.specs.Weights.{most_weight, digits_value, number_within, digits_of, weight_of, numeral, has_digit, exponent, ends_word, has_weight, exponent_value, weight_at, behind_weight, is_expanded, condition_line, condition_of, is_at_dollar, dollar_line};
 
-use crate::bytes::{CARET, DOLLAR, DOT, MINUS, PLUS, is_digit_byte, starts_with};
+use crate::bytes::starts_with;
 use crate::joins::{trim, without_indents, without_joins};
 use crate::places::{Place, past, past_first, reach};
 use crate::tree::{Condition, Weight};
-use pm_bytes::{Blob, Memory, is_blank};
+use pm_bytes::{Blob, CARET, DOLLAR, DOT, MINUS, Memory, PLUS, is_blank, is_digit};
 use std::alloc::Global;
 
-/// The greatest absolute value of a weight.
-const MOST: u64 = 2147483647;
+// The greatest absolute value of a weight.
+const MOST_WEIGHT: u64 = 2_147_483_647;
 
 fn sum_of_digits(most: u64, text: &[u8]) -> Option<u64>
     requires { most < 2 ^ 32 }
@@ -64,7 +64,7 @@ fn has_digits(text: &[u8]) -> bool
     ensures { result ≡ has_digit text.now }
 {
     for byte in text {
-        if is_digit_byte(*byte) {
+        if is_digit(*byte) {
             return true;
         }
     }
@@ -103,7 +103,7 @@ fn exponent_number(text: &[u8]) -> Option<u64>
 }
 
 fn signed(negative: bool, number: u64) -> i32
-    requires { number ≤ 2147483647 }
+    requires { number ≤ most_weight }
     ensures { result ≡ (if negative then neg_ℤ (pos number) else pos number) }
 {
     if negative {
@@ -114,7 +114,7 @@ fn signed(negative: bool, number: u64) -> i32
 }
 
 fn weight_by(negative: bool, w: Option<u64>, x: Option<u64>) -> Weight
-    requires w { IfSome w (λ number. number ≤ 2147483647) }
+    requires w { IfSome w (λ number. number ≤ most_weight) }
     requires x { IfSome x (λ number. number ≤ 1) }
     ensures { result ≡ weight_of negative w x }
 {
@@ -136,7 +136,7 @@ fn read_weight(text: &[u8]) -> Weight
     if !is_weighted(text) {
         return Weight::None;
     }
-    let w = number_in(MOST, digits_in(numeral_in(text)));
+    let w = number_in(MOST_WEIGHT, digits_in(numeral_in(text)));
     let x = exponent_number(numeral_in(exponent_in(text)));
     weight_by(starts_with(MINUS, text), w, x)
 }
@@ -160,7 +160,8 @@ fn may_expand(place: Place) -> bool
     }
 }
 
-fn expands(text: &[u8]) -> bool
+// Whether a `$` stands before the expression, so that the line is expanded before it is matched.
+fn has_dollar(text: &[u8]) -> bool
     ensures { result ≡ is_expanded text.now }
 {
     may_expand(reach(Place::Lead, text).place) && starts_with(DOLLAR, past(Place::Lead, text))
@@ -180,7 +181,7 @@ fn read_line(alloc: Global, text: &[u8]) -> Result<Blob, Memory>
     ensures { IfOk result (λ line. line ≡ condition_line text.now) }
 {
     let line = without_indents(alloc, text)?;
-    if expands(past_weight(trim(line.as_slice()))) {
+    if has_dollar(past_weight(trim(line.as_slice()))) {
         let whole = read_dollar_line(alloc, text)?;
         return Blob::from_slice(alloc, trim(whole.as_slice()));
     }

@@ -3,10 +3,11 @@ ghost use Rattle.std.specs.Prelude.{◌≡◌, ◌≤◌, ◌<◌, ◌^◌, ◌+
 ghost use Rattle.pm_recipe.specs.Front.{front_of, gap, line_front, Within};
 ghost use Rattle.pm_recipe.specs.Spans.{situation_after, in_statements, newlines};
 
-use crate::bytes::{BACKSLASH, CLOSE, COLON, HASH, NEWLINE, is_space_byte, starts_with};
+use crate::bytes::starts_with;
 use crate::lines::recipe_line_at;
 use crate::names::statement_at;
 use crate::places::{Place, reach};
+use pm_bytes::{BACKSLASH, CLOSE_BRACE, COLON, HASH, NEWLINE, is_space};
 
 /// What a span is. `Missing` stands where the text ends inside blocks.
 #[derive(Clone, Copy, PartialEq, Eq)]
@@ -49,8 +50,8 @@ pub struct Situation {
     pub stopped: bool,
 }
 
-/// As many blocks may be nested.
-pub const DEEPEST: usize = 1000;
+// As many blocks may be nested.
+const MOST_BLOCKS: usize = 1000;
 
 fn gap_of(taken: usize) -> Front
     ensures { result ≡ gap taken }
@@ -87,7 +88,7 @@ pub fn front_at(situation: &Situation, text: &[u8]) -> Front
     ensures within { Within result (length text.now) }
 {
     let byte = text[0];
-    if is_space_byte(byte) {
+    if is_space(byte) {
         return gap_of(1);
     }
     if byte == BACKSLASH && starts_with(NEWLINE, &text[1..]) {
@@ -96,8 +97,8 @@ pub fn front_at(situation: &Situation, text: &[u8]) -> Front
     if byte == HASH {
         return gap_of(reach(Place::Comment, &text[1..]).length + 1);
     }
-    if situation.in_recipe && byte != CLOSE && byte != COLON {
-        recipe_line_at(situation.depth >= DEEPEST, text)
+    if situation.in_recipe && byte != CLOSE_BRACE && byte != COLON {
+        recipe_line_at(situation.depth >= MOST_BLOCKS, text)
     } else {
         statement_at(situation.depth > 0, text)
     }

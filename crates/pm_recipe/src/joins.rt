@@ -1,13 +1,10 @@
 //! Texts without the joins of their lines, and without the blanks at their ends.
-ghost use Rattle.std.specs.Prelude.{◌≡◌, ◌+◌, ◌<◌, IfOk, length, drop, not, ◌&&◌, ◌||◌, nat_eq, if◌then◌else◌, List, ℕ, ◌++◌, ◌∷◌};
-ghost use Rattle.pm_recipe.specs.Bytes.{begins_with};
-ghost use Rattle.pm_recipe.specs.declared.bytes.TheConstants.{BACKSLASH};
+ghost use Rattle.std.specs.Prelude.{◌≡◌, ◌+◌, ◌<◌, IfOk, length, drop, if◌then◌else◌, List, ℕ, ◌++◌, ◌∷◌};
 ghost use Rattle.pm_recipe.specs.declared.joins.Side.TheVariants as Side;
-ghost use Rattle.pm_recipe.specs.Joins.{is_dropped, side_after, kept, unjoined, unindented, before_blanks, trimmed};
+ghost use Rattle.pm_recipe.specs.Joins.{is_join, is_dropped, side_after, kept, unjoined, unindented, before_blanks, trimmed};
 
-use crate::bytes::BACKSLASH;
 use crate::places::{Place, newline_behind, reach};
-use pm_bytes::{Blob, Memory, is_blank};
+use pm_bytes::{BACKSLASH, Blob, Memory, is_blank};
 use std::alloc::Global;
 
 /// Where a byte stands: in the text, at a join's newline, or among the blanks behind one.
@@ -19,7 +16,7 @@ pub enum Side {
 }
 
 fn drops(side: Side, byte: u8, joins: bool) -> bool
-    ensures { (bytes : List ℕ) → joins ≡ (nat_eq byte BACKSLASH && begins_with 10 bytes) → result ≡ is_dropped side byte bytes }
+    ensures { (bytes : List ℕ) → joins ≡ is_join byte bytes → result ≡ is_dropped side byte bytes }
 {
     match side {
         Side::Text => joins,
@@ -29,7 +26,7 @@ fn drops(side: Side, byte: u8, joins: bool) -> bool
 }
 
 fn after(indents: bool, side: Side, byte: u8, joins: bool) -> Side
-    ensures { (bytes : List ℕ) → joins ≡ (nat_eq byte BACKSLASH && begins_with 10 bytes)
+    ensures { (bytes : List ℕ) → joins ≡ is_join byte bytes
         → result ≡ side_after indents side byte bytes }
 {
     match side {
@@ -56,7 +53,7 @@ fn push_kept(copy: &mut Vec<u8>, byte: u8, dropped: bool) -> Result<(), Memory>
 
 fn joins_at(text: &[u8], i: usize, byte: u8) -> bool
     requires { i < length text.now }
-    ensures { result ≡ (nat_eq byte BACKSLASH && begins_with 10 (drop (i + 1) text.now)) }
+    ensures { result ≡ is_join byte (drop (i + 1) text.now) }
 {
     byte == BACKSLASH && newline_behind(text, i)
 }

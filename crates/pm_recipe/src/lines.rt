@@ -4,10 +4,11 @@ ghost use Rattle.pm_recipe.specs.Places.{far};
 ghost use Rattle.pm_recipe.specs.declared.places.Place.TheVariants.{Line, Blanks};
 ghost use Rattle.pm_recipe.specs.Front.{opens, ends_line, behind_equals, captures, capture, other_action, recipe_line, line_front, name_width, behind_name, brace, Within};
 
-use crate::bytes::{BANG, BAR, EQUALS, NEWLINE, OPEN, STAR, begins_name, starts_with};
+use crate::bytes::starts_with;
 use crate::fronts::{Front, Kind, line_of};
 use crate::names::{is_name_end, past_name};
 use crate::places::{Place, past, past_first, reach};
+use pm_bytes::{BANG, BAR, EQUALS, NEWLINE, OPEN_BRACE, STAR, begins_name};
 
 fn opens_block(text: &[u8]) -> bool
     ensures { result ≡ opens text.now }
@@ -118,7 +119,7 @@ pub fn recipe_line_at(deep: bool, text: &[u8]) -> Front
     if byte == STAR {
         return line_from(Kind::Condition, 1, text);
     }
-    if byte == OPEN && opens_block(past_first(text)) {
+    if byte == OPEN_BRACE && opens_block(past_first(text)) {
         return brace_at(deep, text);
     }
     if byte == BANG {

@@ -4,10 +4,11 @@ ghost use Rattle.pm_recipe.specs.Places.{far};
 ghost use Rattle.pm_recipe.specs.declared.places.Place.TheVariants.{Name};
 ghost use Rattle.pm_recipe.specs.Front.{skipped, unclosed, assignment, ends_name, behind_name, name_width, named, colon_front, statement_of, Within};
 
-use crate::bytes::{CLOSE, EQUALS, begins_name, is_space_byte, starts_with};
+use crate::bytes::starts_with;
 use crate::colon_line::{from_lock, is_locked, is_recipe, leaves_quote, past_colon_line, word_in};
 use crate::fronts::{Front, Kind, line_of};
 use crate::places::{Place, past, past_first, reach};
+use pm_bytes::{CLOSE_BRACE, EQUALS, begins_name, is_space};
 
 fn skip(text: &[u8]) -> Front
     requires some { 0 < length text.now }
@@ -67,7 +68,7 @@ pub fn is_name_end(text: &[u8]) -> bool
 {
     match text {
         [] => true,
-        [byte, ..] => is_space_byte(*byte),
+        [byte, ..] => is_space(*byte),
     }
 }
 
@@ -132,7 +133,7 @@ pub fn statement_at(in_block: bool, text: &[u8]) -> Front
     ensures within { Within result (length text.now) }
 {
     let byte = text[0];
-    if byte == CLOSE && in_block {
+    if byte == CLOSE_BRACE && in_block {
         return Front {
             kind: Kind::Close,
             mid: 0,

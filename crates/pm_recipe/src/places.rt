@@ -1,15 +1,15 @@
 //! How far a name, a word, a line or a number reaches: the places in which a reader can stand, and what each byte does there.
 ghost use Rattle.std.specs.Prelude.{◌≡◌, ◌≤◌, ◌<◌, length, drop, ◌+◌, false, not, ◌&&◌, ◌||◌, nat_eq, if◌then◌else◌, ◌-◌};
+ghost use Rattle.pm_bytes.specs.Alphabet as alphabet;
 ghost use Rattle.pm_recipe.specs.Bytes.{begins_with};
-ghost use Rattle.pm_recipe.specs.declared.bytes.TheConstants.{BACKSLASH};
 ghost use Rattle.pm_recipe.specs.declared.places.Place.TheVariants as Place;
 ghost use Rattle.pm_recipe.specs.Places.{joins_at, ends_at, place_after, is_quote, reach_of, rest_of, far, behind};
 
-use crate::bytes::{
-    BACKQUOTE, BACKSLASH, BANG, COLON, DOLLAR, DOT, DOUBLE, HASH, MINUS, NEWLINE, PLUS, QUESTION,
-    SINGLE, begins_name, in_name, is_digit_byte, is_flag, is_space_byte, starts_with,
+use crate::bytes::{is_flag, starts_with};
+use pm_bytes::{
+    BACKQUOTE, BACKSLASH, BANG, COLON, DOLLAR, DOT, DOUBLE_QUOTE, HASH, MINUS, NEWLINE, PLUS,
+    QUESTION, SINGLE_QUOTE, begins_name, continues_name, is_blank, is_digit, is_space,
 };
-use pm_bytes::is_blank;
 
 /// Where a reader stands.
 #[derive(Clone, Copy, PartialEq, Eq)]
@@ -82,19 +82,19 @@ fn ends_here(place: Place, byte: u8) -> bool
     match place {
         Place::Joins => true,
         Place::Blanks => !is_blank(byte),
-        Place::Name => !in_name(byte),
+        Place::Name => !continues_name(byte),
         Place::Comment => byte == NEWLINE,
         Place::Line => byte == NEWLINE,
         Place::Flags => byte == NEWLINE || byte == COLON || byte == HASH,
         Place::FlagsWord => byte == NEWLINE || byte == COLON,
         Place::Tail => byte == NEWLINE,
         Place::TailWord => byte == NEWLINE,
-        Place::Word => is_space_byte(byte),
+        Place::Word => is_space(byte),
         Place::Dollar => byte == DOLLAR,
-        Place::Sign => !(is_digit_byte(byte) || byte == DOT || byte == PLUS || byte == MINUS),
-        Place::Number => !(is_digit_byte(byte) || byte == DOT),
+        Place::Sign => !(is_digit(byte) || byte == DOT || byte == PLUS || byte == MINUS),
+        Place::Number => !(is_digit(byte) || byte == DOT),
         Place::Lead => !(is_blank(byte) || byte == BANG || begins_name(byte)),
-        Place::LeadName => !(is_blank(byte) || byte == QUESTION || in_name(byte)),
+        Place::LeadName => !(is_blank(byte) || byte == QUESTION || continues_name(byte)),
         Place::LeadBlanks => !(is_blank(byte) || byte == QUESTION),
         Place::LeadMark => byte != QUESTION,
         Place::Letters => !(is_blank(byte) || is_flag(byte)),
@@ -108,10 +108,10 @@ fn word_after(byte: u8) -> Place
     if byte == BACKSLASH {
         return Place::Escaped;
     }
-    if byte == SINGLE {
+    if byte == SINGLE_QUOTE {
         return Place::Single;
     }
-    if byte == DOUBLE {
+    if byte == DOUBLE_QUOTE {
         return Place::Double;
     }
     if byte == BACKQUOTE {
@@ -127,7 +127,7 @@ fn double_after(byte: u8) -> Place
     if byte == BACKSLASH {
         return Place::DoubleEscaped;
     }
-    if byte == DOUBLE {
+    if byte == DOUBLE_QUOTE {
         return Place::Word;
     }
     if byte == BACKQUOTE {
@@ -211,7 +211,7 @@ fn after(place: Place, byte: u8) -> Place
         },
         Place::Word => word_after(byte),
         Place::Escaped => Place::Word,
-        Place::Single => if byte == SINGLE {
+        Place::Single => if byte == SINGLE_QUOTE {
             Place::Word
         } else {
             Place::Single
@@ -257,13 +257,13 @@ pub fn in_quote(place: Place) -> bool
 
 pub fn newline_behind(text: &[u8], i: usize) -> bool
     requires { i < length text.now }
-    ensures { result ≡ begins_with 10 (drop (i + 1) text.now) }
+    ensures { result ≡ begins_with alphabet.NEWLINE (drop (i + 1) text.now) }
 {
     starts_with(NEWLINE, &text[i + 1..])
 }
 
 fn joins(place: Place, byte: u8, newline: bool) -> bool
-    ensures { result ≡ joins_at place && nat_eq byte BACKSLASH && newline }
+    ensures { result ≡ joins_at place && nat_eq byte alphabet.BACKSLASH && newline }
 {
     joins_here(place) && byte == BACKSLASH && newline
 }

@@ -1,6 +1,6 @@
 //! Reading of an rcfile, once over its bytes.
 ghost use Rattle.std.specs.Prelude.{◌≡◌, ◌<◌, ◌≤◌, IfOk, length, List, ℕ, flat_map, IfErr, OnOk, None, []};
-ghost use Rattle.pm_recipe.specs.Refusal.{IsRefusal};
+ghost use Rattle.pm_recipe.specs.Refusal.{IsRefusal, most_length};
 ghost use Rattle.pm_recipe.specs.Spans.{closings, missed, covers_of};
 ghost use Rattle.pm_recipe.specs.Build.{rc_of};
 ghost use Rattle.pm_recipe.specs.Builder.{built_of, whole, Suits};
@@ -12,7 +12,7 @@ use pm_bytes::Memory;
 use std::alloc::Global;
 
 /// The greatest length of an rcfile, in bytes.
-const LIMIT: usize = 1048576;
+const MOST_LENGTH: usize = 1_048_576;
 
 /// Why an rcfile isn't read: it is of `length` bytes and thereby too long, or memory was wanting.
 #[derive(Clone, Copy, PartialEq, Eq, Debug)]
@@ -34,10 +34,10 @@ impl From<Memory> for RcRefused {
 /// The statements of an rcfile (procmailrc(5)).
 pub fn read_rc(alloc: Global, bytes: &[u8]) -> Result<Rc, RcRefused>
     ensures statements { IfOk result (λ rc. rc.statements ≡ rc_of bytes.now) }
-    ensures fits { OnOk result (length bytes.now ≤ LIMIT) }
+    ensures fits { OnOk result (length bytes.now ≤ most_length) }
     ensures refused { IfErr result (λ refused. IsRefusal (length bytes.now) refused) }
 {
-    if bytes.len() > LIMIT {
+    if bytes.len() > MOST_LENGTH {
         return Err(RcRefused::TooLong {
             length: bytes.len() as u64,
         });

@@ -7,24 +7,38 @@ use pm_bytes::{Blob, Memory};
 use std::alloc::Global;
 use std::marker::Model;
 
-/// The flags of a recipe, one for each letter of its colon line: H, B, D, h, b, f, c, w, W, i, r, A, a, E and e
-/// (procmailrc(5), "Recipe format").
+/// The flags of a recipe, one for each letter of its colon line (procmailrc(5), "Recipe format").
 #[derive(Clone, Copy, PartialEq, Eq, Debug)]
 pub struct Flags {
+    /// `H`: conditions search the head.
     pub search_head: bool,
+    /// `B`: conditions search the body.
     pub search_body: bool,
+    /// `D`: conditions tell capitals from small letters.
     pub distinguish: bool,
+    /// `h`: the action gets the head.
     pub feed_head: bool,
+    /// `b`: the action gets the body.
     pub feed_body: bool,
+    /// `f`: the program is a filter, whose output becomes the mail.
     pub filter: bool,
+    /// `c`: the mail goes on behind the action.
     pub copy: bool,
+    /// `w`: the run waits for the program and heeds its exit status.
     pub wait: bool,
+    /// `W`: the same, and a failure of the program isn't told.
     pub wait_quiet: bool,
+    /// `i`: an error in writing is ignored.
     pub ignore: bool,
+    /// `r`: the mail is written as it is, with no empty line at its end.
     pub raw: bool,
+    /// `A`: only where the conditions of the last recipe without `A` or `a` held.
     pub and_chain: bool,
+    /// `a`: the same, and the recipe before it succeeded.
     pub and_ok: bool,
+    /// `E`: only where the conditions of the recipe before it didn't hold.
     pub or_else: bool,
+    /// `e`: only where the recipe before it failed.
     pub on_error: bool,
 }
 

@@ -2,7 +2,7 @@
 use Rattle.std.proofs.Common.{◌≡◌, ◌≢◌, arith, ◌<◌, ◌+◌, ◌&&◌, cond, ℕ, Bool, true, false, nat_eq, List, [], ◌∷◌, ◌++◌, refl, ap, sym, ◌∙◌, length, get_or, take}
 use Rattle.std.proofs.lemmas.Bool.Decides.{nat_tests}
 use Rattle.std.proofs.lemmas.List.{take_more}
-use Rattle.pm_subst.specs.declared.bytes.TheConstants.{NEWLINE}
+use Rattle.pm_bytes.specs.Alphabet.{NEWLINE}
 use Rattle.pm_subst.specs.Values.{trimmed, is_empty}
 
 trimmed-newline : (xs : List ℕ) → trimmed (xs ++ NEWLINE ∷ []) ≡ trimmed xs

@@ -1,24 +1,14 @@
--- The classes of bytes, and how far names, quotes and commands reach.
-use Rattle.std.specs.Prelude.{ℕ, ◌+◌, List, [], ◌∷◌, if◌then◌else◌, nat_eq, nat_le, Bool, false, true, ◌&&◌, ◌||◌}
-use Rattle.pm_subst.specs.declared.bytes.TheConstants.{BACKSLASH, SINGLE, NEWLINE, BACKQUOTE, UNDERSCORE}
-
--- a blank or a newline
-abbrev pub is_space : ℕ → Bool
-is_space byte = nat_eq byte 32 || nat_eq byte 9 || nat_eq byte NEWLINE
-
--- an underscore or a letter
-abbrev pub is_name_start : ℕ → Bool
-is_name_start byte = nat_eq byte UNDERSCORE || (nat_le 97 byte && nat_le byte 122) || (nat_le 65 byte && nat_le byte 90)
-
--- one of these or a digit
-abbrev pub is_name_byte : ℕ → Bool
-is_name_byte byte = is_name_start byte || (nat_le 48 byte && nat_le byte 57)
+-- The operators of expressions, and how far names, quotes and commands reach.
+use Rattle.std.specs.Prelude.{ℕ, ◌+◌, List, [], ◌∷◌, if◌then◌else◌, nat_eq, Bool, false, true, ◌||◌}
+use Rattle.pm_bytes.specs.Alphabet.{BACKSLASH, SINGLE_QUOTE, BACKQUOTE, CARET, DOLLAR, DOT, STAR, PLUS, QUESTION, BAR, OPEN_PARENTHESIS, CLOSE_PARENTHESIS, OPEN_BRACKET, CLOSE_BRACKET}
+use Rattle.pm_bytes.specs.Letter.{is_name_byte}
 
 -- ^ $ . * + ? | ( ) [ ] and the backslash
 abbrev pub is_operator : ℕ → Bool
 is_operator byte =
-    nat_eq byte 94 || nat_eq byte 36 || nat_eq byte 46 || nat_eq byte 42 || nat_eq byte 43 || nat_eq byte 63
-    || nat_eq byte 124 || nat_eq byte 40 || nat_eq byte 41 || nat_eq byte 91 || nat_eq byte 93 || nat_eq byte BACKSLASH
+    nat_eq byte CARET || nat_eq byte DOLLAR || nat_eq byte DOT || nat_eq byte STAR || nat_eq byte PLUS || nat_eq byte QUESTION
+    || nat_eq byte BAR || nat_eq byte OPEN_PARENTHESIS || nat_eq byte CLOSE_PARENTHESIS || nat_eq byte OPEN_BRACKET
+    || nat_eq byte CLOSE_BRACKET || nat_eq byte BACKSLASH
 
 -- how many bytes at the front belong to a name that has begun
 abbrev pub name_length : List ℕ → ℕ
@@ -28,7 +18,7 @@ name_length (byte ∷ bytes) = if is_name_byte byte then name_length bytes + 1 e
 -- how many bytes stand before the closing single quote
 abbrev pub quote_length : List ℕ → ℕ
 quote_length [] = 0
-quote_length (byte ∷ bytes) = if nat_eq byte SINGLE then 0 else quote_length bytes + 1
+quote_length (byte ∷ bytes) = if nat_eq byte SINGLE_QUOTE then 0 else quote_length bytes + 1
 
 -- how many bytes stand before the closing backquote, with the first behind a backslash or not
 abbrev pub command_length : Bool → List ℕ → ℕ

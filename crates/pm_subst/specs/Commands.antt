@@ -1,6 +1,6 @@
 -- The backquoted commands of a text.
 use Rattle.std.specs.Prelude.{ℕ, List, [], ◌∷◌, ◌++◌, if◌then◌else◌, nat_eq, Bool, false, true, ◌||◌}
-use Rattle.pm_subst.specs.declared.bytes.TheConstants.{BACKSLASH, BACKQUOTE}
+use Rattle.pm_bytes.specs.Alphabet.{BACKSLASH, BACKQUOTE}
 use Rattle.pm_subst.specs.declared.kinds.Mode.{Mode}
 use Rattle.pm_subst.specs.declared.kinds.Kind.{Kind}
 use Rattle.pm_subst.specs.declared.kinds.Kind.TheVariants.{Command}
@@ -14,14 +14,16 @@ command_text false (byte ∷ bytes) = if nat_eq byte BACKSLASH then command_text
 command_text true (byte ∷ bytes) =
     if nat_eq byte BACKQUOTE || nat_eq byte BACKSLASH then byte ∷ command_text false bytes else BACKSLASH ∷ byte ∷ command_text false bytes
 
+-- the command of a token of this kind and text, if it is one
 abbrev pub command_of : Kind → List ℕ → List (List ℕ)
 command_of Command text = command_text false text ∷ []
 command_of _ text = []
 
--- from left to right, also those in texts that aren't used
+-- the commands of tokens from left to right, also those in texts that aren't used
 abbrev pub commands_of : List Token → List (List ℕ)
 commands_of [] = []
 commands_of (token ∷ rest) = command_of token.kind token.text ++ commands_of rest
 
+-- the commands of a text
 abbrev pub commands_in : Mode → List ℕ → List (List ℕ)
 commands_in mode text = commands_of (tokens mode 0 [] true text)

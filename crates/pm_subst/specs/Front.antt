@@ -1,7 +1,8 @@
 -- What stands at the front of a text, by its first bytes and the rules in force.
-use Rattle.std.specs.Prelude.{ℕ, ◌+◌, ◌-◌, ◌<◌, ◌≤◌, List, [], ◌∷◌, if◌then◌else◌, nat_eq, nat_le, Bool, false, not, ◌&&◌, ◌||◌, min, length, drop, Option, Some, None}
-use Rattle.pm_subst.specs.Bytes.{is_space, is_name_start, name_length, quote_length, command_length}
-use Rattle.pm_subst.specs.declared.bytes.TheConstants.{BACKSLASH, DOLLAR, DOUBLE, SINGLE, OPEN, CLOSE, NEWLINE, HASH, COLON, DASH, PLUS, BACKQUOTE, UNDERSCORE}
+use Rattle.std.specs.Prelude.{ℕ, ◌+◌, ◌-◌, ◌<◌, ◌≤◌, List, [], ◌∷◌, if◌then◌else◌, nat_eq, Bool, false, not, ◌&&◌, ◌||◌, min, length, drop, Option, Some, None}
+use Rattle.pm_bytes.specs.Letter.{is_digit_byte, is_name_start, is_space_byte}
+use Rattle.pm_subst.specs.Bytes.{name_length, quote_length, command_length}
+use Rattle.pm_bytes.specs.Alphabet.{BACKSLASH, DOLLAR, DOUBLE_QUOTE, SINGLE_QUOTE, OPEN_BRACE, CLOSE_BRACE, NEWLINE, HASH, COLON, MINUS, PLUS, BACKQUOTE, UNDERSCORE, QUESTION, EQUALS, ZERO}
 use Rattle.pm_subst.specs.declared.kinds.Rule.{Rule}
 use Rattle.pm_subst.specs.declared.kinds.Front.{Front}
 use Rattle.pm_subst.specs.declared.kinds.Kind.{Kind}
@@ -20,7 +21,7 @@ itself = piece Text 0 1 1
 
 -- inside double quotes a backslash before one of these gives the byte
 abbrev pub is_escaped_in_quotes : ℕ → Bool
-is_escaped_in_quotes byte = nat_eq byte DOLLAR || nat_eq byte BACKQUOTE || nat_eq byte DOUBLE || nat_eq byte BACKSLASH
+is_escaped_in_quotes byte = nat_eq byte DOLLAR || nat_eq byte BACKQUOTE || nat_eq byte DOUBLE_QUOTE || nat_eq byte BACKSLASH
 
 -- behind a backslash; one before a brace that would end a quoted form stays, and the brace doesn't end it
 abbrev pub escaped : Rule → List ℕ → Front
@@ -28,21 +29,21 @@ escaped rule [] = itself
 escaped rule (byte ∷ bytes) =
     if nat_eq byte NEWLINE then piece Join 0 0 2 else
     if not rule.quoted || is_escaped_in_quotes byte then piece Text 1 2 2 else
-    if nat_eq byte CLOSE && rule.ends_form then piece Text 0 2 2 else itself
+    if nat_eq byte CLOSE_BRACE && rule.ends_form then piece Text 0 2 2 else itself
 
 -- behind the name and the colon of a form in braces
 abbrev pub colon_tail_of : ℕ → List ℕ → Front
 colon_tail_of before [] = itself
 colon_tail_of before (byte ∷ bytes) =
-    if nat_eq byte DASH then piece (FormOpen UnsetOrEmpty) 2 before (before + 2) else
+    if nat_eq byte MINUS then piece (FormOpen UnsetOrEmpty) 2 before (before + 2) else
     if nat_eq byte PLUS then piece (FormOpen SetNotEmpty) 2 before (before + 2) else itself
 
 -- behind the name of a form in braces, with the length of all before it
 abbrev pub tail_of : ℕ → List ℕ → Front
 tail_of before [] = piece Value 2 before before
 tail_of before (byte ∷ bytes) =
-    if nat_eq byte CLOSE then piece Value 2 before (before + 1) else
-    if nat_eq byte DASH then piece (FormOpen Unset) 2 before (before + 1) else
+    if nat_eq byte CLOSE_BRACE then piece Value 2 before (before + 1) else
+    if nat_eq byte MINUS then piece (FormOpen Unset) 2 before (before + 1) else
     if nat_eq byte PLUS then piece (FormOpen Set) 2 before (before + 1) else
     if nat_eq byte COLON then colon_tail_of before bytes else itself
 
@@ -58,19 +59,22 @@ literal_of [] = itself
 literal_of (byte ∷ bytes) =
     if is_name_start byte then piece Literal 2 (name_length bytes + 3) (name_length bytes + 3) else itself
 
+-- what a dollar and this byte stand for
 abbrev pub parameter_of : ℕ → Option Parameter
 parameter_of byte =
-    if nat_eq byte 48 then Some Program else
-    if nat_le 49 byte && nat_le byte 57 then Some (Argument (byte - 48)) else
+    if nat_eq byte ZERO then Some Program else
+    if is_digit_byte byte then Some (Argument (byte - ZERO)) else
     if nat_eq byte HASH then Some ArgumentCount else
     if nat_eq byte DOLLAR then Some Process else
-    if nat_eq byte 63 then Some ExitCode else
-    if nat_eq byte 61 then Some Score else
-    if nat_eq byte DASH then Some LastFolder else None
+    if nat_eq byte QUESTION then Some ExitCode else
+    if nat_eq byte EQUALS then Some Score else
+    if nat_eq byte MINUS then Some LastFolder else None
 
+-- a dollar and the byte of a parameter
 abbrev pub parameter_front : Parameter → Front
 parameter_front parameter = piece (OfParameter parameter) 1 2 2
 
+-- where the byte is none of a parameter, the dollar stands for itself
 abbrev pub parameter_or_itself : Option Parameter → Front
 parameter_or_itself None = itself
 parameter_or_itself (Some parameter) = parameter_front parameter
@@ -84,7 +88,7 @@ name_front byte length =
 abbrev pub form_of : Rule → List ℕ → Front
 form_of rule [] = itself
 form_of rule (byte ∷ bytes) =
-    if nat_eq byte OPEN && rule.may_open then braced bytes else
+    if nat_eq byte OPEN_BRACE && rule.may_open then braced bytes else
     if nat_eq byte BACKSLASH then literal_of bytes else
     if is_name_start byte then name_front byte (name_length bytes) else parameter_or_itself (parameter_of byte)
 
@@ -98,18 +102,19 @@ quotes_of rule =
 abbrev pub unquoted_front : Rule → List ℕ → Front
 unquoted_front rule [] = itself
 unquoted_front rule (byte ∷ bytes) =
-    if nat_eq byte SINGLE then piece Single 1 (quote_length bytes + 1) (min (quote_length bytes + 2) (length bytes + 1)) else
+    if nat_eq byte SINGLE_QUOTE then piece Single 1 (quote_length bytes + 1) (min (quote_length bytes + 2) (length bytes + 1)) else
     if nat_eq byte HASH && rule.may_end then piece Comment 0 0 (length bytes + 1) else
-    if is_space byte then piece Space 0 1 1 else itself
+    if is_space_byte byte then piece Space 0 1 1 else itself
 
+-- what stands at the front of a text under a rule
 abbrev pub front_of : Rule → List ℕ → Front
 front_of rule [] = itself
 front_of rule (byte ∷ bytes) =
     if nat_eq byte BACKSLASH then escaped rule bytes else
     if nat_eq byte DOLLAR then form_of rule bytes else
-    if nat_eq byte DOUBLE then quotes_of rule else
+    if nat_eq byte DOUBLE_QUOTE then quotes_of rule else
     if nat_eq byte BACKQUOTE then piece Command 1 (command_length false bytes + 1) (min (command_length false bytes + 2) (length bytes + 1)) else
-    if nat_eq byte CLOSE && rule.ends_form then piece FormClose 0 0 1 else
+    if nat_eq byte CLOSE_BRACE && rule.ends_form then piece FormClose 0 0 1 else
     if rule.quoted then itself else unquoted_front rule (byte ∷ bytes)
 
 -- a front takes something, and lies within a text of this length

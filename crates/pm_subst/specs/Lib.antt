@@ -7,3 +7,4 @@ pub mod Buffer
 pub mod Values
 pub mod Words
 pub mod Refusals
+pub mod Laws

@@ -10,6 +10,7 @@ use Rattle.pm_subst.specs.declared.kinds.Mode.{Mode}
 use Rattle.pm_subst.specs.declared.kinds.Mode.TheVariants.{Quoted, Many}
 use Rattle.pm_subst.specs.Front.{front_of}
 
+-- whether the text is split into words
 abbrev pub is_many : Mode → Bool
 is_many Many = true
 is_many _ = false
@@ -21,6 +22,7 @@ is_quoted mode [] = false
 is_quoted mode (Form ∷ frames) = false
 is_quoted mode (_ ∷ frames) = true
 
+-- whether a form is open and not quotes
 abbrev pub is_form : Frame → Bool
 is_form Quotes = false
 is_form _ = true
@@ -30,6 +32,10 @@ abbrev pub innermost : (Frame → Bool) → List Frame → Bool
 innermost test [] = false
 innermost test (frame ∷ frames) = test frame
 
+-- as many forms may be nested
+abbrev pub most_forms : ℕ
+most_forms = 32
+
 -- The rules in force behind these open quotes and forms. A word is fresh before its first byte.
 abbrev pub rule_of : Mode → List Frame → Bool → Rule
 rule_of mode frames fresh = record {
@@ -37,9 +43,10 @@ rule_of mode frames fresh = record {
   ends_quotes = innermost (λ frame. not (is_form frame)) frames;
   ends_form = innermost is_form frames;
   may_end = fresh && is_many mode;
-  may_open = nat_lt (count_by is_form frames) 32;
+  may_open = nat_lt (count_by is_form frames) most_forms;
 }
 
+-- without the innermost
 abbrev pub without_first : List Frame → List Frame
 without_first [] = []
 without_first (frame ∷ frames) = frames
@@ -64,9 +71,11 @@ pub record Token : Type 0 where
   pub quoted : Bool
   pub text : List ℕ
 
+-- a token of this kind and text
 abbrev pub token : Kind → Bool → List ℕ → Token
 token kind quoted text = record { kind = kind; quoted = quoted; text = text }
 
+-- the token of a front of a text
 abbrev pub token_of : Front → Bool → List ℕ → Token
 token_of front quoted text = token front.kind quoted (slice_range text front.from front.to)
 

@@ -3,17 +3,19 @@ use Rattle.std.specs.Prelude.{ℕ, List, [], ◌∷◌, if◌then◌else◌, nat
 use Rattle.std.specs.Fmt.{signed_decimal}
 use Rattle.pm_vars.specs.Variables.{value_of, argument_of}
 use Rattle.pm_vars.specs.Table.{Table}
-use Rattle.pm_subst.specs.declared.bytes.TheConstants.{BACKSLASH, NEWLINE}
+use Rattle.pm_bytes.specs.Alphabet.{BACKSLASH, NEWLINE, OPEN_PARENTHESIS, CLOSE_PARENTHESIS}
 use Rattle.pm_subst.specs.declared.kinds.Kind.{Kind}
 use Rattle.pm_subst.specs.declared.kinds.Kind.TheVariants.{Text, Single, Space, QuotesOpen, Value, Literal, Parameter as OfParameter, Command, FormOpen}
 use Rattle.pm_subst.specs.declared.kinds.Test.{Test}
 use Rattle.pm_subst.specs.declared.kinds.Test.TheVariants.{Unset, UnsetOrEmpty, Set, SetNotEmpty}
 use Rattle.pm_subst.specs.declared.kinds.Parameter.{Parameter}
 use Rattle.pm_subst.specs.declared.kinds.Parameter.TheVariants.{Program, Argument, ArgumentCount, Process, ExitCode, Score, Rcfile, LastFolder}
-use Rattle.pm_subst.specs.Bytes.{is_space, is_operator}
+use Rattle.pm_bytes.specs.Letter.{is_space_byte}
+use Rattle.pm_subst.specs.Bytes.{is_operator}
 use Rattle.pm_subst.specs.Fields.{Element, Byte, Blank, Quote}
 use Rattle.pm_subst.specs.Tokens.{Token}
 
+-- a value, empty where there is none
 abbrev pub or_empty : Option (List ℕ) → List ℕ
 or_empty None = []
 or_empty (Some value) = value
@@ -22,6 +24,7 @@ or_empty (Some value) = value
 abbrev pub variable_value : Table → List ℕ → List ℕ
 variable_value table name = or_empty (value_of name table.variables)
 
+-- the text of a parameter
 abbrev pub parameter_value : Table → Parameter → List ℕ
 parameter_value table Program = codes "procmail"
 parameter_value table (Argument number) = or_empty (argument_of number table.arguments)
@@ -38,8 +41,9 @@ escaped_operator byte = if is_operator byte then BACKSLASH ∷ byte ∷ [] else 
 
 -- a value as an expression that matches it alone, with an empty group in front
 abbrev pub literal : List ℕ → List ℕ
-literal value = 40 ∷ 41 ∷ flat_map escaped_operator value
+literal value = OPEN_PARENTHESIS ∷ CLOSE_PARENTHESIS ∷ flat_map escaped_operator value
 
+-- whether there is no byte
 abbrev pub is_empty : List ℕ → Bool
 is_empty [] = true
 is_empty (byte ∷ bytes) = false
@@ -49,10 +53,12 @@ abbrev pub trimmed : List ℕ → List ℕ
 trimmed [] = []
 trimmed (byte ∷ bytes) = if nat_eq byte NEWLINE && is_empty (trimmed bytes) then [] else byte ∷ trimmed bytes
 
+-- whether there is no value
 abbrev pub is_unset : Option (List ℕ) → Bool
 is_unset None = true
 is_unset (Some value) = false
 
+-- whether there is no value or an empty one
 abbrev pub is_unset_or_empty : Option (List ℕ) → Bool
 is_unset_or_empty None = true
 is_unset_or_empty (Some value) = is_empty value
@@ -76,8 +82,9 @@ form_value test value = if gives_value test && not (uses_text test value) then o
 
 -- a byte of a value: outside quotes a blank or a newline may split
 abbrev pub value_element : Bool → ℕ → Element
-value_element quoted byte = if not quoted && is_space byte then Blank byte else Byte byte
+value_element quoted byte = if not quoted && is_space_byte byte then Blank byte else Byte byte
 
+-- the bytes of a value
 abbrev pub value_elements : Bool → List ℕ → List Element
 value_elements quoted value = map (value_element quoted) value
 

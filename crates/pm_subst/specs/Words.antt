@@ -10,15 +10,17 @@ use Rattle.pm_subst.specs.Tokens.{Token, tokens, is_many}
 use Rattle.pm_subst.specs.Fields.{Element, Fields, gathered, size, all_words}
 use Rattle.pm_subst.specs.Values.{uses_text, elements_of}
 
--- the output of the next command, and the outputs behind a token of this kind
+-- the output of the next command
 abbrev pub first_output : List (List ℕ) → List ℕ
 first_output [] = []
 first_output (output ∷ outputs) = output
 
+-- the outputs of the commands behind it
 abbrev pub other_outputs : List (List ℕ) → List (List ℕ)
 other_outputs [] = []
 other_outputs (output ∷ outputs) = outputs
 
+-- the outputs that are left behind a token of this kind
 abbrev pub outputs_after : Kind → List (List ℕ) → List (List ℕ)
 outputs_after Command outputs = other_outputs outputs
 outputs_after _ outputs = outputs
@@ -48,6 +50,7 @@ abbrev pub first_fields : Mode → Fields
 first_fields Many = record { done = []; current = None }
 first_fields _ = record { done = []; current = Some [] }
 
+-- the words of a text as they are gathered
 abbrev pub fields_in : Mode → Table → List (List ℕ) → List ℕ → Fields
 fields_in mode table outputs text = gathered (is_many mode) (first_fields mode) (elements table outputs 0 (tokens mode 0 [] true text))
 

@@ -2,11 +2,10 @@
 ghost use Rattle.std.specs.Prelude.{◌≡◌, ◌++◌, IfOk, false};
 ghost use Rattle.pm_subst.specs.Commands.{commands_in, command_of, command_text};
 
-use crate::bytes::{BACKQUOTE, BACKSLASH};
 use crate::frames::{Frames, fresh_behind};
 use crate::kinds::{Kind, Mode};
 use crate::reading::front_at;
-use pm_bytes::{Blob, Memory};
+use pm_bytes::{BACKQUOTE, BACKSLASH, Blob, Memory};
 use std::alloc::Global;
 
 /// The commands of a text from left to right, also those in texts of forms that aren't used.

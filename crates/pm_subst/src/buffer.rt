@@ -4,13 +4,13 @@ ghost use Rattle.pm_subst.specs.Buffer.{Holds, Changes, Gathers};
 ghost use Rattle.pm_subst.specs.Fields.{with_byte, begun, ended, with_element, Blank, Byte};
 ghost use Rattle.pm_subst.specs.Values.{value_element, value_elements, escaped_operator};
 
-use crate::bytes::{BACKSLASH, is_operator_byte, is_space_byte};
-use pm_bytes::{Blob, Memory};
+use crate::bytes::is_operator_byte;
+use pm_bytes::{BACKSLASH, Blob, Memory, is_space};
 use std::alloc::Global;
 use std::mem;
 
 /// The greatest length of an expansion, in bytes and, where words are split, words.
-pub const LIMIT: u64 = 1_048_576;
+pub const MOST_LENGTH: u64 = 1_048_576;
 
 #[derive(Drop)]
 pub struct Buffer {
@@ -53,7 +53,7 @@ impl Buffer {
         ensures holds { IfOk result (λ _. Changes self.old self.new (λ fields. with_byte fields byte)) }
     {
         self.begin();
-        if self.length < LIMIT {
+        if self.length < MOST_LENGTH {
             self.current.push(byte)?;
         }
         self.length = self.length.saturating_add(1);
@@ -78,7 +78,7 @@ impl Buffer {
     {
         if self.begun {
             self.begun = false;
-            if self.length <= LIMIT {
+            if self.length <= MOST_LENGTH {
                 let alloc = *self.done.allocator();
                 let word = mem::replace(&mut self.current, Vec::new(alloc));
                 self.done.push(Blob::from_vec(word))?;
@@ -124,7 +124,7 @@ impl Buffer {
         ensures splits { self.new.splits ≡ self.old.splits }
         ensures holds { IfOk result (λ _. Changes self.old self.new (λ fields. with_element self.old.splits fields (value_element quoted byte))) }
     {
-        if !quoted && is_space_byte(byte) {
+        if !quoted && is_space(byte) {
             self.space(byte)
         } else {
             self.push(byte)

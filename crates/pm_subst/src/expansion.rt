@@ -2,18 +2,18 @@
 ghost use Rattle.std.specs.Prelude.{◌≡◌, ◌<◌, ◌≤◌, ◌+◌, ◌^◌, IfOk, IfErr, OnOk, length, ℕ, Bool, [], Some, false};
 ghost use Rattle.pm_subst.specs.Buffer.{Holds, Gathers};
 ghost use Rattle.pm_subst.specs.Commands.{commands_in};
-ghost use Rattle.pm_subst.specs.Fields.{Fields, size, all_words};
+ghost use Rattle.pm_subst.specs.Fields.{Fields, size, most_length, all_words};
 ghost use Rattle.pm_subst.specs.Refusals.{IsRefusal};
 ghost use Rattle.pm_subst.specs.Tokens.{is_many, token};
 ghost use Rattle.pm_subst.specs.Values.{elements_of};
 ghost use Rattle.pm_subst.specs.Words.{words_in, size_in, fields_in, first_fields, used_elements, unused_after, first_output, outputs_after};
 
-use crate::buffer::{Buffer, LIMIT};
+use crate::buffer::{Buffer, MOST_LENGTH};
 use crate::frames::{Frames, fresh_behind};
 use crate::kinds::{Kind, Mode};
 use crate::reading::front_at;
 use crate::values::{
-    is_text_used, push_form, push_literal, push_parameter, push_variable, without_newlines,
+    is_text_used, push_form_value, push_literal, push_parameter, push_variable, without_newlines,
 };
 use pm_bytes::{Blob, Memory};
 use pm_vars::Vars;
@@ -47,7 +47,7 @@ pub fn expand(
 ) -> Result<Vec<Blob>, ExpandRefused>
     requires { length outputs.now ≡ length (commands_in mode text.now) }
     ensures words { IfOk result (λ words. words.items ≡ words_in mode vars.now outputs.now text.now) }
-    ensures fits { OnOk result (size_in mode vars.now outputs.now text.now ≤ LIMIT) }
+    ensures fits { OnOk result (size_in mode vars.now outputs.now text.now ≤ most_length) }
     ensures refused { IfErr result (λ refused. IsRefusal (size_in mode vars.now outputs.now text.now) refused) }
 {
     let buffer = fill(alloc, text, mode, vars, outputs)?;
@@ -56,10 +56,10 @@ pub fn expand(
 
 fn finish(buffer: Buffer) -> Result<Vec<Blob>, ExpandRefused>
     ensures words { (fields : Fields) → Holds buffer fields → IfOk result (λ words. words.items ≡ all_words fields) }
-    ensures fits { (fields : Fields) → Holds buffer fields → OnOk result (size buffer.splits fields ≤ LIMIT) }
+    ensures fits { (fields : Fields) → Holds buffer fields → OnOk result (size buffer.splits fields ≤ most_length) }
     ensures refused { (fields : Fields) → Holds buffer fields → IfErr result (λ refused. IsRefusal (size buffer.splits fields) refused) }
 {
-    if buffer.length > LIMIT {
+    if buffer.length > MOST_LENGTH {
         return Err(ExpandRefused::Overflow {
             length: buffer.length,
         });
@@ -182,7 +182,7 @@ fn push_part(
         Kind::Literal => push_literal(buffer, quoted, part, vars),
         Kind::Parameter(parameter) => push_parameter(buffer, quoted, parameter, vars),
         Kind::Command => buffer.push_value(quoted, without_newlines(output)),
-        Kind::FormOpen(test) => push_form(buffer, quoted, test, part, vars),
+        Kind::FormOpen(test) => push_form_value(buffer, quoted, test, part, vars),
         Kind::QuotesClose | Kind::Join | Kind::Comment | Kind::FormClose => Ok(()),
     }
 }

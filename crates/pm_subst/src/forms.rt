@@ -2,11 +2,12 @@
 ghost use Rattle.std.specs.Prelude.{◌≡◌, ◌≤◌, ◌<◌, ◌+◌, ◌^◌, length};
 ghost use Rattle.pm_subst.specs.Front.{form_of, literal_of, braced, tail_of, colon_tail_of, piece, parameter_of, parameter_front, Within};
 
-use crate::bytes::{
-    BACKSLASH, CLOSE, COLON, DASH, DOLLAR, HASH, OPEN, PLUS, UNDERSCORE, rest_of_name, starts_name,
-};
+use crate::bytes::rest_of_name;
 use crate::kinds::{Front, Kind, Parameter, Rule, Test};
 use crate::reading::plain_byte;
+use pm_bytes::{
+    BACKSLASH, CLOSE_BRACE, COLON, DOLLAR, HASH, MINUS, OPEN_BRACE, PLUS, UNDERSCORE, begins_name,
+};
 
 pub fn behind_dollar(rule: Rule, text: &[u8]) -> Front
     requires { length text.now < 2 ^ 63 }
@@ -15,9 +16,9 @@ pub fn behind_dollar(rule: Rule, text: &[u8]) -> Front
 {
     match text {
         [] => plain_byte(),
-        [OPEN, rest @ ..] if rule.may_open => behind_brace(rest),
+        [OPEN_BRACE, rest @ ..] if rule.may_open => behind_brace(rest),
         [BACKSLASH, rest @ ..] => behind_dollar_backslash(rest),
-        [byte, rest @ ..] if starts_name(*byte) => {
+        [byte, rest @ ..] if begins_name(*byte) => {
             let length = rest_of_name(rest);
             if *byte == UNDERSCORE && length == 0 {
                 return one_byte(Parameter::Rcfile);
@@ -57,7 +58,7 @@ fn parameter(byte: u8) -> Option<Parameter>
         DOLLAR => Some(Parameter::Process),
         b'?' => Some(Parameter::ExitCode),
         b'=' => Some(Parameter::Score),
-        DASH => Some(Parameter::LastFolder),
+        MINUS => Some(Parameter::LastFolder),
         _ => None,
     }
 }
@@ -68,7 +69,7 @@ fn behind_dollar_backslash(text: &[u8]) -> Front
     ensures within { Within result (length text.now + 2) }
 {
     match text {
-        [byte, rest @ ..] if starts_name(*byte) => {
+        [byte, rest @ ..] if begins_name(*byte) => {
             let length = rest_of_name(rest);
             Front {
                 kind: Kind::Literal,
@@ -87,7 +88,7 @@ fn behind_brace(text: &[u8]) -> Front
     ensures within { Within result (length text.now + 2) }
 {
     match text {
-        [byte, rest @ ..] if starts_name(*byte) => {
+        [byte, rest @ ..] if begins_name(*byte) => {
             let length = rest_of_name(rest);
             behind_name(length + 3, &rest[length..])
         }
@@ -104,8 +105,8 @@ fn behind_name(before: usize, text: &[u8]) -> Front
 {
     match text {
         [] => braces(Kind::Value, before, before),
-        [CLOSE, ..] => braces(Kind::Value, before, before + 1),
-        [DASH, ..] => braces(Kind::FormOpen(Test::Unset), before, before + 1),
+        [CLOSE_BRACE, ..] => braces(Kind::Value, before, before + 1),
+        [MINUS, ..] => braces(Kind::FormOpen(Test::Unset), before, before + 1),
         [PLUS, ..] => braces(Kind::FormOpen(Test::Set), before, before + 1),
         [COLON, rest @ ..] => behind_colon(before, rest),
         _ => plain_byte(),
@@ -119,7 +120,7 @@ fn behind_colon(before: usize, text: &[u8]) -> Front
     ensures within { Within result (before + length text.now + 1) }
 {
     match text {
-        [DASH, ..] => braces(Kind::FormOpen(Test::UnsetOrEmpty), before, before + 2),
+        [MINUS, ..] => braces(Kind::FormOpen(Test::UnsetOrEmpty), before, before + 2),
         [PLUS, ..] => braces(Kind::FormOpen(Test::SetNotEmpty), before, before + 2),
         _ => plain_byte(),
     }

@@ -8,7 +8,7 @@ use std::alloc::Global;
 use std::collections::VecDeque;
 use std::marker::Model;
 
-// As many as nest.
+// As many forms may be nested.
 const MOST_FORMS: usize = 32;
 
 #[derive(Drop)]

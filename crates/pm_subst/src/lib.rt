@@ -9,6 +9,7 @@ mod expansion;
 mod forms;
 mod frames;
 mod kinds;
+mod laws;
 mod reading;
 #[cfg(test)]
 mod tests;
@@ -17,3 +18,4 @@ mod values;
 pub use backquotes::commands;
 pub use expansion::{ExpandRefused, expand};
 pub use kinds::Mode;
+pub use laws::{blanks_part, no_command, plain_stands, single_stands};

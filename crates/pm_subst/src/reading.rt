@@ -2,12 +2,12 @@
 ghost use Rattle.std.specs.Prelude.{◌≡◌, ◌<◌, ◌+◌, ◌^◌, length};
 ghost use Rattle.pm_subst.specs.Front.{front_of, unquoted_front, itself, quotes_of, escaped, is_escaped_in_quotes, Within};
 
-use crate::bytes::{
-    BACKQUOTE, BACKSLASH, CLOSE, DOLLAR, DOUBLE, HASH, NEWLINE, SINGLE, is_space_byte,
-    until_backquote, until_single,
-};
+use crate::bytes::{until_backquote, until_single};
 use crate::forms::behind_dollar;
 use crate::kinds::{Front, Kind, Rule};
+use pm_bytes::{
+    BACKQUOTE, BACKSLASH, CLOSE_BRACE, DOLLAR, DOUBLE_QUOTE, HASH, NEWLINE, SINGLE_QUOTE, is_space,
+};
 
 /// A byte that stands for itself.
 pub fn plain_byte() -> Front
@@ -34,7 +34,7 @@ pub fn front_at(rule: Rule, text: &[u8]) -> Front
     if byte == DOLLAR {
         return behind_dollar(rule, &text[1..]);
     }
-    if byte == DOUBLE {
+    if byte == DOUBLE_QUOTE {
         return double_quote(rule);
     }
     if byte == BACKQUOTE {
@@ -46,7 +46,7 @@ pub fn front_at(rule: Rule, text: &[u8]) -> Front
             taken: (end + 2).min(text.len()),
         };
     }
-    if byte == CLOSE && rule.ends_form {
+    if byte == CLOSE_BRACE && rule.ends_form {
         return Front {
             kind: Kind::FormClose,
             from: 0,
@@ -68,7 +68,7 @@ fn unquoted(rule: Rule, text: &[u8]) -> Front
     ensures within { Within result (length text.now) }
 {
     let byte = text[0];
-    if byte == SINGLE {
+    if byte == SINGLE_QUOTE {
         let end = until_single(&text[1..]);
         return Front {
             kind: Kind::Single,
@@ -85,7 +85,7 @@ fn unquoted(rule: Rule, text: &[u8]) -> Front
             taken: text.len(),
         };
     }
-    if is_space_byte(byte) {
+    if is_space(byte) {
         return Front {
             kind: Kind::Space,
             from: 0,
@@ -138,7 +138,7 @@ fn behind_backslash(rule: Rule, text: &[u8]) -> Front
             taken: 2,
         },
         // it doesn't end the form, and is no escape either
-        [CLOSE, ..] if rule.ends_form => Front {
+        [CLOSE_BRACE, ..] if rule.ends_form => Front {
             kind: Kind::Text,
             from: 0,
             to: 2,
@@ -151,5 +151,5 @@ fn behind_backslash(rule: Rule, text: &[u8]) -> Front
 fn drops_backslash(byte: u8) -> bool
     ensures { result ≡ is_escaped_in_quotes byte }
 {
-    byte == DOLLAR || byte == BACKQUOTE || byte == DOUBLE || byte == BACKSLASH
+    byte == DOLLAR || byte == BACKQUOTE || byte == DOUBLE_QUOTE || byte == BACKSLASH
 }

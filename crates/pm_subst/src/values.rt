@@ -5,10 +5,9 @@ ghost use Rattle.pm_subst.specs.Values.{uses_text, gives_value, form_value, is_u
 ghost use Rattle.pm_vars.specs.Variables.{value_of, argument_of};
 
 use crate::buffer::Buffer;
-use crate::bytes::NEWLINE;
 use crate::kinds::{Parameter, Test};
 use itoa::Integer;
-use pm_bytes::Memory;
+use pm_bytes::{Memory, NEWLINE};
 use pm_vars::Vars;
 
 const LAST_FOLDER: &[u8] = b"LASTFOLDER";
@@ -85,8 +84,9 @@ pub fn push_variable(
     buffer.push_value(quoted, value(name, vars))
 }
 
-/// What a form gives beside its text.
-pub fn push_form(
+/// Adds the variable's value where a form gives it in place of its text: `${name-text}` and `${name:-text}` do, and
+/// `${name+text}` and `${name:+text}` never do.
+pub fn push_form_value(
     buffer: &mut Buffer,
     quoted: bool,
     test: Test,

@@ -4,6 +4,7 @@ use Rattle.pm_vars.specs.Held.{variable_of_held}
 use Rattle.pm_vars.specs.Table.{Table}
 use Rattle.pm_vars.specs.declared.vars.Vars.TheInside.{Inside}
 
+-- what contracts see of the code's variables
 abbrev pub table_of : Inside → Table
 table_of inside = record {
   variables = map variable_of_held inside.variables.entries;
