@@ -7,9 +7,9 @@ use Rattle.pm_match.specs.declared.starts.Starts.{Starts}
 use Rattle.pm_match.specs.declared.starts.Places.{Places}
 use Rattle.pm_regex.specs.Re.{Re}
 use Rattle.pm_match.specs.Automaton.{Edge, Built}
-use Rattle.pm_match.specs.Labels.{rank}
+use Rattle.pm_match.specs.Labels.{rank, IsEmpty}
 use Rattle.pm_match.specs.Finding.{Reach, IsMatch, IsBestBefore, IsFirst, IsArrived, LeftSeed, RightSeed}
-use Rattle.pm_match.specs.Starts.{IsEmpty, Excluded, IsStarts, GoesOn}
+use Rattle.pm_match.specs.Starts.{Excluded, IsStarts, GoesOn}
 use Rattle.pm_match.proofs.FindLemmas.{edge_place, arrived_first, left_late, right_late}
 use Rattle.pm_match.proofs.BestLemmas.{reach_of, run_of, best_none}
 

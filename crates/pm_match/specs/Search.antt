@@ -20,8 +20,8 @@ pub record IsProgram (g : Program) (e : Re) (fold : Bool) : Type 0 where
 pub record Runs (g : Search) (l r : Re) (fold : Bool) : Type 0 where
   pub starts : IsStarts g.left.steps.items g.left.entry g.left.exit g.starts
   pub left : IsProgram g.left l fold
-  pub left_labels : vec_len g.left_labels ≡ length g.left.steps.items
-  pub left_next : vec_len g.left_next ≡ length g.left.steps.items
+  pub left_labels : vec_len g.left_labels.of ≡ length g.left.steps.items
+  pub left_next : vec_len g.left_next.of ≡ length g.left.steps.items
   pub right : IsProgram g.right r fold
-  pub right_labels : vec_len g.right_labels ≡ length g.right.steps.items
-  pub right_next : vec_len g.right_next ≡ length g.right.steps.items
+  pub right_labels : vec_len g.right_labels.of ≡ length g.right.steps.items
+  pub right_next : vec_len g.right_next.of ≡ length g.right.steps.items

@@ -8,11 +8,7 @@ use Rattle.pm_match.specs.declared.find.Match.{Match}
 use Rattle.pm_match.specs.declared.starts.Starts.{Starts}
 use Rattle.pm_match.specs.declared.starts.Places.{Places}
 use Rattle.pm_match.specs.Automaton.{takes, Run}
-use Rattle.pm_match.specs.Labels.{Below}
-
--- no state has a label
-abbrev pub IsEmpty : List (Option Label) → Type 0
-IsEmpty labels = (q v : ℕ) → Below labels q v → ⊥
+use Rattle.pm_match.specs.Labels.{Below, IsEmpty}
 
 -- the table says no to the byte
 abbrev pub Lacks : List Bool → ℕ → Type 0

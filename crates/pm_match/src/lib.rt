@@ -1,8 +1,10 @@
 //! Matching of regular expressions in one pass over the searched bytes.
 #![tactic(auto)]
 
+mod advancing;
 mod atoms;
 mod build;
+mod closing;
 mod count;
 mod engine;
 mod find;

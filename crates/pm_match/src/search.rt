@@ -2,7 +2,7 @@
 
 use crate::build::{Program, build};
 use crate::find::{Match, find};
-use crate::labels::Label;
+use crate::labels::{Labels, no_labels};
 use crate::starts::Starts;
 use crate::tables::starts_of;
 use pm_bytes::Memory;
@@ -14,11 +14,11 @@ use std::alloc::Global;
 pub struct Search {
     starts: Starts,
     left: Program,
-    left_labels: Vec<Option<Label>>,
-    left_next: Vec<Option<Label>>,
+    left_labels: Labels,
+    left_next: Labels,
     right: Program,
-    right_labels: Vec<Option<Label>>,
-    right_next: Vec<Option<Label>>,
+    right_labels: Labels,
+    right_next: Labels,
 }
 
 impl Search {
@@ -37,10 +37,10 @@ impl Search {
         let left = build(alloc, left, fold)?;
         let right = build(alloc, right, fold)?;
         let starts = starts_of(alloc, &left.steps, left.entry, left.exit)?;
-        let left_labels = vec![in alloc; None; left.steps.len()]?;
-        let left_next = vec![in alloc; None; left.steps.len()]?;
-        let right_labels = vec![in alloc; None; right.steps.len()]?;
-        let right_next = vec![in alloc; None; right.steps.len()]?;
+        let left_labels = no_labels(alloc, left.steps.len())?;
+        let left_next = no_labels(alloc, left.steps.len())?;
+        let right_labels = no_labels(alloc, right.steps.len())?;
+        let right_next = no_labels(alloc, right.steps.len())?;
         Ok(Search {
             starts,
             left,

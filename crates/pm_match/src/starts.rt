@@ -3,7 +3,7 @@ ghost use Rattle.std.specs.Prelude.{◌≡◌, ℕ, ◌+◌, ◌<◌, ◌≤◌,
 ghost use Rattle.pm_match.specs.Starts.{Lacks, Excluded, GoesOn};
 
 use crate::find::Match;
-use crate::labels::{Label, is_empty};
+use crate::labels::{Labels, is_empty};
 
 /// Which bytes can stand at the front of a match.
 #[derive(Drop)]
@@ -84,8 +84,8 @@ fn skip(starts: &Starts, area: &[u8], from: usize) -> usize
 pub fn go_on(
     starts: &Starts,
     best: Option<Match>,
-    left_labels: &[Option<Label>],
-    right_labels: &[Option<Label>],
+    left_labels: &Labels,
+    right_labels: &Labels,
     area: &[u8],
     base: usize,
     place: usize,
@@ -95,7 +95,7 @@ pub fn go_on(
     requires second { vec_len starts.now.second ≡ 256 }
     requires third { vec_len starts.now.third ≡ 256 }
     requires place { place ≤ length area.now }
-    ensures { GoesOn starts.now best left_labels.now right_labels.now area.now base place result }
+    ensures { GoesOn starts.now best left_labels.now.of.items right_labels.now.of.items area.now base place result }
 {
     if best.is_none() && is_empty(left_labels) && is_empty(right_labels) {
         let next = skip(starts, area, place);

@@ -6,33 +6,35 @@ ghost use Rattle.pm_match.specs.Automaton.{takes};
 ghost use Rattle.pm_match.specs.Labels.{InRange, Below, KeepsBelow, IsClosed};
 ghost use Rattle.pm_match.specs.Starts.{NoneTakes, IsTable, IsStarts};
 
+use crate::advancing::hand_over;
 use crate::atoms::takes_byte;
-use crate::labels::{Label, close, hand_over, relax};
+use crate::closing::reach;
+use crate::labels::{Label, Labels, no_labels};
 use crate::starts::Starts;
 use crate::step::Step;
 use std::alloc::{AllocError, Global};
 
 /// Whether the state has a label and takes the byte.
-fn takes_here(steps: &[Step], labels: &[Option<Label>], state: usize, byte: u8) -> bool
+fn takes_here(steps: &[Step], labels: &Labels, state: usize, byte: u8) -> bool
     requires program { InRange steps.now }
-    requires same_len { length labels.now ≡ length steps.now }
+    requires same_len { length labels.now.of.items ≡ length steps.now }
     requires state { state < length steps.now }
-    ensures { IsFalse result → (v : ℕ) (t : Test) (x : ℕ) → slice_get steps.now state ≡ Some (Take t x) → Below labels.now state v → takes steps.now t byte ≡ false }
+    ensures { IsFalse result → (v : ℕ) (t : Test) (x : ℕ) → slice_get steps.now state ≡ Some (Take t x) → Below labels.now.of.items state v → takes steps.now t byte ≡ false }
 {
     match steps[state] {
         Step::Stop => false,
         Step::Go(_) => false,
         Step::Fork(_, _) => false,
-        Step::Take(test, _) => labels[state].is_some() && takes_byte(steps, test, byte),
+        Step::Take(test, _) => labels.of[state].is_some() && takes_byte(steps, test, byte),
         Step::Range(_, _) => false,
     }
 }
 
 /// Whether a state with a label takes the byte.
-fn some_takes(steps: &[Step], labels: &[Option<Label>], byte: u8) -> bool
+fn some_takes(steps: &[Step], labels: &Labels, byte: u8) -> bool
     requires program { InRange steps.now }
-    requires same_len { length labels.now ≡ length steps.now }
-    ensures { IsFalse result → NoneTakes steps.now labels.now byte }
+    requires same_len { length labels.now.of.items ≡ length steps.now }
+    ensures { IsFalse result → NoneTakes steps.now labels.now.of.items byte }
 {
     for state in 0..steps.len() {
         if takes_here(steps, labels, state, byte) {
@@ -43,28 +45,28 @@ fn some_takes(steps: &[Step], labels: &[Option<Label>], byte: u8) -> bool
 }
 
 /// Whether a state with a label takes the byte, or the last state has a label.
-fn may_begin(steps: &[Step], labels: &[Option<Label>], exit: usize, byte: u8) -> bool
+fn may_begin(steps: &[Step], labels: &Labels, exit: usize, byte: u8) -> bool
     requires program { InRange steps.now }
-    requires same_len { length labels.now ≡ length steps.now }
+    requires same_len { length labels.now.of.items ≡ length steps.now }
     requires exit { exit < length steps.now }
-    ensures takes { IsFalse result → NoneTakes steps.now labels.now byte }
-    ensures exit { IsFalse result → (v : ℕ) → Below labels.now exit v → ⊥ }
+    ensures takes { IsFalse result → NoneTakes steps.now labels.now.of.items byte }
+    ensures exit { IsFalse result → (v : ℕ) → Below labels.now.of.items exit v → ⊥ }
 {
-    labels[exit].is_some() || some_takes(steps, labels, byte)
+    labels.of[exit].is_some() || some_takes(steps, labels, byte)
 }
 
 /// For each byte whether a state with a label takes it, and yes for all where the last state has a label.
 fn table_of(
     alloc: Global,
     steps: &[Step],
-    labels: &[Option<Label>],
+    labels: &Labels,
     exit: usize,
 ) -> Result<Vec<bool>, AllocError>
     requires program { InRange steps.now }
-    requires same_len { length labels.now ≡ length steps.now }
+    requires same_len { length labels.now.of.items ≡ length steps.now }
     requires exit { exit < length steps.now }
     ensures len { IfOk result (λ table. vec_len table ≡ 256) }
-    ensures table { IfOk result (λ table. IsTable steps.now exit labels.now table.items) }
+    ensures table { IfOk result (λ table. IsTable steps.now exit labels.now.of.items table.items) }
 {
     let mut table = Vec::new(alloc);
     for byte in 0..256usize {
@@ -75,57 +77,64 @@ fn table_of(
 }
 
 /// The states that are reached from the entry without reading, at place 1 of a small area.
-fn reached(
-    alloc: Global,
-    steps: &[Step],
-    entry: usize,
-    area: &[u8],
-) -> Result<Vec<Option<Label>>, AllocError>
+fn reached(alloc: Global, steps: &[Step], entry: usize, area: &[u8]) -> Result<Labels, AllocError>
     requires program { InRange steps.now }
     requires entry { entry < length steps.now }
     requires area { 1 ≤ length area.now }
-    ensures len { IfOk result (λ labels. vec_len labels ≡ length steps.now) }
-    ensures entry { IfOk result (λ labels. Below labels.items entry 0) }
-    ensures closed { IfOk result (λ labels. IsClosed steps.now area.now 1 labels.items) }
+    ensures len { IfOk result (λ labels. vec_len labels.of ≡ length steps.now) }
+    ensures entry { IfOk result (λ labels. Below labels.of.items entry 0) }
+    ensures closed { IfOk result (λ labels. IsClosed steps.now area.now 1 labels.of.items) }
 {
-    let mut labels = vec![in alloc; None; steps.len()]?;
-    relax(&mut labels, entry, Label { start: 0, cut: 0 });
-    close(steps, &mut labels, area, 1);
+    let mut labels = no_labels(alloc, steps.len())?;
+    reach(
+        steps,
+        &mut labels,
+        area,
+        1,
+        entry,
+        Label { start: 0, cut: 0 },
+    );
     Ok(labels)
 }
 
 /// Hands the label of a state on to where the state leads with a byte.
-fn read_on(steps: &[Step], labels: &[Option<Label>], next: &mut Vec<Option<Label>>, state: usize)
+fn read_on(steps: &[Step], labels: &Labels, next: &mut Labels, area: &[u8], state: usize)
     requires program { InRange steps.now }
-    requires same_len { length labels.now ≡ length steps.now }
-    requires same_next { vec_len next.old ≡ length steps.now }
+    requires same_len { length labels.now.of.items ≡ length steps.now }
+    requires same_next { vec_len next.old.of ≡ length steps.now }
     requires state { state < length steps.now }
-    ensures kept { KeepsBelow next.old.items next.new.items }
-    ensures read { (v : ℕ) (t : Test) (x : ℕ) → slice_get steps.now state ≡ Some (Take t x) → Below labels.now state v → Below next.new.items x v }
-    ensures len { vec_len next.new ≡ vec_len next.old }
+    requires area { 1 ≤ length area.now }
+    requires closed { IsClosed steps.now area.now 1 next.old.of.items }
+    ensures kept { KeepsBelow next.old.of.items next.new.of.items }
+    ensures closed { IsClosed steps.now area.now 1 next.new.of.items }
+    ensures read { (v : ℕ) (t : Test) (x : ℕ) → slice_get steps.now state ≡ Some (Take t x) → Below labels.now.of.items state v → Below next.new.of.items x v }
+    ensures len { vec_len next.new.of ≡ vec_len next.old.of }
 {
     match steps[state] {
         Step::Stop => {}
         Step::Go(_) => {}
         Step::Fork(_, _) => {}
         Step::Take(_, to) => {
-            hand_over(labels, state, next, to);
+            hand_over(steps, labels, state, next, area, 1, to);
         }
         Step::Range(_, _) => {}
     }
 }
 
 /// Hands all labels on to where their states lead with a byte.
-fn read_all(steps: &[Step], labels: &[Option<Label>], next: &mut Vec<Option<Label>>)
+fn read_all(steps: &[Step], labels: &Labels, next: &mut Labels, area: &[u8])
     requires program { InRange steps.now }
-    requires same_len { length labels.now ≡ length steps.now }
-    requires same_next { vec_len next.old ≡ length steps.now }
-    ensures kept { KeepsBelow next.old.items next.new.items }
-    ensures read { (q v : ℕ) (t : Test) (x : ℕ) → slice_get steps.now q ≡ Some (Take t x) → Below labels.now q v → Below next.new.items x v }
-    ensures len { vec_len next.new ≡ vec_len next.old }
+    requires same_len { length labels.now.of.items ≡ length steps.now }
+    requires same_next { vec_len next.old.of ≡ length steps.now }
+    requires area { 1 ≤ length area.now }
+    requires closed { IsClosed steps.now area.now 1 next.old.of.items }
+    ensures closed { IsClosed steps.now area.now 1 next.new.of.items }
+    ensures kept { KeepsBelow next.old.of.items next.new.of.items }
+    ensures read { (q v : ℕ) (t : Test) (x : ℕ) → slice_get steps.now q ≡ Some (Take t x) → Below labels.now.of.items q v → Below next.new.of.items x v }
+    ensures len { vec_len next.new.of ≡ vec_len next.old.of }
 {
     for state in 0..steps.len() {
-        read_on(steps, labels, next, state);
+        read_on(steps, labels, next, area, state);
     }
 }
 
@@ -133,23 +142,22 @@ fn read_all(steps: &[Step], labels: &[Option<Label>], next: &mut Vec<Option<Labe
 fn reached_behind(
     alloc: Global,
     steps: &[Step],
-    labels: &[Option<Label>],
+    labels: &Labels,
     exit: usize,
     area: &[u8],
-) -> Result<Vec<Option<Label>>, AllocError>
+) -> Result<Labels, AllocError>
     requires program { InRange steps.now }
-    requires same_len { length labels.now ≡ length steps.now }
+    requires same_len { length labels.now.of.items ≡ length steps.now }
     requires exit { exit < length steps.now }
     requires area { 1 ≤ length area.now }
-    ensures len { IfOk result (λ next. vec_len next ≡ length steps.now) }
-    ensures exit { IfOk result (λ next. (v : ℕ) → Below labels.now exit v → Below next.items exit v) }
-    ensures read { IfOk result (λ next. (q v : ℕ) (t : Test) (x : ℕ) → slice_get steps.now q ≡ Some (Take t x) → Below labels.now q v → Below next.items x v) }
-    ensures closed { IfOk result (λ next. IsClosed steps.now area.now 1 next.items) }
+    ensures len { IfOk result (λ next. vec_len next.of ≡ length steps.now) }
+    ensures exit { IfOk result (λ next. (v : ℕ) → Below labels.now.of.items exit v → Below next.of.items exit v) }
+    ensures read { IfOk result (λ next. (q v : ℕ) (t : Test) (x : ℕ) → slice_get steps.now q ≡ Some (Take t x) → Below labels.now.of.items q v → Below next.of.items x v) }
+    ensures closed { IfOk result (λ next. IsClosed steps.now area.now 1 next.of.items) }
 {
-    let mut next = vec![in alloc; None; steps.len()]?;
-    hand_over(labels, exit, &mut next, exit);
-    read_all(steps, labels, &mut next);
-    close(steps, &mut next, area, 1);
+    let mut next = no_labels(alloc, steps.len())?;
+    hand_over(steps, labels, exit, &mut next, area, 1, exit);
+    read_all(steps, labels, &mut next, area);
     Ok(next)
 }
 

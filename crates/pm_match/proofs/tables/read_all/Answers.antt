@@ -10,6 +10,7 @@ loop-state-init c = record {
   kept = λ r v b. b;
   read = λ q v t x lt is b. absurd (omega (arith, lt));
   len = refl;
+  closed = c.requires.closed;
 }
 
 pub loop-state-preserved : goal.loop-state-preserved
@@ -21,9 +22,10 @@ loop-state-preserved c = record {
       (λ old. c.read_on.ensures.kept x v (c.loop-state.invariant.read q v t x old is b))
       (λ same. c.read_on.ensures.read v t x
       (subst (λ k. slice_get c.args.steps.now k ≡ Some (Take t x)) same is)
-      (subst (λ k. Below c.args.labels.now k v) same b))
+      (subst (λ k. Below c.args.labels.now.of.items k v) same b))
       choice;
   len = c.read_on.ensures.len ∙ c.loop-state.invariant.len;
+  closed = c.read_on.ensures.closed;
 }
 
 pub returns-clause-read : goal.returns-clause-read

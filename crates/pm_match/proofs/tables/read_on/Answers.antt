@@ -29,4 +29,4 @@ pub returns-in-Take-clause-read : goal.returns-in-Take-clause-read
 returns-in-Take-clause-read c = λ v t x e b.
     let w = sym (read_step c.args.steps.now c.args.state Stop _ c.requires.state c.in-Take.is) ∙ e in
     let same : c.in-Take.to ≡ x = cc in
-    subst (λ k. Below c.hand_over.new.next.items k v) same (c.hand_over.ensures.reached v b)
+    subst (λ k. Below c.hand_over.new.next.of.items k v) same (c.hand_over.ensures.reached v b)

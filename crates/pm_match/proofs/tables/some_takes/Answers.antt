@@ -12,7 +12,7 @@ loop-state-preserved c = λ q v t x lt is b.
     (λ old. c.loop-state.invariant q v t x old is b)
     (λ same. c.takes_here.ensures c.if-takes_here.false v t x
     (subst (λ k. slice_get c.args.steps.now k ≡ Some (Take t x)) same is)
-    (subst (λ k. Below c.args.labels.now k v) same b))
+    (subst (λ k. Below c.args.labels.now.of.items k v) same b))
     choice
 
 pub returns : goal.returns

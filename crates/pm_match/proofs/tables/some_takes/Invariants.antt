@@ -7,4 +7,4 @@ use Rattle.pm_match.specs.Labels.{Below}
 use Rattle.pm_match.proofs.tables.some_takes.Given as goal
 
 abbrev pub invariant-loop-state : goal.invariant-loop-state
-invariant-loop-state l = (q v : ℕ) (t : Test) (x : ℕ) → q < l.state → slice_get l.steps q ≡ Some (Take t x) → Below l.labels q v → takes l.steps t l.byte ≡ false
+invariant-loop-state l = (q v : ℕ) (t : Test) (x : ℕ) → q < l.state → slice_get l.steps q ≡ Some (Take t x) → Below l.labels.of.items q v → takes l.steps t l.byte ≡ false

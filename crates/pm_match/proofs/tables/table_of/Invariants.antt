@@ -5,5 +5,5 @@ use Rattle.pm_match.proofs.tables.table_of.Given as goal
 abbrev pub invariant-loop-byte : goal.invariant-loop-byte
 invariant-loop-byte l = record {
   len : vec_len l.table ≡ l.byte;
-  table : IsTable l.steps l.exit l.labels l.table.items;
+  table : IsTable l.steps l.exit l.labels.of.items l.table.items;
 }

@@ -1,5 +1,5 @@
-use Rattle.std.proofs.Common.{◌≡◌, Some, None, is_some, true, false, sym, ◌∙◌, ap, subst}
-use Rattle.std.proofs.lemmas.Option.{get_or_from_slice_get}
+use Rattle.std.proofs.Common.{◌≡◌, Some, is_some, true, false, sym, ◌∙◌, ap, arith, subst}
+use Rattle.std.proofs.lemmas.Option.{slice_get_read}
 use Rattle.pm_match.specs.declared.step.Step.TheVariants.{Stop, Take}
 use Rattle.pm_match.specs.Automaton.{takes}
 use Rattle.pm_match.proofs.EdgeLemmas.{read_step, range_of}
@@ -33,5 +33,8 @@ returns-then-is_some c = λ f v t x e b.
 
 pub returns-else-is_some : goal.returns-else-is_some
 returns-else-is_some c = λ f v t x e b.
-    let g = get_or_from_slice_get c.args.labels.now c.args.state (Some b.label) None b.is in
-    let w : true ≡ false = sym (c.is_some.ensures ∙ ap (λ o. is_some o) g) ∙ c.if-is_some.false in cc
+    let xs = c.args.labels.now.of in
+    let read = slice_get_read xs.items _ _ _ xs.ok.0 (omega (arith, c.requires.state, c.requires.same_len, xs.ok.0)) c.index.ensures in
+    let g : Some c.index.result.now ≡ Some (Some b.label) = sym read ∙ b.is in
+    let h : c.index.result.now ≡ Some b.label = cc in
+    let w : true ≡ false = sym (c.is_some.ensures ∙ ap (λ o. is_some o) h) ∙ c.if-is_some.false in cc
