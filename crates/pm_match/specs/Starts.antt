@@ -1,5 +1,5 @@
 -- Where no match begins.
-use Rattle.std.specs.Prelude.{◌≡◌, ◌≢◌, ℕ, ◌+◌, ◌-◌, ◌<◌, ◌≤◌, ◌⊎◌, Bool, false, List, length, Option, Some, None, slice_get, slice_index}
+use Rattle.std.specs.Prelude.{◌≡◌, ◌≢◌, ℕ, ◌+◌, ◌-◌, ◌<◌, ◌≤◌, ◌⊎◌, Bool, false, List, length, vec_len, Option, Some, None, slice_get, slice_index}
 use Rattle.pm_match.specs.declared.step.Test.{Test}
 use Rattle.pm_match.specs.declared.step.Step.{Step}
 use Rattle.pm_match.specs.declared.step.Step.TheVariants.{Take}
@@ -29,16 +29,30 @@ pub record Excluded (s : Starts) (area : List ℕ) (i : ℕ) : Type 0 where
   pub lacks : Lacks s.first.items (slice_index area i) ⊎ Lacks s.second.items (slice_index area (i + 1)) ⊎ Lacks s.third.items (slice_index area (i + 2))
       ⊎ ((slice_index area (i - 1) ≢ 10) × Lacks s.inner.items (slice_index area i))
 
+-- the tables have all bytes
+pub record HaveAllBytes (s : Starts) : Type 0 where
+  pub inner : vec_len s.inner ≡ 256
+  pub first : vec_len s.first ≡ 256
+  pub second : vec_len s.second ≡ 256
+  pub third : vec_len s.third ≡ 256
+
 -- the tables have all bytes, and say no only where no run from the entry to the end begins
 pub record IsStarts (p : List Step) (entry exit : ℕ) (s : Starts) : Type 0 where
-  pub inner : length s.inner.items ≡ 256
-  pub first : length s.first.items ≡ 256
-  pub second : length s.second.items ≡ 256
-  pub third : length s.third.items ≡ 256
+  pub all : HaveAllBytes s
   pub none : (area : List ℕ) (i n j : ℕ) → Excluded s area i → Run p area exit j n entry i → ⊥
 
+-- there are no tables, or they are such
+abbrev pub AreStarts : List Step → ℕ → ℕ → Option Starts → Type 0
+AreStarts p entry exit None = Unit {0}
+AreStarts p entry exit (Some s) = IsStarts p entry exit s
+
+-- there are tables, and they say no to place i
+abbrev pub IsExcluded : Option Starts → List ℕ → ℕ → Type 0
+IsExcluded None area i = ⊥
+IsExcluded (Some s) area i = Excluded s area i
+
 -- the search goes on where it is, or, with no run on its way and nothing found, past places to which the tables say no
-abbrev pub GoesOn : Starts → Option Match → List (Option Label) → List (Option Label) → List ℕ → ℕ → ℕ → Places → Type 0
+abbrev pub GoesOn : Option Starts → Option Match → List (Option Label) → List (Option Label) → List ℕ → ℕ → ℕ → Places → Type 0
 GoesOn s best left right area base place r = (r ≡ record { base = base; place = place })
     ⊎ ((best ≡ None) × IsEmpty left × IsEmpty right × (r.base ≡ r.place) × (place ≤ r.place) × (r.place ≤ length area)
-    × ((i : ℕ) → place ≤ i → i < r.place → Excluded s area i))
+    × ((i : ℕ) → place ≤ i → i < r.place → IsExcluded s area i))

@@ -4,7 +4,7 @@ ghost use Rattle.pm_regex.specs.Re.{Re};
 ghost use Rattle.pm_match.specs.Automaton.{Built};
 ghost use Rattle.pm_match.specs.Labels.{rank, NoneBefore, Below, InRange, IsClosed};
 ghost use Rattle.pm_match.specs.Finding.{IsBestBefore, IsFirst, IsHeld, IsArrived, LeftSeed, RightSeed, Opens, right_seed};
-ghost use Rattle.pm_match.specs.Starts.{IsStarts};
+ghost use Rattle.pm_match.specs.Starts.{AreStarts};
 
 use crate::advancing::advance;
 use crate::build::Program;
@@ -152,7 +152,7 @@ fn is_final(best: Option<Match>, left_labels: &Labels, right_labels: &Labels) ->
 
 /// The first match from a place on: the least start, for it the least cut, and for both the greatest end.
 pub fn find(
-    starts: &Starts,
+    starts: &Option<Starts>,
     left: &Program,
     right: &Program,
     left_labels: &mut Labels,
@@ -162,7 +162,7 @@ pub fn find(
     area: &[u8],
     from: usize,
 ) -> Option<Match>
-    requires starts { IsStarts left.now.steps.items left.now.entry left.now.exit starts.now }
+    requires starts { AreStarts left.now.steps.items left.now.entry left.now.exit starts.now }
     requires left_range { InRange left.now.steps.items }
     requires left_len { vec_len left_labels.old.of ≡ length left.now.steps.items }
     requires left_next_len { vec_len left_next.old.of ≡ length left.now.steps.items }

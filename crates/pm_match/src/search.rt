@@ -1,4 +1,7 @@
 //! A search for two expressions one behind the other.
+ghost use Rattle.std.specs.Prelude.{◌<◌, length};
+ghost use Rattle.pm_match.specs.Labels.{InRange};
+ghost use Rattle.pm_match.specs.Starts.{AreStarts};
 
 use crate::build::{Program, build};
 use crate::find::{Match, find};
@@ -9,10 +12,28 @@ use pm_bytes::Memory;
 use pm_regex::Op;
 use std::alloc::Global;
 
+/// How long an area is where tables save more than it takes to make them.
+const LONG: usize = 256;
+
+/// The tables of an automaton. Where there is no memory for them the search goes on without.
+fn tables(alloc: Global, program: &Program) -> Option<Starts>
+    requires range { InRange program.now.steps.items }
+    requires entry { program.now.entry < length program.now.steps.items }
+    requires exit { program.now.exit < length program.now.steps.items }
+    ensures { AreStarts program.now.steps.items program.now.entry program.now.exit result }
+{
+    match starts_of(alloc, &program.steps, program.entry, program.exit) {
+        Err(_) => None,
+        Ok(starts) => Some(starts),
+    }
+}
+
 /// Two automata, with the tables of where the first begins, and with room for a label of each state at two places.
 #[derive(Drop)]
 pub struct Search {
-    starts: Starts,
+    alloc: Global,
+    /// The tables, once an area was long enough to pay for them.
+    starts: Option<Starts>,
     left: Program,
     left_labels: Labels,
     left_next: Labels,
@@ -36,13 +57,13 @@ impl Search {
     {
         let left = build(alloc, left, fold)?;
         let right = build(alloc, right, fold)?;
-        let starts = starts_of(alloc, &left.steps, left.entry, left.exit)?;
         let left_labels = no_labels(alloc, left.steps.len())?;
         let left_next = no_labels(alloc, left.steps.len())?;
         let right_labels = no_labels(alloc, right.steps.len())?;
         let right_next = no_labels(alloc, right.steps.len())?;
         Ok(Search {
-            starts,
+            alloc,
+            starts: None,
             left,
             left_labels,
             left_next,
@@ -52,6 +73,16 @@ impl Search {
         })
     }
 
+    /// Makes the tables, where the area is long enough to pay for them.
+    fn prepare(&mut self, area: &[u8])
+        requires { (l : Re) × (r : Re) × (fold : Bool) × Runs self.old l r fold }
+        ensures { (l r : Re) (fold : Bool) → Runs self.old l r fold → Runs self.new l r fold }
+    {
+        if self.starts.is_none() && area.len() >= LONG {
+            self.starts = tables(self.alloc, &self.left);
+        }
+    }
+
     /// The first match from a place on.
     pub fn first(&mut self, area: &[u8], from: usize) -> Option<Match>
         requires runs { (l : Re) × (r : Re) × (fold : Bool) × Runs self.old l r fold }
@@ -59,6 +90,7 @@ impl Search {
         ensures kept { (l r : Re) (fold : Bool) → Runs self.old l r fold → Runs self.new l r fold }
         ensures first { (l r : Re) (fold : Bool) → Runs self.old l r fold → IsFirst fold l r area.now from result }
     {
+        self.prepare(area);
         find(
             &self.starts,
             &self.left,

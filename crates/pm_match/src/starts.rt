@@ -1,6 +1,6 @@
 //! Where the search goes past places at which no match begins.
-ghost use Rattle.std.specs.Prelude.{◌≡◌, ℕ, ◌+◌, ◌<◌, ◌≤◌, ◌↔◌, IsTrue, length, vec_len};
-ghost use Rattle.pm_match.specs.Starts.{Lacks, Excluded, GoesOn};
+ghost use Rattle.std.specs.Prelude.{◌≡◌, ℕ, ◌+◌, ◌<◌, ◌≤◌, ◌↔◌, IsTrue, IfSome, length, vec_len};
+ghost use Rattle.pm_match.specs.Starts.{Lacks, HaveAllBytes, Excluded, IsExcluded, GoesOn};
 
 use crate::find::Match;
 use crate::labels::{Labels, is_empty};
@@ -35,10 +35,7 @@ fn lacks(table: &Vec<bool>, byte: u8) -> bool
 
 /// Whether the tables say no to a place inside the area.
 fn is_excluded(starts: &Starts, area: &[u8], place: usize) -> bool
-    requires inner { vec_len starts.now.inner ≡ 256 }
-    requires first { vec_len starts.now.first ≡ 256 }
-    requires second { vec_len starts.now.second ≡ 256 }
-    requires third { vec_len starts.now.third ≡ 256 }
+    requires tables { HaveAllBytes starts.now }
     requires behind { 0 < place }
     requires before { place + 2 < length area.now }
     ensures { IsTrue result → Excluded starts.now area.now place }
@@ -56,11 +53,8 @@ fn is_excluded(starts: &Starts, area: &[u8], place: usize) -> bool
 }
 
 /// The next place to which the tables don't say no.
-fn skip(starts: &Starts, area: &[u8], from: usize) -> usize
-    requires inner { vec_len starts.now.inner ≡ 256 }
-    requires first { vec_len starts.now.first ≡ 256 }
-    requires second { vec_len starts.now.second ≡ 256 }
-    requires third { vec_len starts.now.third ≡ 256 }
+fn next_place(starts: &Starts, area: &[u8], from: usize) -> usize
+    requires tables { HaveAllBytes starts.now }
     requires from { from ≤ length area.now }
     ensures after { from ≤ result }
     ensures within { result ≤ length area.now }
@@ -80,9 +74,23 @@ fn skip(starts: &Starts, area: &[u8], from: usize) -> usize
     place
 }
 
+/// The same where there are tables, and the place itself where there are none.
+fn skip(starts: &Option<Starts>, area: &[u8], from: usize) -> usize
+    requires tables { IfSome starts.now HaveAllBytes }
+    requires from { from ≤ length area.now }
+    ensures after { from ≤ result }
+    ensures within { result ≤ length area.now }
+    ensures excluded { (i : ℕ) → from ≤ i → i < result → IsExcluded starts.now area.now i }
+{
+    match starts {
+        None => from,
+        Some(tables) => next_place(tables, area, from),
+    }
+}
+
 /// Where the search goes on: where it is, or, with no run on its way and nothing found, at the next place where a match can begin.
 pub fn go_on(
-    starts: &Starts,
+    starts: &Option<Starts>,
     best: Option<Match>,
     left_labels: &Labels,
     right_labels: &Labels,
@@ -90,10 +98,7 @@ pub fn go_on(
     base: usize,
     place: usize,
 ) -> Places
-    requires inner { vec_len starts.now.inner ≡ 256 }
-    requires first { vec_len starts.now.first ≡ 256 }
-    requires second { vec_len starts.now.second ≡ 256 }
-    requires third { vec_len starts.now.third ≡ 256 }
+    requires tables { IfSome starts.now HaveAllBytes }
     requires place { place ≤ length area.now }
     ensures { GoesOn starts.now best left_labels.now.of.items right_labels.now.of.items area.now base place result }
 {

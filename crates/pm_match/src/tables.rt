@@ -1,58 +1,92 @@
 //! Which bytes a match of an automaton can begin with.
-ghost use Rattle.std.specs.Prelude.{◌≡◌, ℕ, ◌<◌, ◌≤◌, false, Some, IsFalse, IfOk, [], ◌∷◌, length, vec_len, slice_get};
+ghost use Rattle.std.specs.Prelude.{◌≡◌, ℕ, ◌<◌, ◌≤◌, true, false, Some, IfOk, [], ◌∷◌, length, vec_len, slice_get};
 ghost use Rattle.pm_match.specs.declared.step.Test.{Test};
+ghost use Rattle.pm_regex.specs.declared.op.Atom.TheVariants.{Byte};
+ghost use Rattle.pm_match.specs.Matching.{atom_takes};
 ghost use Rattle.pm_match.specs.declared.step.Step.TheVariants.{Take};
 ghost use Rattle.pm_match.specs.Automaton.{takes};
-ghost use Rattle.pm_match.specs.Labels.{InRange, Below, KeepsBelow, IsClosed};
-ghost use Rattle.pm_match.specs.Starts.{NoneTakes, IsTable, IsStarts};
+ghost use Rattle.pm_match.specs.Labels.{InRange, RangesBelow, Below, KeepsBelow, IsClosed};
+ghost use Rattle.pm_match.specs.Starts.{Lacks, IsTable, IsStarts};
 
 use crate::advancing::hand_over;
-use crate::atoms::takes_byte;
+use crate::atoms::{swap_case, takes_byte};
 use crate::closing::reach;
 use crate::labels::{Label, Labels, no_labels};
 use crate::starts::Starts;
-use crate::step::Step;
+use crate::step::{Step, Test};
+use pm_regex::Atom;
 use std::alloc::{AllocError, Global};
 
-/// Whether the state has a label and takes the byte.
-fn takes_here(steps: &[Step], labels: &Labels, state: usize, byte: u8) -> bool
-    requires program { InRange steps.now }
-    requires same_len { length labels.now.of.items ≡ length steps.now }
-    requires state { state < length steps.now }
-    ensures { IsFalse result → (v : ℕ) (t : Test) (x : ℕ) → slice_get steps.now state ≡ Some (Take t x) → Below labels.now.of.items state v → takes steps.now t byte ≡ false }
+/// Marks the bytes that a letter takes: itself, and without regard to case its other case.
+fn mark_byte(table: &mut Vec<bool>, wanted: u8, fold: bool)
+    requires { vec_len table.old ≡ 256 }
+    ensures kept { (b : ℕ) → Lacks table.new.items b → Lacks table.old.items b }
+    ensures marked { (b : ℕ) → Lacks table.new.items b → atom_takes fold (Byte wanted) b ≡ false }
+    ensures len { vec_len table.new ≡ 256 }
 {
-    match steps[state] {
-        Step::Stop => false,
-        Step::Go(_) => false,
-        Step::Fork(_, _) => false,
-        Step::Take(test, _) => labels.of[state].is_some() && takes_byte(steps, test, byte),
-        Step::Range(_, _) => false,
+    table[wanted as usize] = true;
+    if fold {
+        table[swap_case(wanted) as usize] = true;
     }
 }
 
-/// Whether a state with a label takes the byte.
-fn some_takes(steps: &[Step], labels: &Labels, byte: u8) -> bool
-    requires program { InRange steps.now }
-    requires same_len { length labels.now.of.items ≡ length steps.now }
-    ensures { IsFalse result → NoneTakes steps.now labels.now.of.items byte }
+/// Marks the bytes that the test takes.
+fn mark_all(steps: &[Step], table: &mut Vec<bool>, test: Test)
+    requires ranges { RangesBelow test (length steps.now) }
+    requires len { vec_len table.old ≡ 256 }
+    ensures kept { (b : ℕ) → Lacks table.new.items b → Lacks table.old.items b }
+    ensures marked { (b : ℕ) → Lacks table.new.items b → takes steps.now test b ≡ false }
+    ensures len { vec_len table.new ≡ 256 }
 {
-    for state in 0..steps.len() {
-        if takes_here(steps, labels, state, byte) {
-            return true;
+    for byte in 0..256usize {
+        if takes_byte(steps, test, byte as u8) {
+            table[byte] = true;
         }
     }
-    false
 }
 
-/// Whether a state with a label takes the byte, or the last state has a label.
-fn may_begin(steps: &[Step], labels: &Labels, exit: usize, byte: u8) -> bool
-    requires program { InRange steps.now }
-    requires same_len { length labels.now.of.items ≡ length steps.now }
-    requires exit { exit < length steps.now }
-    ensures takes { IsFalse result → NoneTakes steps.now labels.now.of.items byte }
-    ensures exit { IsFalse result → (v : ℕ) → Below labels.now.of.items exit v → ⊥ }
+/// Marks the bytes that the test takes, a single letter's without asking for each byte.
+fn mark(steps: &[Step], table: &mut Vec<bool>, test: Test)
+    requires ranges { RangesBelow test (length steps.now) }
+    requires len { vec_len table.old ≡ 256 }
+    ensures kept { (b : ℕ) → Lacks table.new.items b → Lacks table.old.items b }
+    ensures marked { (b : ℕ) → Lacks table.new.items b → takes steps.now test b ≡ false }
+    ensures len { vec_len table.new ≡ 256 }
 {
-    labels.of[exit].is_some() || some_takes(steps, labels, byte)
+    match test {
+        Test::One(Atom::Byte(wanted), fold) => mark_byte(table, wanted, fold),
+        _ => mark_all(steps, table, test),
+    }
+}
+
+/// Marks the bytes that the state takes.
+fn mark_from(steps: &[Step], table: &mut Vec<bool>, state: usize)
+    requires program { InRange steps.now }
+    requires state { state < length steps.now }
+    requires len { vec_len table.old ≡ 256 }
+    ensures kept { (b : ℕ) → Lacks table.new.items b → Lacks table.old.items b }
+    ensures marked { (b : ℕ) (t : Test) (x : ℕ) → slice_get steps.now state ≡ Some (Take t x) → Lacks table.new.items b → takes steps.now t b ≡ false }
+    ensures len { vec_len table.new ≡ 256 }
+{
+    match steps[state] {
+        Step::Stop => {}
+        Step::Go(_) => {}
+        Step::Fork(_, _) => {}
+        Step::Take(test, _) => mark(steps, table, test),
+        Step::Range(_, _) => {}
+    }
+}
+
+/// A table with the same answer for all bytes.
+fn all_bytes(alloc: Global, answer: bool) -> Result<Vec<bool>, AllocError>
+    ensures len { IfOk result (λ table. vec_len table ≡ 256) }
+    ensures yes { IfOk result (λ table. answer ≡ true → (b : ℕ) → Lacks table.items b → ⊥) }
+{
+    let mut table = Vec::with_capacity(alloc, 256)?;
+    for _ in 0..256usize {
+        table.push(answer)?;
+    }
+    Ok(table)
 }
 
 /// For each byte whether a state with a label takes it, and yes for all where the last state has a label.
@@ -68,10 +102,12 @@ fn table_of(
     ensures len { IfOk result (λ table. vec_len table ≡ 256) }
     ensures table { IfOk result (λ table. IsTable steps.now exit labels.now.of.items table.items) }
 {
-    let mut table = Vec::new(alloc);
-    for byte in 0..256usize {
-        let answer = may_begin(steps, labels, exit, byte as u8);
-        table.push(answer)?;
+    if labels.of[exit].is_some() {
+        return all_bytes(alloc, true);
+    }
+    let mut table = all_bytes(alloc, false)?;
+    for state in &labels.states {
+        mark_from(steps, &mut table, *state);
     }
     Ok(table)
 }
@@ -133,8 +169,8 @@ fn read_all(steps: &[Step], labels: &Labels, next: &mut Labels, area: &[u8])
     ensures read { (q v : ℕ) (t : Test) (x : ℕ) → slice_get steps.now q ≡ Some (Take t x) → Below labels.now.of.items q v → Below next.new.of.items x v }
     ensures len { vec_len next.new.of ≡ vec_len next.old.of }
 {
-    for state in 0..steps.len() {
-        read_on(steps, labels, next, area, state);
+    for state in &labels.states {
+        read_on(steps, labels, next, area, *state);
     }
 }
 

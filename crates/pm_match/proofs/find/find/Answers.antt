@@ -3,7 +3,7 @@ use Rattle.pm_match.specs.Finding.{IsArrived, IsBestBefore, IsFirst, LeftSeed, R
 use Rattle.pm_match.proofs.FindLemmas.{arrived_first, arrived_through, left_late, right_late}
 use Rattle.pm_match.proofs.BestLemmas.{best_none, best_more, ends_here, found_of}
 use Rattle.pm_match.specs.Starts.{GoesOn}
-use Rattle.pm_match.proofs.SkipLemmas.{on_places, on_left, on_right, on_best, on_none, first_from}
+use Rattle.pm_match.proofs.SkipLemmas.{all_bytes, on_places, on_left, on_right, on_best, on_none, first_from}
 use Rattle.pm_match.proofs.FinalLemmas.{final_first}
 use Rattle.pm_match.proofs.find.find.Goals as goal
 
@@ -121,3 +121,6 @@ loop-place-smaller c =
     c.args.starts.now c.better-best.result c.swap.new.x.of.items c.swap-in-loop-place.new.x.of.items c.go_on-on.result c.go_on-on.ensures
     (omega arith) (omega arith) in
     let further = places.3 in omega (arith, further)
+
+pub go_on-on-requires-clause-tables : goal.go_on-on-requires-clause-tables
+go_on-on-requires-clause-tables c = all_bytes c.args.left.now.steps.items c.args.left.now.entry c.args.left.now.exit c.args.starts.now c.requires.starts

@@ -10,10 +10,7 @@ returns c =
     let second = c.in_ok-second_labels in
     let third = c.in_ok-third_labels in
     record {
-      inner = omega (arith, c.in_ok-inner.ensures.len, c.in_ok-inner.inner.ok.0);
-      first = omega (arith, c.in_ok-first.ensures.len, c.in_ok-first.first.ok.0);
-      second = omega (arith, c.in_ok-second.ensures.len, c.in_ok-second.second.ok.0);
-      third = omega (arith, c.in_ok-third.ensures.len, c.in_ok-third.third.ok.0);
+      all = record { inner = c.in_ok-inner.ensures.len; first = c.in_ok-first.ensures.len; second = c.in_ok-second.ensures.len; third = c.in_ok-third.ensures.len };
       none = none_excluded p c.args.entry c.args.exit inner.inner_labels.of.items first.first_labels.of.items second.second_labels.of.items third.third_labels.of.items
           inner.ensures.entry inner.ensures.closed first.ensures.entry first.ensures.closed
           second.ensures.exit

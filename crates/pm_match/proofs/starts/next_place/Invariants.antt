@@ -1,6 +1,6 @@
 use Rattle.std.proofs.Common.{◌≡◌, ◌+◌, ℕ, ◌-◌, ◌<◌, ◌≤◌, length}
 use Rattle.pm_match.specs.Starts.{Excluded}
-use Rattle.pm_match.proofs.starts.skip.Given as goal
+use Rattle.pm_match.proofs.starts.next_place.Given as goal
 
 abbrev pub invariant-loop-place : goal.invariant-loop-place
 invariant-loop-place l = record {

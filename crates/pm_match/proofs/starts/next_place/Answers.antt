@@ -1,6 +1,6 @@
 use Rattle.std.proofs.Common.{◌≡◌, ◌⊎◌, ◌<◌, sym, subst, ⊎_elim, arith}
 use Rattle.pm_match.specs.Starts.{Excluded}
-use Rattle.pm_match.proofs.starts.skip.Goals as goal
+use Rattle.pm_match.proofs.starts.next_place.Goals as goal
 
 pub loop-place-preserved : goal.loop-place-preserved
 loop-place-preserved c = record {
