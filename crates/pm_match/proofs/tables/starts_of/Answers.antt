@@ -1,4 +1,3 @@
-use Rattle.std.proofs.Common.{arith}
 use Rattle.pm_match.proofs.StartLemmas.{none_excluded}
 use Rattle.pm_match.proofs.tables.starts_of.Goals as goal
 

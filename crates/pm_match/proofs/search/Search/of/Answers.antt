@@ -1,5 +1,4 @@
-use Rattle.std.proofs.Common.{◌<◌, length, subst, sym, arith}
-use Rattle.pm_match.specs.Starts.{IsStarts}
+use Rattle.std.proofs.Common.{arith}
 use Rattle.pm_match.proofs.EngineLemmas.{program_of}
 use Rattle.pm_match.proofs.search.Search.of.Goals as goal
 
