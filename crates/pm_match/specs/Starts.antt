@@ -1,10 +1,11 @@
 -- Where no match begins.
-use Rattle.std.specs.Prelude.{◌≡◌, ◌≢◌, ℕ, ◌+◌, ◌-◌, ◌<◌, ◌≤◌, ◌⊎◌, Bool, false, List, length, vec_len, Option, Some, None, slice_get, slice_index}
+use Rattle.std.specs.Prelude.{◌≡◌, ◌≢◌, ℕ, ◌+◌, ◌-◌, ◌<◌, ◌≤◌, ◌⊎◌, Bool, true, false, List, length, vec_len, Option, Some, None, slice_get, slice_index}
 use Rattle.pm_match.specs.declared.step.Test.{Test}
 use Rattle.pm_match.specs.declared.step.Step.{Step}
 use Rattle.pm_match.specs.declared.step.Step.TheVariants.{Take}
 use Rattle.pm_match.specs.declared.labels.Label.{Label}
 use Rattle.pm_match.specs.declared.find.Match.{Match}
+use Rattle.pm_match.specs.declared.row.Row.{Row}
 use Rattle.pm_match.specs.declared.starts.Starts.{Starts}
 use Rattle.pm_match.specs.declared.starts.Places.{Places}
 use Rattle.pm_match.specs.Automaton.{takes, Run}
@@ -22,19 +23,36 @@ NoneTakes p labels b = (q v : ℕ) (t : Test) (x : ℕ) → slice_get p q ≡ So
 abbrev pub IsTable : List Step → ℕ → List (Option Label) → List Bool → Type 0
 IsTable p exit labels table = (b v : ℕ) → Lacks table b → NoneTakes p labels b × (Below labels exit v → ⊥)
 
+-- the test takes the byte, where one is given
+abbrev pub MayTake : List Step → Test → Option ℕ → Type 0
+MayTake p t None = Unit {0}
+MayTake p t (Some b) = takes p t b ≡ true
+
+-- the row says no to one of the two bytes behind place i
+abbrev pub RowLacks : Row → List ℕ → ℕ → Type 0
+RowLacks row area i = Lacks row.second.items (slice_index area (i + 1)) ⊎ Lacks row.third.items (slice_index area (i + 2))
+
+-- the row says no only where no run from the entry to the end begins with the byte, or with any where none is given
+abbrev pub IsRow : List Step → ℕ → ℕ → Option ℕ → Row → Type 0
+IsRow p entry exit byte row = (area : List ℕ) (i n j : ℕ) → 0 < i → i + 2 < length area → ((b : ℕ) → byte ≡ Some b → slice_index area i ≡ b) →
+    RowLacks row area i → Run p area exit j n entry i → ⊥
+
+-- each row is one of its byte
+abbrev pub AreRows : List Step → ℕ → ℕ → List (Option Row) → Type 0
+AreRows p entry exit rows = (b : ℕ) (row : Row) → slice_get rows b ≡ Some (Some row) → IsRow p entry exit (Some b) row
+
 -- the tables say no to place i
 pub record Excluded (s : Starts) (area : List ℕ) (i : ℕ) : Type 0 where
   pub behind : 0 < i
   pub before : i + 2 < length area
-  pub lacks : Lacks s.first.items (slice_index area i) ⊎ Lacks s.second.items (slice_index area (i + 1)) ⊎ Lacks s.third.items (slice_index area (i + 2))
+  pub lacks : Lacks s.first.items (slice_index area i) ⊎ RowLacks s.any area i
+      ⊎ ((row : Row) × (slice_get s.rows.items (slice_index area i) ≡ Some (Some row)) × RowLacks row area i)
       ⊎ ((slice_index area (i - 1) ≢ 10) × Lacks s.inner.items (slice_index area i))
 
 -- the tables have all bytes
 pub record HaveAllBytes (s : Starts) : Type 0 where
   pub inner : vec_len s.inner ≡ 256
   pub first : vec_len s.first ≡ 256
-  pub second : vec_len s.second ≡ 256
-  pub third : vec_len s.third ≡ 256
 
 -- the tables have all bytes, and say no only where no run from the entry to the end begins
 pub record IsStarts (p : List Step) (entry exit : ℕ) (s : Starts) : Type 0 where

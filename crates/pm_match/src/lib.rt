@@ -9,6 +9,7 @@ mod count;
 mod engine;
 mod find;
 mod labels;
+mod row;
 mod search;
 mod starts;
 mod step;

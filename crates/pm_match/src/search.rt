@@ -15,14 +15,31 @@ use std::alloc::Global;
 /// How long an area is where tables save more than it takes to make them.
 const LONG: usize = 256;
 
+/// The same of rows.
+const VERY_LONG: usize = 16384;
+
+/// Whether tables, or rows, are still to be made.
+fn is_needed(starts: &Option<Starts>, size: usize, with_rows: bool) -> bool {
+    match starts {
+        None => size >= LONG,
+        Some(tables) => with_rows && tables.rows.is_empty(),
+    }
+}
+
 /// The tables of an automaton. Where there is no memory for them the search goes on without.
-fn tables(alloc: Global, program: &Program) -> Option<Starts>
+fn tables(alloc: Global, program: &Program, with_rows: bool) -> Option<Starts>
     requires range { InRange program.now.steps.items }
     requires entry { program.now.entry < length program.now.steps.items }
     requires exit { program.now.exit < length program.now.steps.items }
     ensures { AreStarts program.now.steps.items program.now.entry program.now.exit result }
 {
-    match starts_of(alloc, &program.steps, program.entry, program.exit) {
+    match starts_of(
+        alloc,
+        &program.steps,
+        program.entry,
+        program.exit,
+        with_rows,
+    ) {
         Err(_) => None,
         Ok(starts) => Some(starts),
     }
@@ -78,8 +95,9 @@ impl Search {
         requires { (l : Re) × (r : Re) × (fold : Bool) × Runs self.old l r fold }
         ensures { (l r : Re) (fold : Bool) → Runs self.old l r fold → Runs self.new l r fold }
     {
-        if self.starts.is_none() && area.len() >= LONG {
-            self.starts = tables(self.alloc, &self.left);
+        let with_rows = area.len() >= VERY_LONG;
+        if is_needed(&self.starts, area.len(), with_rows) {
+            self.starts = tables(self.alloc, &self.left, with_rows);
         }
     }
 

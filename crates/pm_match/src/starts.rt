@@ -1,9 +1,10 @@
 //! Where the search goes past places at which no match begins.
-ghost use Rattle.std.specs.Prelude.{◌≡◌, ℕ, ◌+◌, ◌<◌, ◌≤◌, ◌↔◌, IsTrue, IfSome, length, vec_len};
-ghost use Rattle.pm_match.specs.Starts.{Lacks, HaveAllBytes, Excluded, IsExcluded, GoesOn};
+ghost use Rattle.std.specs.Prelude.{◌≡◌, ℕ, Some, slice_get, slice_index, ◌+◌, ◌<◌, ◌≤◌, ◌↔◌, IsTrue, IfSome, length, vec_len};
+ghost use Rattle.pm_match.specs.Starts.{Lacks, RowLacks, HaveAllBytes, Excluded, IsExcluded, GoesOn};
 
 use crate::find::Match;
 use crate::labels::{Labels, is_empty};
+use crate::row::Row;
 
 /// Which bytes can stand at the front of a match.
 #[derive(Drop)]
@@ -12,10 +13,10 @@ pub struct Starts {
     pub inner: Vec<bool>,
     /// The first byte, whatever stands before.
     pub first: Vec<bool>,
-    /// The second byte.
-    pub second: Vec<bool>,
-    /// The third byte.
-    pub third: Vec<bool>,
+    /// The bytes behind the first, whatever it is.
+    pub any: Row,
+    /// For each first byte those behind it, where rows were made.
+    pub rows: Vec<Option<Row>>,
 }
 
 /// Where the search is: no match begins before the base.
@@ -33,6 +34,29 @@ fn lacks(table: &Vec<bool>, byte: u8) -> bool
     !table[byte as usize]
 }
 
+/// Whether the row says no to the two bytes behind a place.
+fn row_lacks(row: &Row, area: &[u8], place: usize) -> bool
+    requires { place + 2 < length area.now }
+    ensures { IsTrue result → RowLacks row.now area.now place }
+{
+    lacks(&row.second, area[place + 1]) || lacks(&row.third, area[place + 2])
+}
+
+/// Whether there is a row for the byte at a place, and it says no.
+fn own_row_lacks(starts: &Starts, area: &[u8], place: usize) -> bool
+    requires { place + 2 < length area.now }
+    ensures { IsTrue result → (row : Row) × (slice_get starts.now.rows.items (slice_index area.now place) ≡ Some (Some row)) × RowLacks row area.now place }
+{
+    let byte = area[place] as usize;
+    if byte >= starts.rows.len() {
+        return false;
+    }
+    match &starts.rows[byte] {
+        None => false,
+        Some(row) => row_lacks(row, area, place),
+    }
+}
+
 /// Whether the tables say no to a place inside the area.
 fn is_excluded(starts: &Starts, area: &[u8], place: usize) -> bool
     requires tables { HaveAllBytes starts.now }
@@ -43,10 +67,10 @@ fn is_excluded(starts: &Starts, area: &[u8], place: usize) -> bool
     if lacks(&starts.first, area[place]) {
         return true;
     }
-    if lacks(&starts.second, area[place + 1]) {
+    if row_lacks(&starts.any, area, place) {
         return true;
     }
-    if lacks(&starts.third, area[place + 2]) {
+    if own_row_lacks(starts, area, place) {
         return true;
     }
     area[place - 1] != b'\n' && lacks(&starts.inner, area[place])

@@ -1,21 +1,26 @@
 //! Which bytes a match of an automaton can begin with.
-ghost use Rattle.std.specs.Prelude.{◌≡◌, ℕ, ◌<◌, ◌≤◌, true, false, Some, IfOk, [], ◌∷◌, length, vec_len, slice_get};
+ghost use Rattle.std.specs.Prelude.{◌≡◌, ℕ, ◌<◌, ◌≤◌, true, false, Some, IsFalse, IfOk, [], ◌∷◌, length, vec_len, slice_get};
 ghost use Rattle.pm_match.specs.declared.step.Test.{Test};
+ghost use Rattle.pm_match.specs.declared.row.Row.{Row};
 ghost use Rattle.pm_regex.specs.declared.op.Atom.TheVariants.{Byte};
 ghost use Rattle.pm_match.specs.Matching.{atom_takes};
 ghost use Rattle.pm_match.specs.declared.step.Step.TheVariants.{Take};
 ghost use Rattle.pm_match.specs.Automaton.{takes};
 ghost use Rattle.pm_match.specs.Labels.{InRange, RangesBelow, Below, KeepsBelow, IsClosed};
-ghost use Rattle.pm_match.specs.Starts.{Lacks, IsTable, IsStarts};
+ghost use Rattle.pm_match.specs.Starts.{Lacks, MayTake, IsTable, IsRow, AreRows, IsStarts};
 
 use crate::advancing::hand_over;
 use crate::atoms::{swap_case, takes_byte};
 use crate::closing::reach;
 use crate::labels::{Label, Labels, no_labels};
+use crate::row::Row;
 use crate::starts::Starts;
 use crate::step::{Step, Test};
 use pm_regex::Atom;
 use std::alloc::{AllocError, Global};
+
+/// With how many first bytes a row for each pays.
+const FEW: u64 = 64;
 
 /// Marks the bytes that a letter takes: itself, and without regard to case its other case.
 fn mark_byte(table: &mut Vec<bool>, wanted: u8, fold: bool)
@@ -133,8 +138,26 @@ fn reached(alloc: Global, steps: &[Step], entry: usize, area: &[u8]) -> Result<L
     Ok(labels)
 }
 
-/// Hands the label of a state on to where the state leads with a byte.
-fn read_on(steps: &[Step], labels: &Labels, next: &mut Labels, area: &[u8], state: usize)
+/// Whether the test takes the byte, where one is given.
+fn may_take(steps: &[Step], test: Test, byte: Option<u8>) -> bool
+    requires { RangesBelow test (length steps.now) }
+    ensures { IsFalse result → MayTake steps.now test byte → ⊥ }
+{
+    match byte {
+        None => true,
+        Some(given) => takes_byte(steps, test, given),
+    }
+}
+
+/// Hands the label of a state on to where the state leads with this byte, or with any where none is given.
+fn read_on(
+    steps: &[Step],
+    labels: &Labels,
+    next: &mut Labels,
+    area: &[u8],
+    byte: Option<u8>,
+    state: usize,
+)
     requires program { InRange steps.now }
     requires same_len { length labels.now.of.items ≡ length steps.now }
     requires same_next { vec_len next.old.of ≡ length steps.now }
@@ -143,22 +166,24 @@ fn read_on(steps: &[Step], labels: &Labels, next: &mut Labels, area: &[u8], stat
     requires closed { IsClosed steps.now area.now 1 next.old.of.items }
     ensures kept { KeepsBelow next.old.of.items next.new.of.items }
     ensures closed { IsClosed steps.now area.now 1 next.new.of.items }
-    ensures read { (v : ℕ) (t : Test) (x : ℕ) → slice_get steps.now state ≡ Some (Take t x) → Below labels.now.of.items state v → Below next.new.of.items x v }
+    ensures read { (v : ℕ) (t : Test) (x : ℕ) → slice_get steps.now state ≡ Some (Take t x) → MayTake steps.now t byte → Below labels.now.of.items state v → Below next.new.of.items x v }
     ensures len { vec_len next.new.of ≡ vec_len next.old.of }
 {
     match steps[state] {
         Step::Stop => {}
         Step::Go(_) => {}
         Step::Fork(_, _) => {}
-        Step::Take(_, to) => {
-            hand_over(steps, labels, state, next, area, 1, to);
+        Step::Take(test, to) => {
+            if may_take(steps, test, byte) {
+                hand_over(steps, labels, state, next, area, 1, to);
+            }
         }
         Step::Range(_, _) => {}
     }
 }
 
-/// Hands all labels on to where their states lead with a byte.
-fn read_all(steps: &[Step], labels: &Labels, next: &mut Labels, area: &[u8])
+/// Hands all labels on to where their states lead with this byte, or with any where none is given.
+fn read_all(steps: &[Step], labels: &Labels, next: &mut Labels, area: &[u8], byte: Option<u8>)
     requires program { InRange steps.now }
     requires same_len { length labels.now.of.items ≡ length steps.now }
     requires same_next { vec_len next.old.of ≡ length steps.now }
@@ -166,21 +191,22 @@ fn read_all(steps: &[Step], labels: &Labels, next: &mut Labels, area: &[u8])
     requires closed { IsClosed steps.now area.now 1 next.old.of.items }
     ensures closed { IsClosed steps.now area.now 1 next.new.of.items }
     ensures kept { KeepsBelow next.old.of.items next.new.of.items }
-    ensures read { (q v : ℕ) (t : Test) (x : ℕ) → slice_get steps.now q ≡ Some (Take t x) → Below labels.now.of.items q v → Below next.new.of.items x v }
+    ensures read { (q v : ℕ) (t : Test) (x : ℕ) → slice_get steps.now q ≡ Some (Take t x) → MayTake steps.now t byte → Below labels.now.of.items q v → Below next.new.of.items x v }
     ensures len { vec_len next.new.of ≡ vec_len next.old.of }
 {
     for state in &labels.states {
-        read_on(steps, labels, next, area, *state);
+        read_on(steps, labels, next, area, byte, *state);
     }
 }
 
-/// The states that are reached with one byte, whatever it is, and the last state where it had a label before.
+/// The states that are reached with this byte, or with any where none is given, and the last state where it had a label before.
 fn reached_behind(
     alloc: Global,
     steps: &[Step],
     labels: &Labels,
     exit: usize,
     area: &[u8],
+    byte: Option<u8>,
 ) -> Result<Labels, AllocError>
     requires program { InRange steps.now }
     requires same_len { length labels.now.of.items ≡ length steps.now }
@@ -188,21 +214,109 @@ fn reached_behind(
     requires area { 1 ≤ length area.now }
     ensures len { IfOk result (λ next. vec_len next.of ≡ length steps.now) }
     ensures exit { IfOk result (λ next. (v : ℕ) → Below labels.now.of.items exit v → Below next.of.items exit v) }
-    ensures read { IfOk result (λ next. (q v : ℕ) (t : Test) (x : ℕ) → slice_get steps.now q ≡ Some (Take t x) → Below labels.now.of.items q v → Below next.of.items x v) }
+    ensures read { IfOk result (λ next. (q v : ℕ) (t : Test) (x : ℕ) → slice_get steps.now q ≡ Some (Take t x) → MayTake steps.now t byte → Below labels.now.of.items q v → Below next.of.items x v) }
     ensures closed { IfOk result (λ next. IsClosed steps.now area.now 1 next.of.items) }
 {
     let mut next = no_labels(alloc, steps.len())?;
     hand_over(steps, labels, exit, &mut next, area, 1, exit);
-    read_all(steps, labels, &mut next, area);
+    read_all(steps, labels, &mut next, area, byte);
     Ok(next)
 }
 
-/// The tables of an automaton.
+/// The tables of the second and the third byte behind this one, or behind any where none is given.
+fn row_of(
+    alloc: Global,
+    steps: &[Step],
+    first: &Labels,
+    entry: usize,
+    exit: usize,
+    byte: Option<u8>,
+) -> Result<Row, AllocError>
+    requires program { InRange steps.now }
+    requires same_len { length first.now.of.items ≡ length steps.now }
+    requires exit { exit < length steps.now }
+    requires entry { Below first.now.of.items entry 0 }
+    requires closed { IsClosed steps.now (10 ∷ 0 ∷ []) 1 first.now.of.items }
+    ensures { IfOk result (IsRow steps.now entry exit byte) }
+{
+    let second_labels = reached_behind(alloc, steps, first, exit, &[10, 0], byte)?;
+    let third_labels = reached_behind(alloc, steps, &second_labels, exit, &[10, 0], None)?;
+    let second = table_of(alloc, steps, &second_labels, exit)?;
+    let third = table_of(alloc, steps, &third_labels, exit)?;
+    Ok(Row { second, third })
+}
+
+/// The row of a byte that a match can begin with, and none for another.
+fn slot_of(
+    alloc: Global,
+    steps: &[Step],
+    first: &Labels,
+    entry: usize,
+    exit: usize,
+    byte: u8,
+    is_first: bool,
+) -> Result<Option<Row>, AllocError>
+    requires program { InRange steps.now }
+    requires same_len { length first.now.of.items ≡ length steps.now }
+    requires exit { exit < length steps.now }
+    requires entry { Below first.now.of.items entry 0 }
+    requires closed { IsClosed steps.now (10 ∷ 0 ∷ []) 1 first.now.of.items }
+    ensures { IfOk result (λ slot. (row : Row) → slot ≡ Some row → IsRow steps.now entry exit (Some byte) row) }
+{
+    if is_first {
+        let row = row_of(alloc, steps, first, entry, exit, Some(byte))?;
+        Ok(Some(row))
+    } else {
+        Ok(None)
+    }
+}
+
+/// For each byte its row, where a match can begin with it.
+fn rows_of(
+    alloc: Global,
+    steps: &[Step],
+    first: &Labels,
+    table: &Vec<bool>,
+    entry: usize,
+    exit: usize,
+) -> Result<Vec<Option<Row>>, AllocError>
+    requires program { InRange steps.now }
+    requires same_len { length first.now.of.items ≡ length steps.now }
+    requires exit { exit < length steps.now }
+    requires entry { Below first.now.of.items entry 0 }
+    requires closed { IsClosed steps.now (10 ∷ 0 ∷ []) 1 first.now.of.items }
+    requires bytes { vec_len table.now ≡ 256 }
+    ensures { IfOk result (λ rows. AreRows steps.now entry exit rows.items) }
+{
+    let mut rows = Vec::with_capacity(alloc, 256)?;
+    for byte in 0..256usize {
+        let slot = slot_of(alloc, steps, first, entry, exit, byte as u8, table[byte])?;
+        rows.push(slot)?;
+    }
+    Ok(rows)
+}
+
+/// Whether a match can begin with few bytes only, so that a row for each pays.
+fn are_few(table: &Vec<bool>) -> bool {
+    let mut left = FEW;
+    for is_first in table {
+        if *is_first {
+            if left == 0 {
+                return false;
+            }
+            left -= 1;
+        }
+    }
+    true
+}
+
+/// The tables of an automaton, with rows where they are asked for and pay.
 pub fn starts_of(
     alloc: Global,
     steps: &[Step],
     entry: usize,
     exit: usize,
+    with_rows: bool,
 ) -> Result<Starts, AllocError>
     requires program { InRange steps.now }
     requires entry { entry < length steps.now }
@@ -211,16 +325,22 @@ pub fn starts_of(
 {
     let inner_labels = reached(alloc, steps, entry, &[0, 0])?;
     let first_labels = reached(alloc, steps, entry, &[10, 0])?;
-    let second_labels = reached_behind(alloc, steps, &first_labels, exit, &[10, 0])?;
-    let third_labels = reached_behind(alloc, steps, &second_labels, exit, &[10, 0])?;
     let inner = table_of(alloc, steps, &inner_labels, exit)?;
     let first = table_of(alloc, steps, &first_labels, exit)?;
-    let second = table_of(alloc, steps, &second_labels, exit)?;
-    let third = table_of(alloc, steps, &third_labels, exit)?;
+    let any = row_of(alloc, steps, &first_labels, entry, exit, None)?;
+    if with_rows && are_few(&first) {
+        let rows = rows_of(alloc, steps, &first_labels, &first, entry, exit)?;
+        return Ok(Starts {
+            inner,
+            first,
+            any,
+            rows,
+        });
+    }
     Ok(Starts {
         inner,
         first,
-        second,
-        third,
+        any,
+        rows: Vec::new(alloc),
     })
 }
