@@ -3,7 +3,8 @@
 # some minutes.
 #
 # The first table has what a byte of the area costs at two sizes: it must not grow with the area. The second has the
-# instructions that a byte and expression cost on ordinary lines, for expressions that don't match there.
+# instructions that a byte and expression cost on ordinary lines, for expressions that don't match there. The third has
+# what a byte costs with lists of words and with deep expressions, and what making the automata costs.
 set -u
 cd "$(dirname "$0")/.." || exit 1
 program=bin/egrep_bench
@@ -145,5 +146,51 @@ if [ "$counts" = yes ]; then
         printf '%-36s %8s\n' "$text" "$(per_byte "$cost" "$large")"
     done
     printf '%-36s %8s\n' 'in the mean' "$(per_byte $((sum / ${#ordinary[@]})) "$large")"
+fi
+
+# 100 words that don't stand in the ordinary lines.
+words=(
+    lottery casino viagra cialis refinance mortgage guarantee unsubscribe investor jackpot pharmacy discount exclusive
+    billion inheritance transfer urgent password verify suspended bitcoin wallet crypto replica rolex luxury
+    weightloss miracle enlargement singles dating webcam horoscope psychic clearance bargain voucher coupon freebie
+    giveaway sweepstake winner prize congratulations selected beneficiary barrister dormant remittance consignment
+    diploma degree university accredited loans credit debtfree consolidate insurance premium quotes annuity timeshare
+    vacation cruise airline hotelroom getaway passport visa greencard immigration invest portfolio penny stocks shares
+    trading forex broker profit earnings income workfromhome homebased franchise opportunity multilevel pyramid scheme
+    wholesale dropship supplier factory genuine original designer handbag perfume cosmetics
+)
+
+# A list of the first so many words, with bars between them.
+first_words() {
+    local IFS='|'
+    echo "${words[*]:0:$1}"
+}
+
+# repeated TEXT COUNT
+repeated() {
+    local text=
+    for ((done = 0; done < $2; done++)); do
+        text+=$1
+    done
+    echo "$text"
+}
+
+# states NAME EXPRESSION KIND SIZE: what a byte costs, and what the automata cost
+states() {
+    local made cost
+    made=$(($(instructions none "$2" "$3" "$4") - $(instructions none x "$3" "$4")))
+    cost=$(of_search find "$2" "$3" "$4")
+    printf '%-36s %10s a byte %10s to make it\n' "$1" "$(per_byte "$cost" "$4")" "$made"
+}
+
+if [ "$counts" = yes ]; then
+    echo
+    echo "Instructions of lists of words on $large bytes of ordinary lines, and of deep expressions on $small bytes:"
+    for count in 10 50 100; do
+        states "$count words" "$(first_words "$count")" text "$large"
+    done
+    states '900 times *' "a$(repeated '*' 900)b" a "$small"
+    states '100 times a?' "$(repeated 'a?' 100)c" a "$small"
+    states '50 nested parentheses' "$(repeated '(' 50)a$(repeated ')*' 50)b" a "$small"
 fi
 exit "$failed"

@@ -93,12 +93,6 @@ module _ (p : List Step) (area : List ℕ) (q i : ℕ) where
       let f = edge_on r (Take a x) is e in
       (f.0, elim f.1 [ inl h ↦ absurd (omega (arith, h.1)) | inr h ↦ (let g : Some h.0 ≡ Some b = sym h.1 ∙ at in let same : h.0 ≡ b = cc in ap (λ k. takes p a k) (sym same) ∙ h.2) ])
 
-  pub on_sound : (x : ℕ) (labels old new : List (Option Label)) → Edge p area q i x (i + 1) →
-      ((r v : ℕ) → Below new r v → Below old r v ⊎ ((r ≡ x) × Below labels q v)) →
-      (r v : ℕ) → Below new r v → Below old r v ⊎ (Below labels q v × Edge p area q i r (i + 1))
-  on_sound x labels old new e h r v b =
-      ⊎_elim (λ l. inl l) (λ s. inr (s.1, subst (λ k. Edge p area q i k (i + 1)) (sym s.0) e)) (h r v b)
-
 pub read_byte : (area : List ℕ) (i : ℕ) → i < length area → slice_get area i ≡ Some (get_or area i 0)
 read_byte area i h = slice_get-get_or area i 0 h
 

@@ -1,5 +1,5 @@
 -- What is found of both parts is what is found of the expression.
-use Rattle.std.proofs.Common.{◌≡◌, ℕ, Bool, true, false, List, Option, Some, None, is_some, refl, subst, arith}
+use Rattle.std.proofs.Common.{◌≡◌, ℕ, Bool, true, false, List, Option, Some, None, refl, subst, arith}
 use Rattle.std.specs.Prelude.{slice_get}
 use Rattle.std.proofs.lemmas.Option.{slice_get_within}
 use Rattle.pm_regex.specs.Re.{Re, nothing}
@@ -11,8 +11,9 @@ use Rattle.pm_match.specs.Matching.{At}
 use Rattle.pm_match.specs.Automaton.{Built}
 use Rattle.pm_match.specs.Labels.{InRange}
 use Rattle.pm_match.specs.Finding.{IsMatch, IsFirst}
-use Rattle.pm_match.specs.Search.{IsProgram}
-use Rattle.pm_match.specs.Engine.{left_part, right_part}
+use Rattle.pm_match.specs.declared.search.Search.{Search}
+use Rattle.pm_match.specs.Search.{IsProgram, Runs}
+use Rattle.pm_match.specs.Engine.{AreParts}
 use Rattle.pm_match.specs.Found.{IsPlainMatch, IsPlainFound, IsFoundOf, without_cut}
 use Rattle.pm_match.proofs.RangeLemmas.{entry_in}
 
@@ -44,20 +45,30 @@ plain_some fold e area from m h =
     )
 
 module _ (fold : Bool) (r : Re) (area : List ℕ) where
-  pub parts_none : (l : Option Re) → true ≡ is_some l → IsFirst fold (left_part l) (right_part l r) area 0 None → IsFoundOf fold l r area None
-  parts_none None t h = cc
-  parts_none (Some l) t h = h
-
-  pub parts_some : (l : Option Re) (m : Match) → true ≡ is_some l → IsFirst fold (left_part l) (right_part l r) area 0 (Some m) →
-      IsFoundOf fold l r area (Some (shown true m))
-  parts_some None m t h = cc
-  parts_some (Some l) m t h = (m.cut, refl, h.0, h.1, h.2, h.3)
-
-  pub whole_none : (l : Option Re) → false ≡ is_some l → IsFirst fold (without_cut l r) nothing area 0 None → IsFoundOf fold l r area None
+  pub whole_none : (l : Option Re) → AreParts None l r fold → IsFirst fold (without_cut l r) nothing area 0 None → IsFoundOf fold l r area None
   whole_none None t h = plain_none fold r area 0 h
-  whole_none (Some l) t h = cc
+  whole_none (Some l) t h = absurd t
 
-  pub whole_some : (l : Option Re) (m : Match) → false ≡ is_some l → IsFirst fold (without_cut l r) nothing area 0 (Some m) →
+  pub whole_some : (l : Option Re) (m : Match) → AreParts None l r fold → IsFirst fold (without_cut l r) nothing area 0 (Some m) →
       IsFoundOf fold l r area (Some (shown false m))
   whole_some None m t h = plain_some fold r area 0 m h
-  whole_some (Some l) m t h = cc
+  whole_some (Some l) m t h = absurd t
+
+  module _ (s : Search) where
+    pub parts_none : (l : Option Re) → AreParts (Some s) l r fold → ((x : Re) → Runs s x r fold → IsFirst fold x r area 0 None) → IsFoundOf fold l r area None
+    parts_none None t h = absurd t
+    parts_none (Some l) t h = h l t
+
+    pub parts_some : (l : Option Re) (m : Match) → AreParts (Some s) l r fold → ((x : Re) → Runs s x r fold → IsFirst fold x r area 0 (Some m)) →
+        IsFoundOf fold l r area (Some (shown true m))
+    parts_some None m t h = absurd t
+    parts_some (Some l) m t h = (let f = h l t in (m.cut, refl, f.0, f.1, f.2, f.3))
+
+    pub parts_kept : (new : Search) (l : Option Re) → ((x : Re) → Runs s x r fold → Runs new x r fold) → AreParts (Some s) l r fold → AreParts (Some new) l r fold
+    parts_kept new None h t = t
+    parts_kept new (Some l) h t = h l t
+
+    -- there is a left part
+    pub parts_of : (l : Option Re) → AreParts (Some s) l r fold → (x : Re) × (y : Re) × (f : Bool) × Runs s x y f
+    parts_of None t = absurd t
+    parts_of (Some l) t = (l, r, fold, t)

@@ -5,7 +5,8 @@ use Rattle.pm_match.specs.declared.step.Step.{Step}
 use Rattle.pm_match.specs.declared.step.Step.TheVariants.{Stop, Go, Fork, Take, Range}
 use Rattle.pm_match.specs.declared.labels.Label.{Label}
 use Rattle.pm_match.specs.Automaton.{StepEdge, Edge}
-use Rattle.pm_match.specs.Labels.{rank, Below, Hops, here, hop}
+use Rattle.pm_match.specs.Labels.{rank, Below, Hops, here, hop, Crosses, IsClosed}
+use Rattle.pm_match.proofs.CloseLemmas.{closed_none}
 use Rattle.pm_match.specs.Finding.{Reach, Held, IsHeld, IsArrived, LeftSeed, RightSeed, right_seed, IsSeedBelow, Opens}
 
 -- an edge stays, or goes on by one place
@@ -38,46 +39,45 @@ module _ (p : List Step) (area : List ℕ) (entry : ℕ) (Seed : ℕ → Label �
   arrived_first from late labels none = record {
     sound = λ q v b. absurd (none q v b);
     whole = λ q v a. absurd (omega (arith, a.next, late a.held.place a.held.label a.held.seed, reach_after p area entry a.held.place a.held.count a.state a.from a.held.reach));
+    closed = closed_none p area from labels none;
   }
 
   -- a seed that stands for all seeds of this place, and all edges that read nothing
   module _ (i : ℕ) (seed : Option Label) (old new : List (Option Label)) (arrived : IsArrived p area entry Seed i old) (o : Opens p area i entry seed old new)
       (seed_sound : (v : ℕ) → IsSeedBelow seed v → (w : Label) × Seed i w × (rank w ≤ v))
       (seed_whole : (v : ℕ) (w : Label) → Seed i w → rank w ≤ v → IsSeedBelow seed v) where
-    seed_held : (q v : ℕ) → Below o.seeded q v → Held p area entry Seed i q v
-    seed_held q v b = ⊎_elim
-        (λ l. (let a = arrived.sound q v l in held_more a.from i a.state q v a.held a.edge))
-        (λ s. (let w = seed_sound v s.1 in record { place = i; label = w.0; count = 0; seed = w.1; small = w.2; reach = (s.0, refl) }))
-        (o.sound q v b)
-
     reach_below : (s n : ℕ) (w : Label) (q v : ℕ) → Seed s w → rank w ≤ v → Reach p area entry s n q i → Below new q v
     reach_below s zero w q v is small h =
-        o.kept q v (subst (λ k. Below o.seeded k v) (sym h.0) (o.reached v (seed_whole v w (subst (λ k. Seed k w) (sym h.1) is) small)))
+        subst (λ k. Below new k v) (sym h.0) (o.reached v (seed_whole v w (subst (λ k. Seed k w) (sym h.1) is) small))
     reach_below s (suc n) w q v is small h = ⊎_elim
         (λ same. o.closed h.0 q v
         (subst (λ k. Edge p area h.0 k q i) (sym same) h.3)
         (reach_below s n w h.0 v is small (subst (λ k. Reach p area entry s n h.0 k) (sym same) h.2)))
-        (λ next. o.kept q v (o.seed_kept q v (arrived.whole q v (record {
+        (λ next. o.kept q v (arrived.whole q v (record {
           state = h.0;
           from = h.1;
           held = record { place = s; label = w; count = n; seed = is; small = small; reach = h.2 };
           next = sym next;
           edge = h.3;
-        }))))
+        })))
         (edge_place p area h.0 h.1 q i h.3)
 
     pub held_now : IsHeld p area entry Seed i new
     held_now = record {
-      sound = λ q v b. (let c = o.comes q v b in hops_held i c.0 q v c.2 (seed_held c.0 v c.1));
+      sound = λ q v b. ⊎_elim
+          (λ l. arrived.sound q v l)
+          (λ s. let w = seed_sound v s.0 in hops_held i entry q v s.1 (record { place = i; label = w.0; count = 0; seed = w.1; small = w.2; reach = (refl, refl) }))
+          (o.sound q v b);
       whole = λ q v h. reach_below h.place h.count h.label q v h.seed h.small h.reach;
     }
 
   -- the labels of the next place
   pub arrived_next : (i : ℕ) (labels next : List (Option Label)) → IsHeld p area entry Seed i labels →
-      ((r v : ℕ) → Below next r v → (q : ℕ) × Below labels q v × Edge p area q i r (i + 1)) →
-      ((q r v : ℕ) → Edge p area q i r (i + 1) → Below labels q v → Below next r v) → IsArrived p area entry Seed (i + 1) next
-  arrived_next i labels next held from_old reached = record {
-    sound = λ q v b. (let c = from_old q v b in record { state = c.0; from = i; held = held.sound c.0 v c.1; next = refl; edge = c.2 });
+      ((r v : ℕ) → Below next r v → (q : ℕ) × Below labels q v × Crosses p area i q r) →
+      ((q r v : ℕ) → Edge p area q i r (i + 1) → Below labels q v → Below next r v) → IsClosed p area (i + 1) next → IsArrived p area entry Seed (i + 1) next
+  arrived_next i labels next held from_old reached closed = record {
+    sound = λ q v b. (let c = from_old q v b in hops_held (i + 1) c.2.middle q v c.2.hops (held_more i (i + 1) c.0 c.2.middle v (held.sound c.0 v c.1) c.2.edge));
+    closed = closed;
     whole = λ q v a. (
         let same : a.from ≡ i = omega (arith, a.next) in
         reached a.state q v (subst (λ k. Edge p area a.state k q (i + 1)) same a.edge)
@@ -118,12 +118,13 @@ module _ (p : List Step) (area : List ℕ) (entry exit from i : ℕ) (labels : L
       subst (λ x. IsSeedBelow (right_seed x i) v) (sym f)
       (let less : b.label.start ≤ w.start = omega (arith, b.small) in omega (arith, less, h.3, small))
 
--- the labels of the next place, at the names that a call of the code has for the program and the labels
-pub arrived_through : (p p' : List Step) (area : List ℕ) (entry i : ℕ) (Seed : ℕ → Label → Type 0) (labels labels' next : List (Option Label)) → p' ≡ p → labels' ≡ labels →
+-- the labels of the next place, at the name that a call of the code has for the program
+pub arrived_through : (p p' : List Step) (area : List ℕ) (entry i : ℕ) (Seed : ℕ → Label → Type 0) (labels next : List (Option Label)) → p' ≡ p →
     IsHeld p area entry Seed i labels →
-    ((r v : ℕ) → Below next r v → (q : ℕ) × Below labels' q v × Edge p' area q i r (i + 1)) →
-    ((q r v : ℕ) → Edge p' area q i r (i + 1) → Below labels' q v → Below next r v) → IsArrived p area entry Seed (i + 1) next
-arrived_through p p' area entry i Seed labels labels' next e f held from_old reached =
+    ((r v : ℕ) → Below next r v → (q : ℕ) × Below labels q v × Crosses p' area i q r) →
+    ((q r v : ℕ) → Edge p' area q i r (i + 1) → Below labels q v → Below next r v) → IsClosed p' area (i + 1) next → IsArrived p area entry Seed (i + 1) next
+arrived_through p p' area entry i Seed labels next e held from_old reached closed =
     arrived_next p area entry Seed i labels next held
-    (λ r v b. (let c = from_old r v b in (c.0, subst (λ x. Below x c.0 v) f c.1, subst (λ x. Edge x area c.0 i r (i + 1)) e c.2)))
-    (λ q r v edge b. reached q r v (subst (λ x. Edge x area q i r (i + 1)) (sym e) edge) (subst (λ x. Below x q v) (sym f) b))
+    (λ r v b. (let c = from_old r v b in (c.0, c.1, subst (λ x. Crosses x area i c.0 r) e c.2)))
+    (λ q r v edge b. reached q r v (subst (λ x. Edge x area q i r (i + 1)) (sym e) edge) b)
+    (subst (λ x. IsClosed x area (i + 1) next) e closed)

@@ -8,6 +8,7 @@ pub mod RangeLemmas
 pub mod RangeCases
 pub mod StackLemmas
 pub mod LabelLemmas
+pub mod TableLemmas
 pub mod EdgeLemmas
 pub mod CloseLemmas
 pub mod FindLemmas

@@ -1,15 +1,16 @@
 -- A search that goes past places at which no match begins.
 use Rattle.std.proofs.Common.{◌≡◌, ◌⊎◌, ℕ, Bool, zero, suc, ◌+◌, ◌<◌, ◌≤◌, List, Option, Some, None, length, refl, sym, subst, ⊎_elim, arith}
+use Rattle.std.specs.Prelude.{IfSome}
 use Rattle.pm_match.specs.declared.step.Step.{Step}
 use Rattle.pm_match.specs.declared.labels.Label.{Label}
 use Rattle.pm_match.specs.declared.find.Match.{Match}
 use Rattle.pm_match.specs.declared.starts.Starts.{Starts}
 use Rattle.pm_match.specs.declared.starts.Places.{Places}
 use Rattle.pm_regex.specs.Re.{Re}
-use Rattle.pm_match.specs.Automaton.{Edge, Built}
-use Rattle.pm_match.specs.Labels.{rank}
+use Rattle.pm_match.specs.Automaton.{Edge, Run, Built}
+use Rattle.pm_match.specs.Labels.{rank, IsEmpty}
 use Rattle.pm_match.specs.Finding.{Reach, IsMatch, IsBestBefore, IsFirst, IsArrived, LeftSeed, RightSeed}
-use Rattle.pm_match.specs.Starts.{IsEmpty, Excluded, IsStarts, GoesOn}
+use Rattle.pm_match.specs.Starts.{HaveAllBytes, IsExcluded, AreStarts, GoesOn}
 use Rattle.pm_match.proofs.FindLemmas.{edge_place, arrived_first, left_late, right_late}
 use Rattle.pm_match.proofs.BestLemmas.{reach_of, run_of, best_none}
 
@@ -29,6 +30,15 @@ crosses p area entry s (suc n) q j i h low high =
     (h.0, n, q, subst (λ k. Reach p area entry s n h.0 k) here h.2, subst (λ k. Edge p area h.0 i q k) there (subst (λ k. Edge p area h.0 k q j) here h.3)))
     (edge_place p area h.0 h.1 q j h.3))
     choice
+
+-- where there are tables that say no, no run begins
+no_run : (p : List Step) (entry exit : ℕ) (t : Option Starts) → AreStarts p entry exit t → (area : List ℕ) (i n j : ℕ) → IsExcluded t area i → Run p area exit j n entry i → ⊥
+no_run p entry exit None h area i n j x run = x
+no_run p entry exit (Some s) h area i n j x run = h.none area i n j x run
+
+pub all_bytes : (p : List Step) (entry exit : ℕ) (t : Option Starts) → AreStarts p entry exit t → IfSome t HaveAllBytes
+all_bytes p entry exit None h = h
+all_bytes p entry exit (Some s) h = h.all
 
 module _ (fold : Bool) (p q : List Step) (area : List ℕ) (l r : Re) (entry exit enter leave base i : ℕ) (left right : List (Option Label))
     (left_arrived : IsArrived p area entry (LeftSeed base) (i + 1) left) (right_arrived : IsArrived q area enter (RightSeed p area entry exit base) (i + 1) right)
@@ -63,7 +73,7 @@ module _ (fold : Bool) (p q : List Step) (area : List ℕ) (l r : Re) (entry exi
       choice
 
   -- no match begins before the place at which the search goes on
-  pub none_before : (t : Starts) (next : ℕ) → IsStarts p entry exit t → ((k : ℕ) → i + 1 ≤ k → k < next → Excluded t area k) → IsBestBefore fold l r area base (i + 1) None →
+  pub none_before : (t : Option Starts) (next : ℕ) → AreStarts p entry exit t → ((k : ℕ) → i + 1 ≤ k → k < next → IsExcluded t area k) → IsBestBefore fold l r area base (i + 1) None →
       (s c j : ℕ) → IsMatch fold l r area base s c j → next ≤ s
   none_before t next starts excluded none s c j m =
       let choice : (next ≤ s) ⊎ (s < next) = grind arith in
@@ -77,7 +87,7 @@ module _ (fold : Bool) (p q : List Step) (area : List ℕ) (l r : Re) (entry exi
       ⊎_elim (λ e. none s c j e m) (λ e. none_crosses s c j low e m) ends)
       (λ high.
       let a = reach_of fold p area l entry exit l_built s c m.left in
-      starts.none area s a.0 c (excluded s high early) (run_of fold p area entry s a.0 exit c a.1))
+      no_run p entry exit t starts area s a.0 c (excluded s high early) (run_of fold p area entry s a.0 exit c a.1))
       side))
       choice
 
@@ -103,7 +113,7 @@ module _ (fold : Bool) (l r : Re) (area : List ℕ) (from base : ℕ) (after : f
   none_from next further s c j m = further s c j (later s c j m)
 
 -- what holds where the search goes on
-module _ (p q : List Step) (area : List ℕ) (entry exit enter leave base i : ℕ) (t : Starts) (best : Option Match) (left right : List (Option Label)) (r : Places)
+module _ (p q : List Step) (area : List ℕ) (entry exit enter leave base i : ℕ) (t : Option Starts) (best : Option Match) (left right : List (Option Label)) (r : Places)
     (on : GoesOn t best left right area base (i + 1) r) where
   pub on_places : base ≤ i + 1 → i + 1 ≤ length area → (base ≤ r.base) × (r.base ≤ r.place) × (r.place ≤ length area) × (i + 1 ≤ r.place)
   on_places low high = ⊎_elim
@@ -134,7 +144,7 @@ module _ (p q : List Step) (area : List ℕ) (entry exit enter leave base i : �
 
     pub on_none : (from : ℕ) → from ≤ base → ((s c j : ℕ) → IsMatch fold x y area from s c j → base ≤ s) →
         IsArrived p area entry (LeftSeed base) (i + 1) left → IsArrived q area enter (RightSeed p area entry exit base) (i + 1) right →
-        IsStarts p entry exit t → IsBestBefore fold x y area base (i + 1) best → (s c j : ℕ) → IsMatch fold x y area from s c j → r.base ≤ s
+        AreStarts p entry exit t → IsBestBefore fold x y area base (i + 1) best → (s c j : ℕ) → IsMatch fold x y area from s c j → r.base ≤ s
     on_none from after none a b starts bests = ⊎_elim
         (λ same. subst (λ z. (s c j : ℕ) → IsMatch fold x y area from s c j → z.base ≤ s) (sym same) none)
         (λ h. subst (λ k. (s c j : ℕ) → IsMatch fold x y area from s c j → k ≤ s) (sym h.3)

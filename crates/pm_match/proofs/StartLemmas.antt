@@ -1,5 +1,5 @@
 -- Where tables say no, no run from the entry to the end begins.
-use Rattle.std.proofs.Common.{◌≡◌, ◌⊎◌, ℕ, zero, suc, ◌+◌, ◌-◌, ◌<◌, Bool, true, false, ◌||◌, ◌==◌, List, [], ◌∷◌, ◌++◌, Option, Some, length, refl, sym, ◌∙◌, subst, ap, inl, inr, ⊎_elim, arith}
+use Rattle.std.proofs.Common.{◌≡◌, ◌⊎◌, ℕ, zero, suc, ◌+◌, ◌-◌, ◌<◌, Bool, true, false, ◌||◌, ◌==◌, List, [], ◌∷◌, ◌++◌, Option, Some, None, length, refl, sym, ◌∙◌, subst, ap, inl, inr, ⊎_elim, arith}
 use Rattle.std.specs.Prelude.{slice_get, slice_index, ◌≢◌}
 use Rattle.std.proofs.lemmas.Bool.Decides.{nat_tests}
 use Rattle.pm_regex.specs.declared.op.Atom.TheVariants.{Byte, Any, LineStart, LineEnd, WordStart, WordEnd, AreaStart, AreaEnd}
@@ -8,10 +8,11 @@ use Rattle.pm_match.specs.declared.step.Test.TheVariants as test
 use Rattle.pm_match.specs.declared.step.Step.{Step}
 use Rattle.pm_match.specs.declared.step.Step.TheVariants.{Stop, Go, Fork, Take, Range}
 use Rattle.pm_match.specs.declared.labels.Label.{Label}
+use Rattle.pm_match.specs.declared.row.Row.{Row}
 use Rattle.pm_match.specs.declared.starts.Starts.{Starts}
 use Rattle.pm_match.specs.Automaton.{StepEdge, Edge, Run, passes, takes}
 use Rattle.pm_match.specs.Labels.{Below, IsClosed}
-use Rattle.pm_match.specs.Starts.{Lacks, NoneTakes, IsTable, Excluded}
+use Rattle.pm_match.specs.Starts.{Lacks, MayTake, IsTable, IsRow, AreRows, Excluded}
 use Rattle.pm_match.proofs.EdgeLemmas.{read_byte}
 use Rattle.pm_match.proofs.FindLemmas.{edge_place}
 
@@ -137,33 +138,22 @@ module _ (p : List Step) (area : List ℕ) (exit i : ℕ) (labels : List (Option
       let wrong : true ≡ false = sym yes ∙ not in cc)
       (first_read n q j v h b)
 
--- a table that is longer by one byte
-pushed : (xs : List Bool) (m : Bool) (k : ℕ) → slice_get (xs ++ m ∷ []) k ≡ Some false → (slice_get xs k ≡ Some false) ⊎ ((k ≡ length xs) × (m ≡ false))
-pushed [] m zero h = let e : m ≡ false = cc in inr (refl, e)
-pushed [] m (suc k) h = cc
-pushed (a ∷ xs) m zero h = inl h
-pushed (a ∷ xs) m (suc k) h = ⊎_elim (λ e. inl e) (λ e. inr (ap suc e.0, e.1)) (pushed xs m k h)
+may_take : (p : List Step) (t : Test) (byte : Option ℕ) (b : ℕ) → ((c : ℕ) → byte ≡ Some c → b ≡ c) → takes p t b ≡ true → MayTake p t byte
+may_take p t None b is taken = tt
+may_take p t (Some c) b is taken = subst (λ k. takes p t k ≡ true) (is c refl) taken
 
-pub table_more : (p : List Step) (exit : ℕ) (labels : List (Option Label)) (table : List Bool) (m : Bool) (b : ℕ) → length table ≡ b → IsTable p exit labels table →
-    (m ≡ false → NoneTakes p labels b) → (m ≡ false → (v : ℕ) → Below labels exit v → ⊥) → IsTable p exit labels (table ++ m ∷ [])
-table_more p exit labels table m b len is takes ended k v lacks = ⊎_elim
-    (λ old. is k v old)
-    (λ new. (subst (λ n. NoneTakes p labels n) (sym (new.0 ∙ len)) (takes new.1), ended new.1 v))
-    (pushed table m k lacks)
-
--- the tables of these four lists of labels
-module _ (p : List Step) (entry exit : ℕ) (inner first second third : List (Option Label))
-    (inner_entry : Below inner entry 0) (inner_is : IsClosed p (0 ∷ 0 ∷ []) 1 inner)
+-- the tables of these lists of labels, behind a byte or behind any
+module _ (p : List Step) (entry exit : ℕ) (byte : Option ℕ) (first second third : List (Option Label))
     (first_entry : Below first entry 0) (first_is : IsClosed p (10 ∷ 0 ∷ []) 1 first)
     (second_exit : (v : ℕ) → Below first exit v → Below second exit v)
-    (second_read : (q v : ℕ) (t : Test) (x : ℕ) → slice_get p q ≡ Some (Take t x) → Below first q v → Below second x v)
+    (second_read : (q v : ℕ) (t : Test) (x : ℕ) → slice_get p q ≡ Some (Take t x) → MayTake p t byte → Below first q v → Below second x v)
     (second_is : IsClosed p (10 ∷ 0 ∷ []) 1 second)
     (third_exit : (v : ℕ) → Below second exit v → Below third exit v)
-    (third_read : (q v : ℕ) (t : Test) (x : ℕ) → slice_get p q ≡ Some (Take t x) → Below second q v → Below third x v)
-    (third_is : IsClosed p (10 ∷ 0 ∷ []) 1 third) (s : Starts)
-    (inner_table : IsTable p exit inner s.inner.items) (first_table : IsTable p exit first s.first.items)
-    (second_table : IsTable p exit second s.second.items) (third_table : IsTable p exit third s.third.items) where
-  module _ (area : List ℕ) (i : ℕ) (behind : 0 < i) (before : i + 2 < length area) (n j : ℕ) (run : Run p area exit j n entry i) where
+    (third_read : (q v : ℕ) (t : Test) (x : ℕ) → slice_get p q ≡ Some (Take t x) → MayTake p t None → Below second q v → Below third x v)
+    (third_is : IsClosed p (10 ∷ 0 ∷ []) 1 third) (row : Row)
+    (second_table : IsTable p exit second row.second.items) (third_table : IsTable p exit third row.third.items) where
+  module _ (area : List ℕ) (i n j : ℕ) (behind : 0 < i) (before : i + 2 < length area) (byte_is : (b : ℕ) → byte ≡ Some b → slice_index area i ≡ b)
+      (run : Run p area exit j n entry i) where
     here : i < length area
     here = omega (arith, before)
 
@@ -174,39 +164,75 @@ module _ (p : List Step) (entry exit : ℕ) (inner first second third : List (Op
     step : Below first exit 0 ⊎ GoesOnBy p area exit i j 0 first
     step = first_read p area exit i first (line_closed area i behind here p first first_is) n entry j 0 run first_entry
 
+    passes_on : (on : GoesOnBy p area exit i j 0 first) → Below second on.next 0
+    passes_on on =
+        let r = on.reading in
+        let same : Some r.byte ≡ Some (slice_index area i) = sym r.at ∙ read_byte area i here in
+        let is : r.byte ≡ slice_index area i = cc in
+        second_read on.state 0 r.test on.next r.is (may_take p r.test byte r.byte (λ c e. is ∙ byte_is c e) r.taken) on.below
+
     -- the same of the next place
     step_next : Below second exit 0 ⊎ GoesOnBy p area exit (i + 1) j 0 second
     step_next = ⊎_elim
         (λ ended. inl (second_exit 0 ended))
         (λ on. first_read p area exit (i + 1) second (line_closed area (i + 1) (omega arith) next p second second_is)
-        on.count on.next j 0 on.run (second_read on.state 0 (on.reading).test on.next (on.reading).is on.below))
+        on.count on.next j 0 on.run (passes_on on))
         step
 
-    no_second : Lacks s.second.items (slice_index area (i + 1)) → ⊥
+    no_second : Lacks row.second.items (slice_index area (i + 1)) → ⊥
     no_second lacks = ⊎_elim
         (λ ended. (second_table (slice_index area (i + 1)) 0 lacks).1 (second_exit 0 ended))
-        (λ on. none_here p area exit (i + 1) second (line_closed area (i + 1) (omega arith) next p second second_is) s.second.items second_table lacks next
-        on.count on.next j 0 on.run (second_read on.state 0 (on.reading).test on.next (on.reading).is on.below))
+        (λ on. none_here p area exit (i + 1) second (line_closed area (i + 1) (omega arith) next p second second_is) row.second.items second_table lacks next
+        on.count on.next j 0 on.run (passes_on on))
         step
 
-    no_third : Lacks s.third.items (slice_index area (i + 1 + 1)) → ⊥
+    no_third : Lacks row.third.items (slice_index area (i + 1 + 1)) → ⊥
     no_third lacks = ⊎_elim
         (λ ended. (third_table (slice_index area (i + 1 + 1)) 0 lacks).1 (third_exit 0 ended))
-        (λ on. none_here p area exit (i + 1 + 1) third (line_closed area (i + 1 + 1) (omega arith) (omega (arith, before)) p third third_is) s.third.items third_table lacks (omega (arith, before))
-        on.count on.next j 0 on.run (third_read on.state 0 (on.reading).test on.next (on.reading).is on.below))
+        (λ on. none_here p area exit (i + 1 + 1) third (line_closed area (i + 1 + 1) (omega arith) (omega (arith, before)) p third third_is) row.third.items third_table lacks (omega (arith, before))
+        on.count on.next j 0 on.run (third_read on.state 0 (on.reading).test on.next (on.reading).is tt on.below))
         step_next
 
+  pub row_is : IsRow p entry exit byte row
+  row_is area i n j behind before byte_is lacks run = ⊎_elim
+      (λ two. no_second area i n j behind before byte_is run two)
+      (λ three. no_third area i n j behind before byte_is run
+      (let two : i + 2 ≡ i + 1 + 1 = omega arith in subst (λ k. Lacks row.third.items (slice_index area k)) two three))
+      lacks
+
+-- the tables of these two lists of labels, with rows
+module _ (p : List Step) (entry exit : ℕ) (inner first : List (Option Label))
+    (inner_entry : Below inner entry 0) (inner_is : IsClosed p (0 ∷ 0 ∷ []) 1 inner)
+    (first_entry : Below first entry 0) (first_is : IsClosed p (10 ∷ 0 ∷ []) 1 first) (s : Starts)
+    (inner_table : IsTable p exit inner s.inner.items) (first_table : IsTable p exit first s.first.items)
+    (any_is : IsRow p entry exit None s.any) (rows_are : AreRows p entry exit s.rows.items) where
   pub none_excluded : (area : List ℕ) (i n j : ℕ) → Excluded s area i → Run p area exit j n entry i → ⊥
   none_excluded area i n j x run =
       let within : i < length area = omega (arith, x.before) in
       ⊎_elim
       (λ lacks. none_here p area exit i first (line_closed area i x.behind within p first first_is) s.first.items first_table lacks within n entry j 0 run first_entry)
       (λ more. ⊎_elim
-      (λ lacks. no_second area i x.behind x.before n j run lacks)
+      (λ lacks. any_is area i n j x.behind x.before (λ b e. cc) lacks run)
       (λ most. ⊎_elim
-      (λ lacks. no_third area i x.behind x.before n j run
-      (let two : i + 2 ≡ i + 1 + 1 = omega arith in subst (λ k. Lacks s.third.items (slice_index area k)) two lacks))
+      (λ own. rows_are (slice_index area i) own.0 own.1 area i n j x.behind x.before (λ b e. let f : slice_index area i ≡ b = cc in f) own.2 run)
       (λ lacks. none_here p area exit i inner (inner_closed area i x.behind within p lacks.0 inner inner_is) s.inner.items inner_table lacks.1 within n entry j 0 run inner_entry)
       most)
       more)
       x.lacks
+
+pub no_row : (p : List Step) (entry exit : ℕ) → AreRows p entry exit []
+no_row p entry exit b row h = cc
+
+slot_at : (xs : List (Option Row)) (s : Option Row) (k : ℕ) (row : Row) → slice_get (xs ++ s ∷ []) k ≡ Some (Some row) →
+    (slice_get xs k ≡ Some (Some row)) ⊎ ((k ≡ length xs) × (s ≡ Some row))
+slot_at [] s zero row h = inr (refl, (let e : s ≡ Some row = cc in e))
+slot_at [] s (suc k) row h = cc
+slot_at (a ∷ xs) s zero row h = inl h
+slot_at (a ∷ xs) s (suc k) row h = ⊎_elim (λ e. inl e) (λ e. inr (ap suc e.0, e.1)) (slot_at xs s k row h)
+
+pub rows_more : (p : List Step) (entry exit : ℕ) (rows : List (Option Row)) (slot : Option Row) (byte : ℕ) → length rows ≡ byte → AreRows p entry exit rows →
+    ((row : Row) → slot ≡ Some row → IsRow p entry exit (Some byte) row) → AreRows p entry exit (rows ++ slot ∷ [])
+rows_more p entry exit rows slot byte len are is b row h = ⊎_elim
+    (λ old. are b row old)
+    (λ new. subst (λ k. IsRow p entry exit (Some k) row) (sym (new.0 ∙ len)) (is row new.1))
+    (slot_at rows slot b row h)

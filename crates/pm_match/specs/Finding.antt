@@ -6,7 +6,7 @@ use Rattle.pm_match.specs.declared.find.Match.{Match}
 use Rattle.pm_regex.specs.Re.{Re}
 use Rattle.pm_match.specs.Matching.{At}
 use Rattle.pm_match.specs.Automaton.{Edge}
-use Rattle.pm_match.specs.Labels.{rank, Below, ComesFrom, KeepsBelow, IsClosed}
+use Rattle.pm_match.specs.Labels.{rank, Below, Hops, KeepsBelow, IsClosed}
 
 -- the left part matches from s to c, and the right part from c to j
 pub record IsMatch (fold : Bool) (l r : Re) (area : List ℕ) (from s c j : ℕ) : Type 0 where
@@ -54,13 +54,16 @@ pub record Arrives (p : List Step) (area : List ℕ) (entry : ℕ) (Seed : ℕ �
   pub next : from + 1 ≡ i
   pub edge : Edge p area state from q i
 
+-- the labels are those of all runs that lead here
 pub record IsHeld (p : List Step) (area : List ℕ) (entry : ℕ) (Seed : ℕ → Label → Type 0) (i : ℕ) (labels : List (Option Label)) : Type 0 where
   pub sound : (q v : ℕ) → Below labels q v → Held p area entry Seed i q v
   pub whole : (q v : ℕ) → Held p area entry Seed i q v → Below labels q v
 
+-- the labels are those of runs that lead here, and all runs are there that a last edge led here by a byte
 pub record IsArrived (p : List Step) (area : List ℕ) (entry : ℕ) (Seed : ℕ → Label → Type 0) (i : ℕ) (labels : List (Option Label)) : Type 0 where
-  pub sound : (q v : ℕ) → Below labels q v → Arrives p area entry Seed i q v
+  pub sound : (q v : ℕ) → Below labels q v → Held p area entry Seed i q v
   pub whole : (q v : ℕ) → Arrives p area entry Seed i q v → Below labels q v
+  pub closed : IsClosed p area i labels
 
 -- a run of the left part begins at each place
 abbrev pub LeftSeed : ℕ → ℕ → Label → Type 0
@@ -75,16 +78,14 @@ abbrev pub right_seed : Option Label → ℕ → Option Label
 right_seed None i = None
 right_seed (Some m) i = Some (record { start = m.start; cut = i })
 
+-- there is a seed, and its label is at most v
 abbrev pub IsSeedBelow : Option Label → ℕ → Type 0
 IsSeedBelow None v = ⊥
 IsSeedBelow (Some w) v = rank w ≤ v
 
--- new is old with a seed at the entry, and then all edges that read nothing
+-- new is old with a seed at the entry, and with all edges from there that read nothing
 pub record Opens (p : List Step) (area : List ℕ) (i entry : ℕ) (seed : Option Label) (old new : List (Option Label)) : Type 0 where
-  pub seeded : List (Option Label)
-  pub sound : (r v : ℕ) → Below seeded r v → Below old r v ⊎ ((r ≡ entry) × IsSeedBelow seed v)
-  pub seed_kept : KeepsBelow old seeded
-  pub reached : (v : ℕ) → IsSeedBelow seed v → Below seeded entry v
-  pub comes : ComesFrom p area i seeded new
-  pub kept : KeepsBelow seeded new
+  pub sound : (r v : ℕ) → Below new r v → Below old r v ⊎ (IsSeedBelow seed v × Hops p area i entry r)
+  pub kept : KeepsBelow old new
+  pub reached : (v : ℕ) → IsSeedBelow seed v → Below new entry v
   pub closed : IsClosed p area i new

@@ -1,9 +1,11 @@
+-- What a reader of the contracts needs: where an expression matches, and which match is found.
 pub mod Matching
+pub mod Found
+pub mod Engine
+-- What the proof alone needs: the automaton, and how far a search is.
 pub mod Automaton
 pub mod Postfix
 pub mod Labels
 pub mod Finding
 pub mod Starts
 pub mod Search
-pub mod Found
-pub mod Engine

@@ -6,7 +6,7 @@ use Rattle.pm_match.specs.declared.build.Program.{Program}
 use Rattle.pm_match.specs.declared.search.Search.{Search}
 use Rattle.pm_match.specs.Automaton.{Built}
 use Rattle.pm_match.specs.Labels.{InRange}
-use Rattle.pm_match.specs.Starts.{IsStarts}
+use Rattle.pm_match.specs.Starts.{AreStarts}
 
 -- the automaton is whole, and stands for the expression
 pub record IsProgram (g : Program) (e : Re) (fold : Bool) : Type 0 where
@@ -16,12 +16,12 @@ pub record IsProgram (g : Program) (e : Re) (fold : Bool) : Type 0 where
   pub stop : slice_get g.steps.items g.exit ≡ Some Stop
   pub built : Built fold g.steps.items e g.entry g.exit
 
--- the automata stand for l and r, with tables of where l begins, and with room for a label of each state at two places
+-- the automata stand for l and r, perhaps with tables of where l begins, and with room for a label of each state at two places
 pub record Runs (g : Search) (l r : Re) (fold : Bool) : Type 0 where
-  pub starts : IsStarts g.left.steps.items g.left.entry g.left.exit g.starts
+  pub starts : AreStarts g.left.steps.items g.left.entry g.left.exit g.starts
   pub left : IsProgram g.left l fold
-  pub left_labels : vec_len g.left_labels ≡ length g.left.steps.items
-  pub left_next : vec_len g.left_next ≡ length g.left.steps.items
+  pub left_labels : vec_len g.left_labels.of ≡ length g.left.steps.items
+  pub left_next : vec_len g.left_next.of ≡ length g.left.steps.items
   pub right : IsProgram g.right r fold
-  pub right_labels : vec_len g.right_labels ≡ length g.right.steps.items
-  pub right_next : vec_len g.right_next ≡ length g.right.steps.items
+  pub right_labels : vec_len g.right_labels.of ≡ length g.right.steps.items
+  pub right_next : vec_len g.right_next.of ≡ length g.right.steps.items

@@ -19,9 +19,8 @@ pub struct Found {
 /// The automata of an expression, with all the room that its searches need.
 #[derive(Drop)]
 pub struct Engine {
-    has_cut: bool,
-    /// The two parts of an expression with a cut.
-    parts: Search,
+    /// The two parts of an expression with a cut, and none for one without.
+    parts: Option<Search>,
     /// The expression without its cut.
     whole: Search,
 }
@@ -45,27 +44,21 @@ impl Engine {
 
     /// Makes the engine of an expression. With `fold` ASCII letters match without regard to their case.
     ///
-    /// It takes all memory that the searches need.
+    /// It takes all memory that the searches need, but for tables that make the search of a long area quicker.
     pub fn build(alloc: Global, expr: &Expr, fold: bool) -> Result<Engine, Memory>
         ensures { IfOk result (λ engine. IsFor engine expr.now fold) }
     {
         match expr.left() {
             None => {
-                let parts = Search::of(alloc, &[Op::Nothing], &[Op::Nothing], fold)?;
                 let whole = Search::of(alloc, expr.right(), &[Op::Nothing], fold)?;
-                Ok(Engine {
-                    has_cut: false,
-                    parts,
-                    whole,
-                })
+                Ok(Engine { parts: None, whole })
             }
             Some(left) => {
                 let parts = Search::of(alloc, left, expr.right(), fold)?;
                 let ops = joined(alloc, left, expr.right())?;
                 let whole = Search::of(alloc, &ops, &[Op::Nothing], fold)?;
                 Ok(Engine {
-                    has_cut: true,
-                    parts,
+                    parts: Some(parts),
                     whole,
                 })
             }
@@ -80,24 +73,23 @@ impl Engine {
         ensures kept { (e : Whole) (fold : Bool) → IsFor self.old e fold → IsFor self.new e fold }
         ensures found { (e : Whole) (fold : Bool) → IsFor self.old e fold → IsFound fold e area.now result }
     {
-        if self.has_cut {
-            match self.parts.first(area, 0) {
-                None => None,
-                Some(found) => Some(Found {
-                    start: found.start,
-                    cut: Some(found.cut),
-                    end: found.end,
-                }),
-            }
-        } else {
-            match self.whole.first(area, 0) {
+        match &mut self.parts {
+            None => match self.whole.first(area, 0) {
                 None => None,
                 Some(found) => Some(Found {
                     start: found.start,
                     cut: None,
                     end: found.end,
                 }),
-            }
+            },
+            Some(parts) => match parts.first(area, 0) {
+                None => None,
+                Some(found) => Some(Found {
+                    start: found.start,
+                    cut: Some(found.cut),
+                    end: found.end,
+                }),
+            },
         }
     }
 

@@ -2,12 +2,14 @@
 ghost use Rattle.std.specs.Prelude.{◌≡◌, ℕ, Bool, ◌+◌, ◌^◌, ◌*◌, IsTrue, ◌<◌, ◌≤◌, ◌⊎◌, length, vec_len, slice_get, Some, None, Option};
 ghost use Rattle.pm_regex.specs.Re.{Re};
 ghost use Rattle.pm_match.specs.Automaton.{Built};
-ghost use Rattle.pm_match.specs.Labels.{rank, NoneBefore, Below, InRange};
+ghost use Rattle.pm_match.specs.Labels.{rank, NoneBefore, Below, InRange, IsClosed};
 ghost use Rattle.pm_match.specs.Finding.{IsBestBefore, IsFirst, IsHeld, IsArrived, LeftSeed, RightSeed, Opens, right_seed};
-ghost use Rattle.pm_match.specs.Starts.{IsStarts};
+ghost use Rattle.pm_match.specs.Starts.{AreStarts};
 
+use crate::advancing::advance;
 use crate::build::Program;
-use crate::labels::{Label, advance, clear, close, none_before, none_through, relax};
+use crate::closing::reach;
+use crate::labels::{Label, Labels, clear, none_before, none_through};
 use crate::starts::{Starts, go_on};
 use crate::step::Step;
 use std::mem;
@@ -52,28 +54,18 @@ fn better(best: Option<Match>, label: Option<Label>, place: usize) -> Option<Mat
 }
 
 /// Begins a run here, if there is a seed, and follows all edges that read nothing.
-fn open(
-    program: &Program,
-    labels: &mut Vec<Option<Label>>,
-    area: &[u8],
-    place: usize,
-    seed: Option<Label>,
-)
+fn open(program: &Program, labels: &mut Labels, area: &[u8], place: usize, seed: Option<Label>)
     requires range { InRange program.now.steps.items }
-    requires same_len { vec_len labels.old ≡ length program.now.steps.items }
-    requires entry { program.now.entry < vec_len labels.old }
+    requires same_len { vec_len labels.old.of ≡ length program.now.steps.items }
+    requires entry { program.now.entry < vec_len labels.old.of }
     requires place { place ≤ length area.now }
-    ensures opens { Opens program.now.steps.items area.now place program.now.entry seed labels.old.items labels.new.items }
-    ensures len { vec_len labels.new ≡ vec_len labels.old }
+    requires closed { IsClosed program.now.steps.items area.now place labels.old.of.items }
+    ensures opens { Opens program.now.steps.items area.now place program.now.entry seed labels.old.of.items labels.new.of.items }
+    ensures len { vec_len labels.new.of ≡ vec_len labels.old.of }
 {
     match seed {
-        None => {
-            close(&program.steps, labels, area, place);
-        }
-        Some(label) => {
-            relax(labels, program.entry, label);
-            close(&program.steps, labels, area, place);
-        }
+        None => {}
+        Some(label) => reach(&program.steps, labels, area, place, program.entry, label),
     }
 }
 
@@ -81,31 +73,31 @@ fn open(
 fn visit(
     left: &Program,
     right: &Program,
-    left_labels: &mut Vec<Option<Label>>,
-    right_labels: &mut Vec<Option<Label>>,
+    left_labels: &mut Labels,
+    right_labels: &mut Labels,
     area: &[u8],
     from: usize,
     place: usize,
 ) -> Option<Label>
     requires left_range { InRange left.now.steps.items }
-    requires left_len { vec_len left_labels.old ≡ length left.now.steps.items }
-    requires left_entry { left.now.entry < vec_len left_labels.old }
-    requires left_exit { left.now.exit < vec_len left_labels.old }
+    requires left_len { vec_len left_labels.old.of ≡ length left.now.steps.items }
+    requires left_entry { left.now.entry < vec_len left_labels.old.of }
+    requires left_exit { left.now.exit < vec_len left_labels.old.of }
     requires right_range { InRange right.now.steps.items }
-    requires right_len { vec_len right_labels.old ≡ length right.now.steps.items }
-    requires right_entry { right.now.entry < vec_len right_labels.old }
-    requires right_exit { right.now.exit < vec_len right_labels.old }
+    requires right_len { vec_len right_labels.old.of ≡ length right.now.steps.items }
+    requires right_entry { right.now.entry < vec_len right_labels.old.of }
+    requires right_exit { right.now.exit < vec_len right_labels.old.of }
     requires from { from ≤ place }
     requires place { place ≤ length area.now }
-    requires left_arrived { IsArrived left.now.steps.items area.now left.now.entry (LeftSeed from) place left_labels.old.items }
+    requires left_arrived { IsArrived left.now.steps.items area.now left.now.entry (LeftSeed from) place left_labels.old.of.items }
     requires right_arrived { IsArrived right.now.steps.items area.now right.now.entry
-        (RightSeed left.now.steps.items area.now left.now.entry left.now.exit from) place right_labels.old.items }
-    ensures left_held { IsHeld left.now.steps.items area.now left.now.entry (LeftSeed from) place left_labels.new.items }
+        (RightSeed left.now.steps.items area.now left.now.entry left.now.exit from) place right_labels.old.of.items }
+    ensures left_held { IsHeld left.now.steps.items area.now left.now.entry (LeftSeed from) place left_labels.new.of.items }
     ensures right_held { IsHeld right.now.steps.items area.now right.now.entry
-        (RightSeed left.now.steps.items area.now left.now.entry left.now.exit from) place right_labels.new.items }
-    ensures left_kept { vec_len left_labels.new ≡ vec_len left_labels.old }
-    ensures right_kept { vec_len right_labels.new ≡ vec_len right_labels.old }
-    ensures met { slice_get right_labels.new.items right.now.exit ≡ Some result }
+        (RightSeed left.now.steps.items area.now left.now.entry left.now.exit from) place right_labels.new.of.items }
+    ensures left_kept { vec_len left_labels.new.of ≡ vec_len left_labels.old.of }
+    ensures right_kept { vec_len right_labels.new.of ≡ vec_len right_labels.old.of }
+    ensures met { slice_get right_labels.new.of.items right.now.exit ≡ Some result }
 {
     open(
         left,
@@ -117,9 +109,9 @@ fn visit(
             cut: 0,
         }),
     );
-    let seed = seed_of(left_labels[left.exit], place);
+    let seed = seed_of(left_labels.of[left.exit], place);
     open(right, right_labels, area, place, seed);
-    right_labels[right.exit]
+    right_labels.of[right.exit]
 }
 
 /// The label with which the right part begins.
@@ -138,13 +130,9 @@ fn seed_of(met: Option<Label>, place: usize) -> Option<Label>
 
 /// Whether no match that ends later can be better: no run that is on its way began before the best match, or has a cut that
 /// isn't behind the best one's.
-fn is_final(
-    best: Option<Match>,
-    left_labels: &[Option<Label>],
-    right_labels: &[Option<Label>],
-) -> bool
-    ensures { IsTrue result → (f : Match) × (best ≡ Some f) × NoneBefore left_labels.now (f.start * 2 ^ 64)
-        × NoneBefore right_labels.now (rank (record { start = f.start; cut = f.cut }) + 1) }
+fn is_final(best: Option<Match>, left_labels: &Labels, right_labels: &Labels) -> bool
+    ensures { IsTrue result → (f : Match) × (best ≡ Some f) × NoneBefore left_labels.now.of.items (f.start * 2 ^ 64)
+        × NoneBefore right_labels.now.of.items (rank (record { start = f.start; cut = f.cut }) + 1) }
 {
     match best {
         None => false,
@@ -164,32 +152,32 @@ fn is_final(
 
 /// The first match from a place on: the least start, for it the least cut, and for both the greatest end.
 pub fn find(
-    starts: &Starts,
+    starts: &Option<Starts>,
     left: &Program,
     right: &Program,
-    left_labels: &mut Vec<Option<Label>>,
-    left_next: &mut Vec<Option<Label>>,
-    right_labels: &mut Vec<Option<Label>>,
-    right_next: &mut Vec<Option<Label>>,
+    left_labels: &mut Labels,
+    left_next: &mut Labels,
+    right_labels: &mut Labels,
+    right_next: &mut Labels,
     area: &[u8],
     from: usize,
 ) -> Option<Match>
-    requires starts { IsStarts left.now.steps.items left.now.entry left.now.exit starts.now }
+    requires starts { AreStarts left.now.steps.items left.now.entry left.now.exit starts.now }
     requires left_range { InRange left.now.steps.items }
-    requires left_len { vec_len left_labels.old ≡ length left.now.steps.items }
-    requires left_next_len { vec_len left_next.old ≡ length left.now.steps.items }
-    requires left_entry { left.now.entry < vec_len left_labels.old }
-    requires left_exit { left.now.exit < vec_len left_labels.old }
+    requires left_len { vec_len left_labels.old.of ≡ length left.now.steps.items }
+    requires left_next_len { vec_len left_next.old.of ≡ length left.now.steps.items }
+    requires left_entry { left.now.entry < vec_len left_labels.old.of }
+    requires left_exit { left.now.exit < vec_len left_labels.old.of }
     requires right_range { InRange right.now.steps.items }
-    requires right_len { vec_len right_labels.old ≡ length right.now.steps.items }
-    requires right_next_len { vec_len right_next.old ≡ length right.now.steps.items }
-    requires right_entry { right.now.entry < vec_len right_labels.old }
-    requires right_exit { right.now.exit < vec_len right_labels.old }
+    requires right_len { vec_len right_labels.old.of ≡ length right.now.steps.items }
+    requires right_next_len { vec_len right_next.old.of ≡ length right.now.steps.items }
+    requires right_entry { right.now.entry < vec_len right_labels.old.of }
+    requires right_exit { right.now.exit < vec_len right_labels.old.of }
     requires from { from ≤ length area.now }
-    ensures left_labels { vec_len left_labels.new ≡ length left.now.steps.items }
-    ensures left_next { vec_len left_next.new ≡ length left.now.steps.items }
-    ensures right_labels { vec_len right_labels.new ≡ length right.now.steps.items }
-    ensures right_next { vec_len right_next.new ≡ length right.now.steps.items }
+    ensures left_labels { vec_len left_labels.new.of ≡ length left.now.steps.items }
+    ensures left_next { vec_len left_next.new.of ≡ length left.now.steps.items }
+    ensures right_labels { vec_len right_labels.new.of ≡ length right.now.steps.items }
+    ensures right_next { vec_len right_next.new.of ≡ length right.now.steps.items }
     ensures first { (fold : Bool) (l r : Re) → Built fold left.now.steps.items l left.now.entry left.now.exit → slice_get left.now.steps.items left.now.exit ≡ Some Step.Stop
         → Built fold right.now.steps.items r right.now.entry right.now.exit → slice_get right.now.steps.items right.now.exit ≡ Some Step.Stop
         → IsFirst fold l r area.now from result }

@@ -1,24 +1,62 @@
 //! A search for two expressions one behind the other.
+ghost use Rattle.std.specs.Prelude.{◌<◌, length};
+ghost use Rattle.pm_match.specs.Labels.{InRange};
+ghost use Rattle.pm_match.specs.Starts.{AreStarts};
 
 use crate::build::{Program, build};
 use crate::find::{Match, find};
-use crate::labels::Label;
+use crate::labels::{Labels, no_labels};
 use crate::starts::Starts;
 use crate::tables::starts_of;
 use pm_bytes::Memory;
 use pm_regex::Op;
 use std::alloc::Global;
 
+/// How long an area is where tables save more than it takes to make them.
+const LONG: usize = 256;
+
+/// The same of rows.
+const VERY_LONG: usize = 16384;
+
+/// Whether tables, or rows, are still to be made.
+fn is_needed(starts: &Option<Starts>, size: usize, with_rows: bool) -> bool {
+    match starts {
+        None => size >= LONG,
+        Some(tables) => with_rows && tables.rows.is_empty(),
+    }
+}
+
+/// The tables of an automaton. Where there is no memory for them the search goes on without.
+fn tables(alloc: Global, program: &Program, with_rows: bool) -> Option<Starts>
+    requires range { InRange program.now.steps.items }
+    requires entry { program.now.entry < length program.now.steps.items }
+    requires exit { program.now.exit < length program.now.steps.items }
+    ensures { AreStarts program.now.steps.items program.now.entry program.now.exit result }
+{
+    match starts_of(
+        alloc,
+        &program.steps,
+        program.entry,
+        program.exit,
+        with_rows,
+    ) {
+        Err(_) => None,
+        Ok(starts) => Some(starts),
+    }
+}
+
 /// Two automata, with the tables of where the first begins, and with room for a label of each state at two places.
 #[derive(Drop)]
 pub struct Search {
-    starts: Starts,
+    alloc: Global,
+    /// The tables, once an area was long enough to pay for them.
+    starts: Option<Starts>,
     left: Program,
-    left_labels: Vec<Option<Label>>,
-    left_next: Vec<Option<Label>>,
+    left_labels: Labels,
+    left_next: Labels,
     right: Program,
-    right_labels: Vec<Option<Label>>,
-    right_next: Vec<Option<Label>>,
+    right_labels: Labels,
+    right_next: Labels,
 }
 
 impl Search {
@@ -36,13 +74,13 @@ impl Search {
     {
         let left = build(alloc, left, fold)?;
         let right = build(alloc, right, fold)?;
-        let starts = starts_of(alloc, &left.steps, left.entry, left.exit)?;
-        let left_labels = vec![in alloc; None; left.steps.len()]?;
-        let left_next = vec![in alloc; None; left.steps.len()]?;
-        let right_labels = vec![in alloc; None; right.steps.len()]?;
-        let right_next = vec![in alloc; None; right.steps.len()]?;
+        let left_labels = no_labels(alloc, left.steps.len())?;
+        let left_next = no_labels(alloc, left.steps.len())?;
+        let right_labels = no_labels(alloc, right.steps.len())?;
+        let right_next = no_labels(alloc, right.steps.len())?;
         Ok(Search {
-            starts,
+            alloc,
+            starts: None,
             left,
             left_labels,
             left_next,
@@ -52,6 +90,17 @@ impl Search {
         })
     }
 
+    /// Makes the tables, where the area is long enough to pay for them.
+    fn prepare(&mut self, area: &[u8])
+        requires { (l : Re) × (r : Re) × (fold : Bool) × Runs self.old l r fold }
+        ensures { (l r : Re) (fold : Bool) → Runs self.old l r fold → Runs self.new l r fold }
+    {
+        let with_rows = area.len() >= VERY_LONG;
+        if is_needed(&self.starts, area.len(), with_rows) {
+            self.starts = tables(self.alloc, &self.left, with_rows);
+        }
+    }
+
     /// The first match from a place on.
     pub fn first(&mut self, area: &[u8], from: usize) -> Option<Match>
         requires runs { (l : Re) × (r : Re) × (fold : Bool) × Runs self.old l r fold }
@@ -59,6 +108,7 @@ impl Search {
         ensures kept { (l r : Re) (fold : Bool) → Runs self.old l r fold → Runs self.new l r fold }
         ensures first { (l r : Re) (fold : Bool) → Runs self.old l r fold → IsFirst fold l r area.now from result }
     {
+        self.prepare(area);
         find(
             &self.starts,
             &self.left,

@@ -1,9 +1,10 @@
 //! Where the search goes past places at which no match begins.
-ghost use Rattle.std.specs.Prelude.{◌≡◌, ℕ, ◌+◌, ◌<◌, ◌≤◌, ◌↔◌, IsTrue, length, vec_len};
-ghost use Rattle.pm_match.specs.Starts.{Lacks, Excluded, GoesOn};
+ghost use Rattle.std.specs.Prelude.{◌≡◌, ℕ, Some, slice_get, slice_index, ◌+◌, ◌<◌, ◌≤◌, ◌↔◌, IsTrue, IfSome, length, vec_len};
+ghost use Rattle.pm_match.specs.Starts.{Lacks, RowLacks, HaveAllBytes, Excluded, IsExcluded, GoesOn};
 
 use crate::find::Match;
-use crate::labels::{Label, is_empty};
+use crate::labels::{Labels, is_empty};
+use crate::row::Row;
 
 /// Which bytes can stand at the front of a match.
 #[derive(Drop)]
@@ -12,10 +13,10 @@ pub struct Starts {
     pub inner: Vec<bool>,
     /// The first byte, whatever stands before.
     pub first: Vec<bool>,
-    /// The second byte.
-    pub second: Vec<bool>,
-    /// The third byte.
-    pub third: Vec<bool>,
+    /// The bytes behind the first, whatever it is.
+    pub any: Row,
+    /// For each first byte those behind it, where rows were made.
+    pub rows: Vec<Option<Row>>,
 }
 
 /// Where the search is: no match begins before the base.
@@ -33,12 +34,32 @@ fn lacks(table: &Vec<bool>, byte: u8) -> bool
     !table[byte as usize]
 }
 
+/// Whether the row says no to the two bytes behind a place.
+fn row_lacks(row: &Row, area: &[u8], place: usize) -> bool
+    requires { place + 2 < length area.now }
+    ensures { IsTrue result → RowLacks row.now area.now place }
+{
+    lacks(&row.second, area[place + 1]) || lacks(&row.third, area[place + 2])
+}
+
+/// Whether there is a row for the byte at a place, and it says no.
+fn own_row_lacks(starts: &Starts, area: &[u8], place: usize) -> bool
+    requires { place + 2 < length area.now }
+    ensures { IsTrue result → (row : Row) × (slice_get starts.now.rows.items (slice_index area.now place) ≡ Some (Some row)) × RowLacks row area.now place }
+{
+    let byte = area[place] as usize;
+    if byte >= starts.rows.len() {
+        return false;
+    }
+    match &starts.rows[byte] {
+        None => false,
+        Some(row) => row_lacks(row, area, place),
+    }
+}
+
 /// Whether the tables say no to a place inside the area.
 fn is_excluded(starts: &Starts, area: &[u8], place: usize) -> bool
-    requires inner { vec_len starts.now.inner ≡ 256 }
-    requires first { vec_len starts.now.first ≡ 256 }
-    requires second { vec_len starts.now.second ≡ 256 }
-    requires third { vec_len starts.now.third ≡ 256 }
+    requires tables { HaveAllBytes starts.now }
     requires behind { 0 < place }
     requires before { place + 2 < length area.now }
     ensures { IsTrue result → Excluded starts.now area.now place }
@@ -46,21 +67,18 @@ fn is_excluded(starts: &Starts, area: &[u8], place: usize) -> bool
     if lacks(&starts.first, area[place]) {
         return true;
     }
-    if lacks(&starts.second, area[place + 1]) {
+    if row_lacks(&starts.any, area, place) {
         return true;
     }
-    if lacks(&starts.third, area[place + 2]) {
+    if own_row_lacks(starts, area, place) {
         return true;
     }
     area[place - 1] != b'\n' && lacks(&starts.inner, area[place])
 }
 
 /// The next place to which the tables don't say no.
-fn skip(starts: &Starts, area: &[u8], from: usize) -> usize
-    requires inner { vec_len starts.now.inner ≡ 256 }
-    requires first { vec_len starts.now.first ≡ 256 }
-    requires second { vec_len starts.now.second ≡ 256 }
-    requires third { vec_len starts.now.third ≡ 256 }
+fn next_place(starts: &Starts, area: &[u8], from: usize) -> usize
+    requires tables { HaveAllBytes starts.now }
     requires from { from ≤ length area.now }
     ensures after { from ≤ result }
     ensures within { result ≤ length area.now }
@@ -80,22 +98,33 @@ fn skip(starts: &Starts, area: &[u8], from: usize) -> usize
     place
 }
 
+/// The same where there are tables, and the place itself where there are none.
+fn skip(starts: &Option<Starts>, area: &[u8], from: usize) -> usize
+    requires tables { IfSome starts.now HaveAllBytes }
+    requires from { from ≤ length area.now }
+    ensures after { from ≤ result }
+    ensures within { result ≤ length area.now }
+    ensures excluded { (i : ℕ) → from ≤ i → i < result → IsExcluded starts.now area.now i }
+{
+    match starts {
+        None => from,
+        Some(tables) => next_place(tables, area, from),
+    }
+}
+
 /// Where the search goes on: where it is, or, with no run on its way and nothing found, at the next place where a match can begin.
 pub fn go_on(
-    starts: &Starts,
+    starts: &Option<Starts>,
     best: Option<Match>,
-    left_labels: &[Option<Label>],
-    right_labels: &[Option<Label>],
+    left_labels: &Labels,
+    right_labels: &Labels,
     area: &[u8],
     base: usize,
     place: usize,
 ) -> Places
-    requires inner { vec_len starts.now.inner ≡ 256 }
-    requires first { vec_len starts.now.first ≡ 256 }
-    requires second { vec_len starts.now.second ≡ 256 }
-    requires third { vec_len starts.now.third ≡ 256 }
+    requires tables { IfSome starts.now HaveAllBytes }
     requires place { place ≤ length area.now }
-    ensures { GoesOn starts.now best left_labels.now right_labels.now area.now base place result }
+    ensures { GoesOn starts.now best left_labels.now.of.items right_labels.now.of.items area.now base place result }
 {
     if best.is_none() && is_empty(left_labels) && is_empty(right_labels) {
         let next = skip(starts, area, place);

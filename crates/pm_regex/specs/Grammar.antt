@@ -7,12 +7,13 @@ use Rattle.pm_regex.specs.declared.op.Times.TheVariants.{Star, Plus, Maybe}
 use Rattle.pm_regex.specs.declared.sign.Sign.TheVariants.{Open, Close, Bar, Cut, Edge, Repeat, One}
 use Rattle.pm_regex.specs.Re.{Re, nothing, one, set, seq, either, times, Whole}
 use Rattle.pm_regex.specs.Tokens.{Token, sign, bracket}
+use Rattle.pm_regex.specs.Bytes.{STAR, PLUS, QUESTION_MARK}
 
 -- the byte that spells a repeat
 abbrev pub times_byte : Times → ℕ
-times_byte Star = 42
-times_byte Plus = 43
-times_byte Maybe = 63
+times_byte Star = STAR
+times_byte Plus = PLUS
+times_byte Maybe = QUESTION_MARK
 
 -- where a piece stands: at the front of its branch, there but directly after the cut, or behind another piece
 pub data Stand : Type 0 where

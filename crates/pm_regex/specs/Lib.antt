@@ -1,13 +1,16 @@
+-- What a reader of the contracts needs: how an expression is read, from its text to its tree.
 pub mod Re
+pub mod Bytes
 pub mod Macros
-pub mod Expansion
 pub mod Tokens
+pub mod Grammar
+pub mod Reading
+pub mod Postfix
+-- What the proof alone needs: how far the code is on its way there.
+pub mod Code
+pub mod Expansion
 pub mod Signs
 pub mod Sets
-pub mod Postfix
-pub mod Code
-pub mod Grammar
 pub mod Machine
 pub mod Groups
 pub mod Reader
-pub mod Reading

@@ -3,6 +3,7 @@ use Rattle.std.specs.Prelude.{◌≢◌, ℕ, ◌==◌, Bool, ◌&&◌, if◌the
 use Rattle.std.specs.List.{starts_with}
 use Rattle.pm_regex.specs.declared.macros.Macro.{Macro}
 use Rattle.pm_regex.specs.declared.macros.Macro.TheVariants.{ToAddress, ToWord, FromDaemon, FromMailer}
+use Rattle.pm_regex.specs.Bytes.{BRACKET, CLOSING_BRACKET, BACKSLASH, CARET}
 
 -- what the macros are called
 abbrev pub macro_name : Macro → List ℕ
@@ -42,29 +43,29 @@ macro_at text =
     (if is_at FromMailer text then Some FromMailer else
     None)))
 
--- the bytes up to the first `]` (93), or all
+-- the bytes up to the first `]`, or all
 abbrev pub to_bracket : List ℕ → List ℕ
 to_bracket [] = []
-to_bracket (b ∷ u) = if b == 93 then b ∷ [] else b ∷ to_bracket u
+to_bracket (b ∷ u) = if b == CLOSING_BRACKET then b ∷ [] else b ∷ to_bracket u
 
 -- a bracket expression behind its `[` or `[^`; a `]` that stands first doesn't close it
 abbrev pub members_text : List ℕ → List ℕ
 members_text [] = []
 members_text (b ∷ u) = b ∷ to_bracket u
 
--- a bracket expression behind its `[`, with its `^` (94) where it has one
+-- a bracket expression behind its `[`, with its `^` where it has one
 abbrev pub bracket_text : List ℕ → List ℕ
 bracket_text [] = []
-bracket_text (b ∷ u) = if b == 94 then b ∷ members_text u else members_text (b ∷ u)
+bracket_text (b ∷ u) = if b == CARET then b ∷ members_text u else members_text (b ∷ u)
 
--- where no macro stands: two bytes where the text begins with `\` (92) or with two carets (94), a bracket expression
--- (91), or one byte
+-- where no macro stands: two bytes where the text begins with `\` or with two carets, a bracket expression, or one
+-- byte
 abbrev pub span_behind : ℕ → List ℕ → List ℕ
 span_behind b [] = b ∷ []
 span_behind b (c ∷ u) =
-    if b == 92 then b ∷ c ∷ [] else
-    (if b == 91 then b ∷ bracket_text (c ∷ u) else
-    (if (b == 94) && (c == 94) then b ∷ c ∷ [] else
+    if b == BACKSLASH then b ∷ c ∷ [] else
+    (if b == BRACKET then b ∷ bracket_text (c ∷ u) else
+    (if (b == CARET) && (c == CARET) then b ∷ c ∷ [] else
     b ∷ []))
 
 -- the same of a whole text

@@ -4,6 +4,7 @@ use Rattle.pm_regex.specs.declared.op.Atom.TheVariants.{Byte, Any, LineStart, Li
 use Rattle.pm_regex.specs.declared.op.Times.TheVariants.{Star, Plus, Maybe}
 use Rattle.pm_regex.specs.declared.sign.Sign.{Sign}
 use Rattle.pm_regex.specs.declared.sign.Sign.TheVariants.{Open, Close, Bar, Cut, Edge, Repeat, One}
+use Rattle.pm_regex.specs.Bytes.{OPEN, CLOSE, BAR, STAR, PLUS, QUESTION_MARK, DOT, DOLLAR, BRACKET, CLOSING_BRACKET, BACKSLASH, CARET, DASH, SLASH, LESS, GREATER}
 
 -- a token: a sign, or a bracket expression with its ranges, which may begin with `^`
 pub data Token : Type 0 where
@@ -14,25 +15,25 @@ pub data Token : Type 0 where
 -- follows, and any other byte is itself.
 abbrev pub sign_of : ℕ → Option Sign
 sign_of b =
-    if b == 40 then Some Open else
-    (if b == 41 then Some Close else
-    (if b == 124 then Some Bar else
-    (if b == 42 then Some (Repeat Star) else
-    (if b == 43 then Some (Repeat Plus) else
-    (if b == 63 then Some (Repeat Maybe) else
-    (if b == 46 then Some (One Any) else
-    (if b == 36 then Some (One LineEnd) else
-    (if b == 91 then None else
-    (if b == 92 then None else
-    (if b == 94 then None else
+    if b == OPEN then Some Open else
+    (if b == CLOSE then Some Close else
+    (if b == BAR then Some Bar else
+    (if b == STAR then Some (Repeat Star) else
+    (if b == PLUS then Some (Repeat Plus) else
+    (if b == QUESTION_MARK then Some (Repeat Maybe) else
+    (if b == DOT then Some (One Any) else
+    (if b == DOLLAR then Some (One LineEnd) else
+    (if b == BRACKET then None else
+    (if b == BACKSLASH then None else
+    (if b == CARET then None else
     Some (One (Byte b))))))))))))
 
 -- what a `\` and the byte behind it spell: the cut at `/`, the edges of words at `<` and `>`, and else that byte
 abbrev pub escaped_sign : ℕ → Sign
 escaped_sign b =
-    if b == 47 then Cut else
-    (if b == 60 then One WordStart else
-    (if b == 62 then One WordEnd else
+    if b == SLASH then Cut else
+    (if b == LESS then One WordStart else
+    (if b == GREATER then One WordEnd else
     One (Byte b)))
 
 -- whether the text begins with this byte
@@ -44,31 +45,31 @@ begins_with b (c ∷ u) = c == b
 abbrev pub ends_range : List ℕ → Bool
 ends_range [] = false
 ends_range (a ∷ []) = false
-ends_range (a ∷ b ∷ u) = (a == 45) && not (b == 93)
+ends_range (a ∷ b ∷ u) = (a == DASH) && not (b == CLOSING_BRACKET)
 
--- a member at the front of a text: its first byte, its last, and what follows it; 45 is `-` and 93 is `]`
+-- a member at the front of a text: its first byte, its last, and what follows it
 pub data Member : List ℕ → ℕ → ℕ → List ℕ → Type 0 where
-  range : (a b : ℕ) (u : List ℕ) → b ≢ 93 → a ≤ b → Member (a ∷ 45 ∷ b ∷ u) a b u
+  range : (a b : ℕ) (u : List ℕ) → b ≢ CLOSING_BRACKET → a ≤ b → Member (a ∷ DASH ∷ b ∷ u) a b u
   byte : (a : ℕ) (u : List ℕ) → ends_range u ≡ false → Member (a ∷ u) a a u
 
 -- members up to the `]`, and what follows it
 pub data Members : List ℕ → List (ℕ × ℕ) → List ℕ → Type 0 where
-  closed : (rest : List ℕ) → Members (93 ∷ rest) [] rest
-  more : (t u rest : List ℕ) (a b : ℕ) (rs : List (ℕ × ℕ)) → begins_with 93 t ≡ false → Member t a b u → Members u rs rest →
+  closed : (rest : List ℕ) → Members (CLOSING_BRACKET ∷ rest) [] rest
+  more : (t u rest : List ℕ) (a b : ℕ) (rs : List (ℕ × ℕ)) → begins_with CLOSING_BRACKET t ≡ false → Member t a b u → Members u rs rest →
       Members t ((a, b) ∷ rs) rest
 
 -- the same, but what stands first is a member also where it is a `]`
 pub data Body : List ℕ → List (ℕ × ℕ) → List ℕ → Type 0 where
   body : (t u rest : List ℕ) (a b : ℕ) (rs : List (ℕ × ℕ)) → Member t a b u → Members u rs rest → Body t ((a, b) ∷ rs) rest
 
--- the first token of a text, and what follows it; 91 is `[`, 92 is `\` and 94 is `^`
+-- the first token of a text, and what follows it
 pub data First : List ℕ → Token → List ℕ → Type 0 where
   plain : (b : ℕ) (s : Sign) (rest : List ℕ) → sign_of b ≡ Some s → First (b ∷ rest) (sign s) rest
-  escape : (b : ℕ) (rest : List ℕ) → First (92 ∷ b ∷ rest) (sign (escaped_sign b)) rest
-  edge : (rest : List ℕ) → First (94 ∷ 94 ∷ rest) (sign Edge) rest
-  line_start : (rest : List ℕ) → begins_with 94 rest ≡ false → First (94 ∷ rest) (sign (One LineStart)) rest
-  members : (u rest : List ℕ) (rs : List (ℕ × ℕ)) → begins_with 94 u ≡ false → Body u rs rest → First (91 ∷ u) (bracket false rs) rest
-  others : (u rest : List ℕ) (rs : List (ℕ × ℕ)) → Body u rs rest → First (91 ∷ 94 ∷ u) (bracket true rs) rest
+  escape : (b : ℕ) (rest : List ℕ) → First (BACKSLASH ∷ b ∷ rest) (sign (escaped_sign b)) rest
+  edge : (rest : List ℕ) → First (CARET ∷ CARET ∷ rest) (sign Edge) rest
+  line_start : (rest : List ℕ) → begins_with CARET rest ≡ false → First (CARET ∷ rest) (sign (One LineStart)) rest
+  members : (u rest : List ℕ) (rs : List (ℕ × ℕ)) → begins_with CARET u ≡ false → Body u rs rest → First (BRACKET ∷ u) (bracket false rs) rest
+  others : (u rest : List ℕ) (rs : List (ℕ × ℕ)) → Body u rs rest → First (BRACKET ∷ CARET ∷ u) (bracket true rs) rest
 
 -- the text is these tokens, one behind the other
 pub data IsTokens : List ℕ → List Token → Type 0 where

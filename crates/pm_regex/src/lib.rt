@@ -16,4 +16,4 @@ mod tests;
 pub use error::ReadRefused;
 pub use expr::Expr;
 pub use op::{Atom, Op, Times};
-pub use reading::read;
+pub use reading::{one_reading, read};

@@ -1,5 +1,5 @@
 //! Reading an expression: the macros first, then token by token.
-ghost use Rattle.std.specs.Prelude.{◌≡◌, IfOk};
+ghost use Rattle.std.specs.Prelude.{◌≡◌, ℕ, List, IfOk};
 ghost use Rattle.pm_regex.specs.Re.{Whole};
 ghost use Rattle.pm_regex.specs.Reading.{Reads, IsOnlyReading, HasNoReading, ReadsTokens};
 
@@ -35,3 +35,8 @@ pub fn read(alloc: Global, text: &[u8]) -> Result<Expr, ReadRefused>
     let after = expand(alloc, text)?;
     read_tokens(alloc, &after)
 }
+
+/// A text is read as one expression at most.
+pub fn one_reading()
+    ensures { (text : List ℕ) (e f : Whole) → Reads text e → Reads text f → e ≡ f }
+{}

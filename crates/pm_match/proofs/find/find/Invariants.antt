@@ -8,15 +8,15 @@ use Rattle.pm_match.proofs.find.find.Given as goal
 
 abbrev pub invariant-loop-place : goal.invariant-loop-place
 invariant-loop-place l = record {
-  left_len : vec_len l.left_labels ≡ length l.left.steps.items;
-  left_next_len : vec_len l.left_next ≡ length l.left.steps.items;
-  right_len : vec_len l.right_labels ≡ length l.right.steps.items;
-  right_next_len : vec_len l.right_next ≡ length l.right.steps.items;
+  left_len : vec_len l.left_labels.of ≡ length l.left.steps.items;
+  left_next_len : vec_len l.left_next.of ≡ length l.left.steps.items;
+  right_len : vec_len l.right_labels.of ≡ length l.right.steps.items;
+  right_next_len : vec_len l.right_next.of ≡ length l.right.steps.items;
   after : l.from ≤ l.base;
   ordered : l.base ≤ l.place;
   within : l.place ≤ length l.area;
-  left_arrived : IsArrived l.left.steps.items l.area l.left.entry (LeftSeed l.base) l.place l.left_labels.items;
-  right_arrived : IsArrived l.right.steps.items l.area l.right.entry (RightSeed l.left.steps.items l.area l.left.entry l.left.exit l.base) l.place l.right_labels.items;
+  left_arrived : IsArrived l.left.steps.items l.area l.left.entry (LeftSeed l.base) l.place l.left_labels.of.items;
+  right_arrived : IsArrived l.right.steps.items l.area l.right.entry (RightSeed l.left.steps.items l.area l.left.entry l.left.exit l.base) l.place l.right_labels.of.items;
   best : (fold : Bool) (x y : Re) → Built fold l.left.steps.items x l.left.entry l.left.exit → slice_get l.left.steps.items l.left.exit ≡ Some Stop
       → Built fold l.right.steps.items y l.right.entry l.right.exit → slice_get l.right.steps.items l.right.exit ≡ Some Stop
       → IsBestBefore fold x y l.area l.base l.place l.best;

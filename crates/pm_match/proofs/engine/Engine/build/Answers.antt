@@ -1,9 +1,9 @@
-use Rattle.std.proofs.Common.{is_some, refl, sym, ◌∙◌, ap, subst}
+use Rattle.std.proofs.Common.{Some, None, refl, sym, ◌∙◌, subst}
 use Rattle.pm_regex.specs.Re.{nothing, seq}
 use Rattle.pm_regex.specs.Postfix.{Spells}
 use Rattle.pm_match.specs.Search.{Runs}
 use Rattle.pm_match.specs.Found.{without_cut}
-use Rattle.pm_match.specs.Engine.{left_part, right_part}
+use Rattle.pm_match.specs.Engine.{AreParts}
 use Rattle.pm_match.proofs.JoinLemmas.{joined_spells}
 use Rattle.pm_match.proofs.engine.Engine.build.Goals as goal
 
@@ -12,9 +12,7 @@ returns-in_ok-whole-in-None c =
     let e = c.args.expr.now in
     let is = c.in-None.ensures in
     record {
-      has_cut = sym (ap (λ o. is_some o) is);
-      parts = subst (λ o. Runs c.in_ok-parts-in-None.parts (left_part o) (right_part o e.right) c.args.fold) (sym is)
-          (c.in_ok-parts-in-None.ensures nothing nothing refl refl);
+      parts = subst (λ o. AreParts None o e.right c.args.fold) (sym is) tt;
       whole = subst (λ o. Runs c.in_ok-whole-in-None.whole (without_cut o e.right) nothing c.args.fold) (sym is)
           (c.in_ok-whole-in-None.ensures e.right nothing c.right.ensures refl);
     }
@@ -27,8 +25,7 @@ returns-in_ok-whole-in-Some c =
     subst (λ os. Spells os (seq h.0 e.right)) (sym (c.deref.ensures.value ∙ c.in_ok-ops-in-Some.ensures))
     (joined_spells c.in-Some.left.now _ h.0 e.right h.2 c.right-in-Some-2.ensures) in
     record {
-      has_cut = sym (ap (λ o. is_some o) h.1);
-      parts = subst (λ o. Runs c.in_ok-parts-in-Some.parts (left_part o) (right_part o e.right) c.args.fold) (sym h.1)
+      parts = subst (λ o. AreParts (Some c.in_ok-parts-in-Some.parts) o e.right c.args.fold) (sym h.1)
           (c.in_ok-parts-in-Some.ensures h.0 e.right h.2 c.right-in-Some.ensures);
       whole = subst (λ o. Runs c.in_ok-whole-in-Some.whole (without_cut o e.right) nothing c.args.fold) (sym h.1)
           (c.in_ok-whole-in-Some.ensures (seq h.0 e.right) nothing both refl);

@@ -4,7 +4,6 @@ use Rattle.pm_match.proofs.engine.Engine.count.Goals as goal
 
 pub returns-clause-kept : goal.returns-clause-kept
 returns-clause-kept c = λ e fold h. record {
-  has_cut = h.has_cut;
   parts = h.parts;
   whole = c.count.ensures.kept (without_cut e.left e.right) nothing fold h.whole;
 }
