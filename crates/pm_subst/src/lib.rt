@@ -10,8 +10,6 @@ mod forms;
 mod frames;
 mod kinds;
 mod reading;
-#[cfg(test)]
-mod tests;
 mod values;
 
 pub use backquotes::commands;
