@@ -19,13 +19,6 @@ pub fn show_words(alloc: Global, words: &[Vec<u8>]) -> Result<String, AllocError
     Ok(text)
 }
 
-/// A word as a file has it.
-pub fn show_bytes(alloc: Global, bytes: &[u8]) -> Result<String, AllocError> {
-    let mut text = String::new(alloc);
-    push_shown(&mut text, bytes)?;
-    Ok(text)
-}
-
 fn push_shown(text: &mut String, word: &[u8]) -> Result<(), AllocError> {
     if is_plain(word) && word.len() <= SHOWN_WHOLE {
         return push_plain(text, word);

@@ -1,5 +1,5 @@
 //! Where what came of a run differs from what is wanted.
-use crate::told::{Told, Words, copy_of, key_of, word_of};
+use case_file::{Told, Words, copy_of, key_of, word_of};
 use pm_bytes::Memory;
 use std::alloc::Global;
 

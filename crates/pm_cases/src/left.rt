@@ -2,7 +2,7 @@
 //! calls.
 use crate::plan::Plan;
 use crate::running::Ran;
-use crate::told::Told;
+use case_file::Told;
 use pm_bytes::{Blob, Memory, Name};
 use pm_host::{Call, Got, Logged, Source};
 use pm_journal::{Act, Entry, Reply};

@@ -4,24 +4,13 @@
 #![tactic(auto)]
 
 mod comparing;
-mod expressions;
 mod left;
-mod mails;
-mod numbers;
 mod plan;
-mod refused;
-mod rows;
 mod running;
-mod searching;
 mod session;
-mod statements;
-mod substituting;
-mod told;
 mod trying;
-mod variables;
 
-use case_file::read_lines;
-use refused::Refused;
+use case_file::{Refused, read_lines};
 use session::Session;
 use std::io;
 use std::process::ExitCode;

@@ -1,8 +1,5 @@
 //! What a run of the program begins with, and what is wanted of it.
-use crate::numbers::{read_i64, read_u64, read_usize};
-use crate::refused::Refused;
-use crate::told::{Told, Words, copy_of, text_of};
-use case_file::Line;
+use case_file::{Line, Refused, Told, Words, copy_of, read_i64, read_u64, read_usize, text_of};
 use pm_bytes::Memory;
 use std::alloc::Global;
 
@@ -28,6 +25,14 @@ pub enum Failing {
     Each(u64),
     /// Each two calls up to this number, one at a time, and none.
     Pairs(u64),
+}
+
+/// What fails in one try besides what the plan names: two calls of the host, of which the number 0 is none, and
+/// a write to `err`.
+#[derive(Clone, Copy, Debug)]
+pub struct Choice {
+    pub failing: [u64; 2],
+    pub lost: Option<u64>,
 }
 
 /// What is wanted where the calls with these numbers are among those that fail.
@@ -196,7 +201,11 @@ impl Plan {
     /// What is wanted where these calls fail: the first outcome all of whose calls are among them.
     pub fn outcome(&self, failing: [u64; 2]) -> Option<&Outcome> {
         for outcome in &self.outcomes {
-            if outcome.failing.iter().all(|call| failing.contains(call)) {
+            let fits = outcome
+                .failing
+                .iter()
+                .all(|call| failing.contains(call) || self.fails.contains(call));
+            if fits {
                 return Some(outcome);
             }
         }

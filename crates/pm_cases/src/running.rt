@@ -1,8 +1,7 @@
 //! Runs the program over files, a source and sinks in memory.
 use crate::left::push_left;
-use crate::plan::Plan;
-use crate::refused::Refused;
-use crate::told::Told;
+use crate::plan::{Choice, Plan};
+use case_file::{Refused, Told};
 use pm_bytes::{Environ, Name, Pair, Pairs};
 use pm_journal::Journal;
 use pm_memory::{MemoryHost, MemorySink, MemorySource};
@@ -25,17 +24,13 @@ pub struct Ran {
 
 /// Runs the program, with these calls of the host and this write to `err` failing besides those that the
 /// plan names, and tells what came of it.
-pub fn run(
-    alloc: Global,
-    plan: &Plan,
-    failing: [u64; 2],
-    lost: Option<u64>,
-) -> Result<Told, Refused> {
-    let mut host = host_of(alloc, plan, failing)?;
+pub fn run(plan: &Plan, choice: Choice) -> Result<Told, Refused> {
+    let alloc = plan.alloc;
+    let mut host = host_of(alloc, plan, choice.failing)?;
     let env = environment(alloc, plan)?;
     let mut source = MemorySource::new(alloc, &plan.mail, plan.mail_fails)?;
     let mut out = MemorySink::new(alloc, None)?;
-    let mut err = MemorySink::new(alloc, lost)?;
+    let mut err = MemorySink::new(alloc, choice.lost.or(plan.lost))?;
     let mut journal = Journal::new(alloc);
     let status = procmail(
         alloc,

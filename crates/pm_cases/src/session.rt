@@ -1,11 +1,8 @@
 //! A file of cases, line by line.
 use crate::plan::Plan;
-use crate::refused::Refused;
-use crate::rows::answer;
-use crate::told::{Words, copy_of};
 use crate::trying::{Tally, try_plan};
-use crate::variables::State;
-use case_file::{Line, show_words};
+use case_file::{Line, Refused, Words, copy_of, show_words};
+use pm_rows::{State, answer};
 use std::alloc::Global;
 
 /// What was read so far: the run that is open, what the rows are about, and the variables.

@@ -1,10 +1,8 @@
 //! Tries a run with each choice of failing calls, and reports what differs.
 use crate::comparing::{Difference, differences, with_lost};
-use crate::plan::{Failing, Plan};
-use crate::refused::Refused;
+use crate::plan::{Choice, Failing, Plan};
 use crate::running::run;
-use crate::told::{Told, Words};
-use case_file::show_words;
+use case_file::{Refused, Told, Words, show_words};
 use std::alloc::Global;
 
 /// How many runs came as wanted, and how many didn't.
@@ -57,12 +55,18 @@ fn try_writes<R: Print>(
     let Some(outcome) = plan.outcome(failing) else {
         return Err(Refused::Misread("no outcome is wanted for some calls"));
     };
-    let came = run(plan.alloc, plan, failing, plan.lost)?;
-    judge(rt, plan, failing, 0, &outcome.wanted, &came, tally)?;
+    let choice = Choice {
+        failing,
+        lost: None,
+    };
+    judge(rt, plan, choice, &outcome.wanted, tally)?;
     for lost in 1..=plan.each_lost {
         let wanted = with_lost(plan.alloc, &outcome.wanted, lost)?;
-        let came = run(plan.alloc, plan, failing, Some(lost))?;
-        judge(rt, plan, failing, lost, &wanted, &came, tally)?;
+        let choice = Choice {
+            failing,
+            lost: Some(lost),
+        };
+        judge(rt, plan, choice, &wanted, tally)?;
     }
     Ok(())
 }
@@ -70,40 +74,34 @@ fn try_writes<R: Print>(
 fn judge<R: Print>(
     rt: &R,
     plan: &Plan,
-    failing: [u64; 2],
-    lost: u64,
+    choice: Choice,
     wanted: &Told,
-    came: &Told,
     tally: &mut Tally,
 ) -> Result<(), Refused> {
+    let came = run(plan, choice)?;
     let found = differences(plan.alloc, wanted.lines(), came.lines())?;
     tally.count(found.is_empty());
     if found.is_empty() {
         return Ok(());
     }
     let name = show_words(plan.alloc, &plan.name)?;
-    let choice = choice_text(plan.alloc, plan, failing, lost)?;
-    println!(rt; "run {name}{choice}")?;
+    let failing = choice_text(plan, choice)?;
+    println!(rt; "run {name}{failing}")?;
     print_differences(rt, plan.alloc, &found)
 }
 
-// Which calls fail, where the plan has a choice of them.
-fn choice_text(
-    alloc: Global,
-    plan: &Plan,
-    failing: [u64; 2],
-    lost: u64,
-) -> Result<String, Refused> {
-    let [one, other] = failing;
+// What fails, where the plan has a choice of it.
+fn choice_text(plan: &Plan, choice: Choice) -> Result<String, Refused> {
+    let [one, other] = choice.failing;
     let calls = match plan.failing {
-        Failing::None => String::new(alloc),
-        Failing::Each(_) => format!(in alloc; ", call {one} failing")?,
-        Failing::Pairs(_) => format!(in alloc; ", calls {one} and {other} failing")?,
+        Failing::None => String::new(plan.alloc),
+        Failing::Each(_) => format!(in plan.alloc; ", call {one} failing")?,
+        Failing::Pairs(_) => format!(in plan.alloc; ", calls {one} and {other} failing")?,
     };
-    if lost == 0 {
-        return Ok(calls);
+    match choice.lost {
+        Some(lost) => Ok(format!(in plan.alloc; "{calls}, write {lost} lost")?),
+        None => Ok(calls),
     }
-    Ok(format!(in alloc; "{calls}, write {lost} lost")?)
 }
 
 fn print_differences<R: Print>(rt: &R, alloc: Global, found: &[Difference]) -> Result<(), Refused> {

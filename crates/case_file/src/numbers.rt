@@ -1,5 +1,5 @@
 //! Numbers in cases.
-use crate::refused::Refused;
+use crate::Refused;
 use crate::told::text_of;
 
 const NO_NUMBER: Refused = Refused::Misread("a number is wanted");

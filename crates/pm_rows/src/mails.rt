@@ -1,6 +1,5 @@
 //! Rows of mails: their parts, what of them goes to a mailbox, and their From line.
-use crate::refused::Refused;
-use crate::told::{Words, one_word, text_of};
+use case_file::{Refused, Words, one_word, text_of};
 use pm_bytes::{Blob, Memory};
 use pm_message::{Feed, Kind, Renew, from_line, needs_line, piece, prepare, split, whole};
 use std::alloc::Global;

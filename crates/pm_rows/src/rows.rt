@@ -1,9 +1,7 @@
 //! Rows: a line that asks one question, with the answer that is wanted behind an arrow.
-use crate::numbers::{read_i64, read_u64, read_usize};
-use crate::refused::Refused;
-use crate::told::{Words, text_of};
 use crate::variables::State;
 use crate::{expressions, mails, searching, statements, substituting};
+use case_file::{Refused, Words, read_i64, read_u64, read_usize, text_of};
 use std::alloc::Global;
 
 const NO_ROW: Refused = Refused::Misread("no row asks so");

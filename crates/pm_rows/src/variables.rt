@@ -1,8 +1,7 @@
 //! The variables of the rows: the lines that set them, and rows that ask for them.
-use crate::numbers::{read_i64, read_u64};
-use crate::refused::Refused;
-use crate::told::{Words, number_word, one_word, text_of, word_of};
-use case_file::Line;
+use case_file::{
+    Line, Refused, Words, number_word, one_word, read_i64, read_u64, text_of, word_of,
+};
 use pm_bytes::{Blob, Memory, Name};
 use pm_vars::Vars;
 use std::alloc::Global;

@@ -1,9 +1,8 @@
 //! Rows of texts and the expressions that they are read as. An expression is written in postfix order: `0`
 //! for no bytes, a byte behind `'`, `A` and `Z` for the area's start and end, `&` for two expressions one
 //! behind the other, `[]` and `[^]` behind their ranges.
-use crate::refused::Refused;
 use crate::searching::read_expr;
-use crate::told::{Words, one_word};
+use case_file::{Refused, Words, one_word};
 use pm_regex::{Atom, Expr, Op, Times};
 use std::alloc::{AllocError, Global};
 

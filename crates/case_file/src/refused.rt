@@ -1,5 +1,5 @@
 //! Why a case isn't run.
-use case_file::FileRefused;
+use crate::FileRefused;
 use pm_bytes::{Memory, NameRefused};
 use std::alloc::{AllocError, AllocFailed};
 use std::io;

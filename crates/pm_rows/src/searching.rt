@@ -1,6 +1,5 @@
 //! Rows of expressions and the areas in which they are searched for.
-use crate::refused::Refused;
-use crate::told::{Words, number_word, one_word};
+use case_file::{Refused, Words, number_word, one_word};
 use pm_match::{Engine, Found};
 use pm_regex::{Expr, ReadRefused, read};
 use std::alloc::Global;

@@ -2,8 +2,7 @@
 //! for a line that isn't understood, and for a recipe `:FLAGS:LOCK`, its conditions, each behind `*`, and
 //! its action: `>` before a mailbox, `|` before a program, `@` before addresses, `stdout`, or `{}` for a
 //! block.
-use crate::refused::Refused;
-use crate::told::{Words, number_word, one_word, word_of};
+use case_file::{Refused, Words, number_word, one_word, word_of};
 use pm_bytes::Memory;
 use pm_recipe::{
     Action, Condition, Flags, RcRefused, Recipe, Statement, Statements, Weight, copy_statements,

@@ -1,6 +1,5 @@
 //! Rows of texts with their words and their commands.
-use crate::refused::Refused;
-use crate::told::{Words, number_word, one_word, text_of};
+use case_file::{Refused, Words, number_word, one_word, text_of};
 use pm_bytes::{Blob, Memory};
 use pm_subst::{ExpandRefused, Mode, commands, expand};
 use pm_vars::Vars;
