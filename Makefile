@@ -1,6 +1,6 @@
 # Each target works on a fresh checkout with nothing built, says at once how long it may take, and keeps a log in bin/.
 
-.PHONY: build demo bench check bugs clean
+.PHONY: build build-cases demo cases bench check bugs clean
 
 # bin/procmail, built once its crates are proved. The build ends by starting the program without words, which is a
 # usage error (64).
@@ -12,12 +12,24 @@ build:
 	    if [ $$status -ne 64 ]; then tail -n 40 ../../bin/build.log >&2; exit 1; fi; }
 	@cp crates/procmail_cli/out/procmail_cli bin/procmail
 
+# bin/pm_cases, built once its crates are proved. The build ends by giving it no cases.
+build-cases:
+	@mkdir -p bin
+	@echo "Building bin/pm_cases. Its crates are proved first. The log is bin/build-cases.log."
+	@cd crates/pm_cases && { bash ../../.ci/watch ../../bin/build-cases.log rt run || \
+	    { tail -n 40 ../../bin/build-cases.log >&2; exit 1; }; }
+	@cp crates/pm_cases/out/pm_cases bin/pm_cases
+
 # The example message goes where the example rcfile says, in a fresh folder.
 demo: build
 	@echo "Delivering examples/message by examples/copies.rc into a fresh folder, which then has these files and this mail:"
 	@folder=$$(mktemp -d) && cp examples/copies.rc $$folder/rc && cd $$folder && \
 	    $(CURDIR)/bin/procmail ./rc < $(CURDIR)/examples/message && ls && cat mbox && cmp mbox archive-mbox; \
 	    status=$$?; rm -rf $$folder; exit $$status
+
+# Every file of cases.
+cases:
+	@bash tests/cases.sh
 
 # How long searches take. It isn't part of the check.
 bench:

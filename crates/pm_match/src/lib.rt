@@ -14,7 +14,5 @@ mod search;
 mod starts;
 mod step;
 mod tables;
-#[cfg(test)]
-mod tests;
 
 pub use engine::{Engine, Found};

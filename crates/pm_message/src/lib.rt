@@ -5,8 +5,6 @@ mod date;
 mod head;
 mod pieces;
 mod renewal;
-#[cfg(test)]
-mod tests;
 
 pub use date::from_line;
 pub use head::{Message, split, whole};

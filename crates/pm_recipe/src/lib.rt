@@ -7,17 +7,11 @@ mod colon_line;
 mod conditions;
 mod fronts;
 mod joins;
-#[cfg(test)]
-mod largest;
 mod laws;
 mod lines;
 mod names;
 mod places;
-#[cfg(test)]
-mod rcfiles;
 mod reader;
-#[cfg(test)]
-mod tests;
 mod tree;
 
 pub use laws::{one_cut, spans_cut};

@@ -10,8 +10,6 @@ mod reader;
 mod reading;
 mod set;
 mod sign;
-#[cfg(test)]
-mod tests;
 
 pub use error::ReadRefused;
 pub use expr::Expr;

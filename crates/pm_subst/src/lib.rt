@@ -11,8 +11,6 @@ mod frames;
 mod kinds;
 mod laws;
 mod reading;
-#[cfg(test)]
-mod tests;
 mod values;
 
 pub use backquotes::commands;

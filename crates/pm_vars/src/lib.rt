@@ -4,8 +4,6 @@
 
 mod held;
 mod marks;
-#[cfg(test)]
-mod tests;
 mod vars;
 
 pub use marks::Marks;

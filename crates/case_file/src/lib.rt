@@ -1,0 +1,19 @@
+//! Files of cases: lines of words, with texts that stand below their line, and what words say.
+//! docs/CASES.md has the format. Each function is safe and total; what a file is read as is not stated, but
+//! tested by the files themselves.
+#![tactic(auto)]
+
+mod error;
+mod lines;
+mod numbers;
+mod refused;
+mod shown;
+mod told;
+mod words;
+
+pub use error::FileRefused;
+pub use lines::{Line, read_lines};
+pub use numbers::{read_i64, read_u64, read_usize};
+pub use refused::Refused;
+pub use shown::show_words;
+pub use told::{Told, Words, copy_of, key_of, number_word, one_word, text_of, word_of};

@@ -1,0 +1,154 @@
+//! The lines of a file of cases, each with the text that stands below it.
+use crate::error::{FileRefused, WordsRefused};
+use crate::words::{Texts, read_words};
+use std::alloc::Global;
+
+/// A line with its number, from 1, and its words. A text below the line is its last word.
+#[derive(Debug, Drop)]
+pub struct Line {
+    pub number: u64,
+    pub words: Vec<Vec<u8>>,
+}
+
+impl Line {
+    /// The first word as text, or nothing.
+    pub fn key(&self) -> &str {
+        match self.words.first() {
+            Some(word) => std::str::from_utf8(word).unwrap_or(""),
+            None => "",
+        }
+    }
+
+    /// The words behind the first.
+    pub fn arguments(&self) -> &[Vec<u8>] {
+        match self.words.split_first() {
+            Some((_, rest)) => rest,
+            None => &[],
+        }
+    }
+}
+
+#[derive(Drop)]
+struct LineReader {
+    alloc: Global,
+    texts: Texts,
+    lines: Vec<Line>,
+    current: Option<Line>,
+    // Whether the current line's last word is a text that goes on.
+    in_text: bool,
+}
+
+/// The lines of a file. A line of its own begins with a word; the lines of a text below it begin with `|`,
+/// `"` or `@`.
+pub fn read_lines(alloc: Global, file: &str) -> Result<Vec<Line>, FileRefused> {
+    let mut reader = LineReader {
+        alloc,
+        texts: Texts::new(alloc),
+        lines: Vec::new(alloc),
+        current: None,
+        in_text: false,
+    };
+    let mut number = 0u64;
+    for line in file.lines() {
+        number = number.saturating_add(1);
+        reader.take(number, line.trim_start())?;
+    }
+    reader.end_line()?;
+    Ok(reader.lines)
+}
+
+fn is_arrow(word: &[u8]) -> bool {
+    word == b"->".as_slice()
+}
+
+impl LineReader {
+    fn take(&mut self, number: u64, line: &str) -> Result<(), FileRefused> {
+        if line.is_empty() || line.starts_with('#') {
+            return Ok(());
+        }
+        if let Some(text) = line.strip_prefix('|') {
+            let text = text.strip_prefix(' ').unwrap_or(text);
+            self.add_text(number, text.as_bytes())?;
+            return self.add_text(number, b"\n");
+        }
+        if line.starts_with('"') || line.starts_with('@') {
+            return self.add_pieces(number, line);
+        }
+        if line.starts_with("->") {
+            return self.go_on(number, line);
+        }
+        self.end_line()?;
+        let words = self.words(number, line)?;
+        self.current = Some(Line { number, words });
+        Ok(())
+    }
+
+    fn words(&self, number: u64, line: &str) -> Result<Vec<Vec<u8>>, FileRefused> {
+        match read_words(self.alloc, line, &self.texts) {
+            Ok(words) => Ok(words),
+            Err(refused) => Err(refused.at(number)),
+        }
+    }
+
+    // Adds bytes to the text below the current line.
+    fn add_text(&mut self, number: u64, bytes: &[u8]) -> Result<(), FileRefused> {
+        let Some(line) = &mut self.current else {
+            return Err(WordsRefused::Malformed("a text stands below a line").at(number));
+        };
+        if !self.in_text {
+            line.words.push(Vec::new(self.alloc))?;
+            self.in_text = true;
+        }
+        if let Some(text) = line.words.last_mut() {
+            text.extend_from_slice(bytes)?;
+        }
+        Ok(())
+    }
+
+    fn add_pieces(&mut self, number: u64, line: &str) -> Result<(), FileRefused> {
+        for piece in self.words(number, line)? {
+            self.add_text(number, &piece)?;
+        }
+        Ok(())
+    }
+
+    // Adds the words behind an arrow to the current line, and the arrow itself where the line has none yet.
+    fn go_on(&mut self, number: u64, line: &str) -> Result<(), FileRefused> {
+        let words = self.words(number, line)?;
+        let Some(current) = &mut self.current else {
+            return Err(WordsRefused::Malformed("an arrow stands behind a line").at(number));
+        };
+        let known = current.words.iter().any(|word| is_arrow(word));
+        for word in words {
+            if !known || !is_arrow(&word) {
+                current.words.push(word)?;
+            }
+        }
+        self.in_text = false;
+        Ok(())
+    }
+
+    // Ends the current line. One that begins with `text` names a text.
+    fn end_line(&mut self) -> Result<(), FileRefused> {
+        self.in_text = false;
+        let Some(line) = self.current.take() else {
+            return Ok(());
+        };
+        if line.key() != "text" {
+            self.lines.push(line)?;
+            return Ok(());
+        }
+        self.define(line)
+    }
+
+    fn define(&mut self, line: Line) -> Result<(), FileRefused> {
+        let Line { number, words } = line;
+        let [_, name, text] = words.as_slice() else {
+            return Err(WordsRefused::Malformed("a text has a name and its bytes").at(number));
+        };
+        let name = name.as_slice().to_vec(self.alloc)?;
+        let text = text.as_slice().to_vec(self.alloc)?;
+        self.texts.insert(name, text)?;
+        Ok(())
+    }
+}

@@ -1,0 +1,212 @@
+//! What a run left, as lines: its status, its entries, what the sinks took, the files that changed, and the
+//! calls.
+use crate::plan::Plan;
+use crate::running::Ran;
+use case_file::Told;
+use pm_bytes::{Blob, Memory, Name};
+use pm_host::{Call, Got, Logged, Source};
+use pm_journal::{Act, Entry, Reply};
+use std::alloc::{AllocError, Global};
+
+/// Tells all that a run left.
+pub fn push_left(alloc: Global, told: &mut Told, plan: &Plan, ran: &mut Ran) -> Result<(), Memory> {
+    told.begin("status")?;
+    told.add(format!(in alloc; "{}", ran.status)?.as_str().as_bytes())?;
+    for entry in ran.journal.entries() {
+        push_entry(alloc, told, plan, entry)?;
+    }
+    push_err(alloc, told, ran)?;
+    if !ran.out.written().is_empty() {
+        told.begin("out")?;
+        told.add(ran.out.written())?;
+    }
+    push_files(alloc, told, plan, ran)?;
+    push_calls(alloc, told, ran.host.calls())?;
+    push_unread(told, plan, ran)
+}
+
+fn push_entry(alloc: Global, told: &mut Told, plan: &Plan, entry: &Entry) -> Result<(), Memory> {
+    if let Act::SayErr { text } = &entry.act {
+        told.begin("says")?;
+        told.add(text.as_slice())?;
+        if !matches!(entry.reply, Reply::Wrote) {
+            told.add(debug_of(alloc, &entry.reply)?.as_str().as_bytes())?;
+        }
+        return Ok(());
+    }
+    told.begin("entry")?;
+    push_act(alloc, told, &entry.act)?;
+    match &entry.reply {
+        Reply::Content(bytes) => push_content(told, plan, &entry.act, bytes),
+        reply => told.add(debug_of(alloc, reply)?.as_str().as_bytes()),
+    }
+}
+
+fn push_act(alloc: Global, told: &mut Told, act: &Act) -> Result<(), Memory> {
+    match act {
+        Act::ReadFile { name } => push_named(told, "ReadFile", name),
+        Act::Probe { name } => push_named(told, "Probe", name),
+        Act::Unlock { name } => push_named(told, "Unlock", name),
+        Act::Append { name, piece } => {
+            push_named(told, "Append", name)?;
+            told.add(piece.as_slice())
+        }
+        Act::SayFile { name, text } => {
+            push_named(told, "SayFile", name)?;
+            told.add(text.as_slice())
+        }
+        Act::WriteOut { piece } => {
+            told.add(b"WriteOut")?;
+            told.add(piece.as_slice())
+        }
+        other => told.add(format!(in alloc; "{other:?}")?.as_str().as_bytes()),
+    }
+}
+
+fn push_named(told: &mut Told, act: &str, name: &Name) -> Result<(), Memory> {
+    told.add(act.as_bytes())?;
+    told.add(name.as_str().as_bytes())
+}
+
+// The bytes that were read are left out where they are those that the file began with.
+fn push_content(told: &mut Told, plan: &Plan, act: &Act, bytes: &Blob) -> Result<(), Memory> {
+    told.add(b"Content")?;
+    if let Act::ReadFile { name } = act {
+        if let Some(given) = plan.file(name.as_str().as_bytes()) {
+            if given == bytes.as_slice() {
+                return Ok(());
+            }
+        }
+    }
+    told.add(bytes.as_slice())
+}
+
+fn debug_of(alloc: Global, reply: &Reply) -> Result<String, AllocError> {
+    format!(in alloc; "{reply:?}")
+}
+
+// What `err` took behind the texts that the entries say it took.
+fn push_err(alloc: Global, told: &mut Told, ran: &Ran) -> Result<(), Memory> {
+    let mut said = Vec::new(alloc);
+    for entry in ran.journal.entries() {
+        if let Act::SayErr { text } = &entry.act {
+            said.extend_from_slice(taken_of(text.as_slice(), &entry.reply))?;
+        }
+    }
+    let written = ran.err.written();
+    match written.strip_prefix(said.as_slice()) {
+        Some(rest) => {
+            if !rest.is_empty() {
+                told.begin("last")?;
+                told.add(rest)?;
+            }
+            Ok(())
+        }
+        None => {
+            told.begin("err")?;
+            told.add(written)
+        }
+    }
+}
+
+fn taken_of<'a>(text: &'a [u8], reply: &Reply) -> &'a [u8] {
+    match reply {
+        Reply::Wrote => text,
+        Reply::Short(count) => {
+            let count = (*count).min(text.len() as u64) as usize;
+            text.get(..count).unwrap_or(text)
+        }
+        _ => b"",
+    }
+}
+
+// The files that were there, and those that calls made or wrote to.
+fn push_files(alloc: Global, told: &mut Told, plan: &Plan, ran: &Ran) -> Result<(), Memory> {
+    let mut names = Vec::new(alloc);
+    for stands in &plan.stands {
+        push_new(alloc, &mut names, stands.name.as_str().as_bytes())?;
+    }
+    for logged in ran.host.calls() {
+        match &logged.call {
+            Call::Create { name } => push_new(alloc, &mut names, name.as_slice())?,
+            Call::Append { name, .. } => push_new(alloc, &mut names, name.as_slice())?,
+            _ => {}
+        }
+    }
+    for name in &names {
+        push_file(told, plan, ran, name)?;
+    }
+    Ok(())
+}
+
+fn push_new(alloc: Global, names: &mut Vec<Vec<u8>>, name: &[u8]) -> Result<(), Memory> {
+    if names.iter().all(|known| known.as_slice() != name) {
+        names.push(name.to_vec(alloc)?)?;
+    }
+    Ok(())
+}
+
+// Tells a file that isn't as it was.
+fn push_file(told: &mut Told, plan: &Plan, ran: &Ran, name: &[u8]) -> Result<(), Memory> {
+    let before = plan.file(name);
+    let after = match std::str::from_utf8(name) {
+        Ok(text) => ran.host.file(text),
+        Err(_) => None,
+    };
+    match (before, after) {
+        (Some(before), Some(after)) => {
+            if before != after {
+                told.begin("left")?;
+                told.add(name)?;
+                told.add(after)?;
+            }
+        }
+        (None, Some(after)) => {
+            told.begin("left")?;
+            told.add(name)?;
+            told.add(after)?;
+        }
+        (Some(_), None) => {
+            told.begin("gone")?;
+            told.add(name)?;
+        }
+        (None, None) => {}
+    }
+    Ok(())
+}
+
+fn push_calls(alloc: Global, told: &mut Told, calls: &[Logged]) -> Result<(), Memory> {
+    let mut text = String::new(alloc);
+    for logged in calls {
+        if !text.is_empty() {
+            text.push(' ')?;
+        }
+        text.push_str(call_text(&logged.call))?;
+    }
+    told.begin("calls")?;
+    told.add(text.as_str().as_bytes())
+}
+
+fn call_text(call: &Call) -> &'static str {
+    match call {
+        Call::Look { .. } => "look",
+        Call::Read { .. } => "read",
+        Call::Create { .. } => "create",
+        Call::Append { .. } => "append",
+        Call::Cut { .. } => "cut",
+        Call::Remove { .. } => "remove",
+        Call::Now => "now",
+    }
+}
+
+// Tells where the read of the mail that was to fail is still to come as the next one.
+fn push_unread(told: &mut Told, plan: &Plan, ran: &mut Ran) -> Result<(), Memory> {
+    if plan.mail_fails.is_none() || ran.source.faults() > 0 {
+        return Ok(());
+    }
+    let mut room = [0u8; 1];
+    if ran.source.read(&mut room) == Got::Failed {
+        told.begin("unread")?;
+    }
+    Ok(())
+}
