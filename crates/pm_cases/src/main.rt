@@ -38,7 +38,7 @@ fn main(rt: HostRuntime) -> ExitCode {
 fn print_refused(rt: &HostRuntime, refused: Refused) -> io::Result<()> {
     match refused {
         Refused::File { line, why } => println!(rt; "line {line}: {why}"),
-        Refused::Misread(why) => println!(rt; "the last case: {why}"),
+        Refused::Misread(why) => println!(rt; "{why}"),
         Refused::Memory => println!(rt; "memory was wanting"),
         Refused::Stream => Ok(()),
     }

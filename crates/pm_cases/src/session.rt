@@ -10,6 +10,8 @@ use std::alloc::Global;
 pub struct Session {
     alloc: Global,
     plan: Option<Plan>,
+    // The line that began the run.
+    begun: u64,
     about: Words,
     state: State,
     tally: Tally,
@@ -20,6 +22,7 @@ impl Session {
         Session {
             alloc,
             plan: None,
+            begun: 0,
             about: Vec::new(alloc),
             state: State::new(alloc),
             tally: Tally {
@@ -45,6 +48,7 @@ impl Session {
             "run" => {
                 self.end_plan(rt)?;
                 self.plan = Some(Plan::new(self.alloc, line.arguments())?);
+                self.begun = line.number;
                 Ok(())
             }
             "about" => {
@@ -86,9 +90,15 @@ impl Session {
 
     // Tries the run that is open.
     fn end_plan<R: Print>(&mut self, rt: &R) -> Result<(), Refused> {
-        match self.plan.take() {
-            Some(plan) => try_plan(rt, &plan, &mut self.tally),
-            None => Ok(()),
+        let Some(plan) = self.plan.take() else {
+            return Ok(());
+        };
+        match try_plan(rt, &plan, &mut self.tally) {
+            Err(Refused::Misread(why)) => Err(Refused::File {
+                line: self.begun,
+                why,
+            }),
+            other => other,
         }
     }
 

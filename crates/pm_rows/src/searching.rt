@@ -42,11 +42,11 @@ pub fn found(alloc: Global, text: &[u8], area: &[u8]) -> Result<Words, Refused> 
 }
 
 /// How many matches stand one behind the other.
-pub fn count(alloc: Global, text: &[u8], area: &[u8]) -> Result<Words, Refused> {
+pub fn count(alloc: Global, text: &[u8], area: &[u8], fold: bool) -> Result<Words, Refused> {
     let Some(expr) = read_expr(alloc, text)? else {
         return Ok(one_word(alloc, "defect")?);
     };
-    let mut engine = Engine::build(alloc, &expr, true)?;
+    let mut engine = Engine::build(alloc, &expr, fold)?;
     let count = engine.count(area);
     let mut words = Vec::new(alloc);
     words.push(number_word(alloc, count)?)?;
