@@ -1,7 +1,7 @@
 -- What entries and lines that are read say.
-use Rattle.std.proofs.Common.{◌≡◌, ◌⊎◌, inl, inr, ℕ, ◌<◌, Bool, true, false, ◌&&◌, cond, List, [], ◌∷◌, ◌++◌, length, codes, refl, sym, ap, ◌∙◌, subst, arith}
+use Rattle.std.proofs.Common.{◌≡◌, ◌⊎◌, inr, ℕ, ◌<◌, Bool, true, false, ◌&&◌, cond, List, [], ◌∷◌, ◌++◌, length, codes, refl, ap, arith}
 use Rattle.pm_bytes.specs.Name.{is_usable}
-use Rattle.pm_start.specs.Entry.{Lacks, IsEntry, HasUnusable, IsFirstLine, IsMachineName, name_in}
+use Rattle.pm_start.specs.Entry.{Lacks, HasUnusable, IsFirstLine, IsMachineName, name_in}
 
 pub is_machine_name : (text line name : List ℕ) → IsFirstLine text line → name ≡ name_in line → IsMachineName text name
 is_machine_name text line name first is = record { line = line; first = first; name_is = is }
