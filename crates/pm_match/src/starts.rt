@@ -76,6 +76,18 @@ fn is_excluded(starts: &Starts, area: &[u8], place: usize) -> bool
     area[place - 1] != b'\n' && lacks(&starts.inner, area[place])
 }
 
+/// Whether there are tables, and they say no to a place.
+pub fn is_ruled_out(starts: &Option<Starts>, area: &[u8], place: usize) -> bool
+    requires tables { IfSome starts.now HaveAllBytes }
+    requires place { place ≤ length area.now }
+    ensures { IsTrue result → IsExcluded starts.now area.now place }
+{
+    match starts {
+        None => false,
+        Some(tables) => { place > 0 && area.len() - place > 2 && is_excluded(tables, area, place) }
+    }
+}
+
 /// The next place to which the tables don't say no.
 fn next_place(starts: &Starts, area: &[u8], from: usize) -> usize
     requires tables { HaveAllBytes starts.now }
