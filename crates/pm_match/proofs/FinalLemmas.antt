@@ -8,7 +8,7 @@ use Rattle.pm_match.specs.Automaton.{Edge, Built}
 use Rattle.pm_match.specs.Labels.{rank, NoneBefore}
 use Rattle.pm_match.specs.Finding.{Reach, IsMatch, IsBestBefore, IsFirst, IsHeld, LeftSeed, RightSeed}
 use Rattle.pm_match.proofs.FindLemmas.{edge_place, reach_after}
-use Rattle.pm_match.proofs.BestLemmas.{reach_of, found_of}
+use Rattle.pm_match.proofs.BestLemmas.{reach_of, run_of, found_of}
 
 -- a run that goes on past place i is at some state at place i
 module _ (p : List Step) (area : List ℕ) (entry : ℕ) where
@@ -25,7 +25,7 @@ module _ (p : List Step) (area : List ℕ) (entry : ℕ) where
       choice
 
 module _ (fold : Bool) (p q : List Step) (area : List ℕ) (l r : Re) (entry exit enter leave from i : ℕ) (left right : List (Option Label))
-    (left_held : IsHeld p area entry (LeftSeed from) i left) (right_held : IsHeld q area enter (RightSeed p area entry exit from) i right)
+    (left_held : IsHeld p area entry (LeftSeed p area entry exit from) i left) (right_held : IsHeld q area enter (RightSeed p area entry exit from) i right)
     (area_fits : length area < 2 ^ 64) (l_built : Built fold p l entry exit) (r_built : Built fold q r enter leave) where
   -- a match that ends later is behind the best one
   later : (f : Match) → f.start ≤ f.cut → f.cut ≤ i → NoneBefore left (f.start * 2 ^ 64) → NoneBefore right (rank (record { start = f.start; cut = f.cut }) + 1) →
@@ -58,7 +58,7 @@ module _ (fold : Bool) (p q : List Step) (area : List ℕ) (l r : Re) (entry exi
         place = s;
         label = record { start = s; cut = 0 };
         count = t.1;
-        seed = (after, refl, refl);
+        seed = (after, refl, refl, a.0, c, run_of fold p area entry s a.0 exit c a.1);
         small = omega arith;
         reach = t.2;
       })) in

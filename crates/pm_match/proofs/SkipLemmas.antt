@@ -32,7 +32,7 @@ crosses p area entry s (suc n) q j i h low high =
     choice
 
 -- where there are tables that say no, no run begins
-no_run : (p : List Step) (entry exit : ℕ) (t : Option Starts) → AreStarts p entry exit t → (area : List ℕ) (i n j : ℕ) → IsExcluded t area i → Run p area exit j n entry i → ⊥
+pub no_run : (p : List Step) (entry exit : ℕ) (t : Option Starts) → AreStarts p entry exit t → (area : List ℕ) (i n j : ℕ) → IsExcluded t area i → Run p area exit j n entry i → ⊥
 no_run p entry exit None h area i n j x run = x
 no_run p entry exit (Some s) h area i n j x run = h.none area i n j x run
 
@@ -41,7 +41,7 @@ all_bytes p entry exit None h = h
 all_bytes p entry exit (Some s) h = h.all
 
 module _ (fold : Bool) (p q : List Step) (area : List ℕ) (l r : Re) (entry exit enter leave base i : ℕ) (left right : List (Option Label))
-    (left_arrived : IsArrived p area entry (LeftSeed base) (i + 1) left) (right_arrived : IsArrived q area enter (RightSeed p area entry exit base) (i + 1) right)
+    (left_arrived : IsArrived p area entry (LeftSeed p area entry exit base) (i + 1) left) (right_arrived : IsArrived q area enter (RightSeed p area entry exit base) (i + 1) right)
     (left_empty : IsEmpty left) (right_empty : IsEmpty right)
     (l_built : Built fold p l entry exit) (r_built : Built fold q r enter leave) where
   -- with no run on its way, no match that began before goes on
@@ -57,7 +57,7 @@ module _ (fold : Bool) (p q : List Step) (area : List ℕ) (l r : Re) (entry exi
       left_empty x.2 (rank (record { start = s; cut = 0 })) (left_arrived.whole x.2 (rank (record { start = s; cut = 0 })) (record {
         state = x.0;
         from = i;
-        held = record { place = s; label = record { start = s; cut = 0 }; count = x.1; seed = (after, refl, refl); small = omega arith; reach = x.3 };
+        held = record { place = s; label = record { start = s; cut = 0 }; count = x.1; seed = (after, refl, refl, a.0, c, run_of fold p area entry s a.0 exit c a.1); small = omega arith; reach = x.3 };
         next = refl;
         edge = x.4;
       })))
@@ -121,10 +121,10 @@ module _ (p q : List Step) (area : List ℕ) (entry exit enter leave base i : �
       (λ h. (omega (arith, h.3, h.4, low), omega (arith, h.3), h.5, h.4))
       on
 
-  pub on_left : IsArrived p area entry (LeftSeed base) (i + 1) left → IsArrived p area entry (LeftSeed r.base) r.place left
+  pub on_left : IsArrived p area entry (LeftSeed p area entry exit base) (i + 1) left → IsArrived p area entry (LeftSeed p area entry exit r.base) r.place left
   on_left a = ⊎_elim
-      (λ same. subst (λ z. IsArrived p area entry (LeftSeed z.base) z.place left) (sym same) a)
-      (λ h. subst (λ k. IsArrived p area entry (LeftSeed r.base) k left) h.3 (arrived_first p area entry (LeftSeed r.base) r.base (λ k w s. left_late r.base k w s) left h.1))
+      (λ same. subst (λ z. IsArrived p area entry (LeftSeed p area entry exit z.base) z.place left) (sym same) a)
+      (λ h. subst (λ k. IsArrived p area entry (LeftSeed p area entry exit r.base) k left) h.3 (arrived_first p area entry (LeftSeed p area entry exit r.base) r.base (λ k w s. left_late p area entry exit r.base k w s) left h.1))
       on
 
   pub on_right : IsArrived q area enter (RightSeed p area entry exit base) (i + 1) right → IsArrived q area enter (RightSeed p area entry exit r.base) r.place right
@@ -143,7 +143,7 @@ module _ (p q : List Step) (area : List ℕ) (entry exit enter leave base i : �
         on
 
     pub on_none : (from : ℕ) → from ≤ base → ((s c j : ℕ) → IsMatch fold x y area from s c j → base ≤ s) →
-        IsArrived p area entry (LeftSeed base) (i + 1) left → IsArrived q area enter (RightSeed p area entry exit base) (i + 1) right →
+        IsArrived p area entry (LeftSeed p area entry exit base) (i + 1) left → IsArrived q area enter (RightSeed p area entry exit base) (i + 1) right →
         AreStarts p entry exit t → IsBestBefore fold x y area base (i + 1) best → (s c j : ℕ) → IsMatch fold x y area from s c j → r.base ≤ s
     on_none from after none a b starts bests = ⊎_elim
         (λ same. subst (λ z. (s c j : ℕ) → IsMatch fold x y area from s c j → z.base ≤ s) (sym same) none)

@@ -143,16 +143,19 @@ may_take p t None b is taken = tt
 may_take p t (Some c) b is taken = subst (λ k. takes p t k ≡ true) (is c refl) taken
 
 -- the tables of these lists of labels, behind a byte or behind any
-module _ (p : List Step) (entry exit : ℕ) (byte : Option ℕ) (first second third : List (Option Label))
+module _ (p : List Step) (entry exit : ℕ) (byte : Option ℕ) (first second third fourth : List (Option Label))
     (first_entry : Below first entry 0) (first_is : IsClosed p (10 ∷ 0 ∷ []) 1 first)
     (second_exit : (v : ℕ) → Below first exit v → Below second exit v)
     (second_read : (q v : ℕ) (t : Test) (x : ℕ) → slice_get p q ≡ Some (Take t x) → MayTake p t byte → Below first q v → Below second x v)
     (second_is : IsClosed p (10 ∷ 0 ∷ []) 1 second)
     (third_exit : (v : ℕ) → Below second exit v → Below third exit v)
     (third_read : (q v : ℕ) (t : Test) (x : ℕ) → slice_get p q ≡ Some (Take t x) → MayTake p t None → Below second q v → Below third x v)
-    (third_is : IsClosed p (10 ∷ 0 ∷ []) 1 third) (row : Row)
-    (second_table : IsTable p exit second row.second.items) (third_table : IsTable p exit third row.third.items) where
-  module _ (area : List ℕ) (i n j : ℕ) (behind : 0 < i) (before : i + 2 < length area) (byte_is : (b : ℕ) → byte ≡ Some b → slice_index area i ≡ b)
+    (third_is : IsClosed p (10 ∷ 0 ∷ []) 1 third)
+    (fourth_exit : (v : ℕ) → Below third exit v → Below fourth exit v)
+    (fourth_read : (q v : ℕ) (t : Test) (x : ℕ) → slice_get p q ≡ Some (Take t x) → MayTake p t None → Below third q v → Below fourth x v)
+    (fourth_is : IsClosed p (10 ∷ 0 ∷ []) 1 fourth) (row : Row)
+    (second_table : IsTable p exit second row.second.items) (third_table : IsTable p exit third row.third.items) (fourth_table : IsTable p exit fourth row.fourth.items) where
+  module _ (area : List ℕ) (i n j : ℕ) (behind : 0 < i) (before : i + 3 < length area) (byte_is : (b : ℕ) → byte ≡ Some b → slice_index area i ≡ b)
       (run : Run p area exit j n entry i) where
     here : i < length area
     here = omega (arith, before)
@@ -193,11 +196,30 @@ module _ (p : List Step) (entry exit : ℕ) (byte : Option ℕ) (first second th
         on.count on.next j 0 on.run (third_read on.state 0 (on.reading).test on.next (on.reading).is tt on.below))
         step_next
 
+    -- the same of the place behind
+    step_third : Below third exit 0 ⊎ GoesOnBy p area exit (i + 1 + 1) j 0 third
+    step_third = ⊎_elim
+        (λ ended. inl (third_exit 0 ended))
+        (λ on. first_read p area exit (i + 1 + 1) third (line_closed area (i + 1 + 1) (omega arith) (omega (arith, before)) p third third_is)
+        on.count on.next j 0 on.run (third_read on.state 0 (on.reading).test on.next (on.reading).is tt on.below))
+        step_next
+
+    no_fourth : Lacks row.fourth.items (slice_index area (i + 1 + 1 + 1)) → ⊥
+    no_fourth lacks = ⊎_elim
+        (λ ended. (fourth_table (slice_index area (i + 1 + 1 + 1)) 0 lacks).1 (fourth_exit 0 ended))
+        (λ on. none_here p area exit (i + 1 + 1 + 1) fourth (line_closed area (i + 1 + 1 + 1) (omega arith) (omega (arith, before)) p fourth fourth_is) row.fourth.items fourth_table
+        lacks (omega (arith, before)) on.count on.next j 0 on.run (fourth_read on.state 0 (on.reading).test on.next (on.reading).is tt on.below))
+        step_third
+
   pub row_is : IsRow p entry exit byte row
   row_is area i n j behind before byte_is lacks run = ⊎_elim
       (λ two. no_second area i n j behind before byte_is run two)
+      (λ more. ⊎_elim
       (λ three. no_third area i n j behind before byte_is run
-      (let two : i + 2 ≡ i + 1 + 1 = omega arith in subst (λ k. Lacks row.third.items (slice_index area k)) two three))
+      (let same : i + 2 ≡ i + 1 + 1 = omega arith in subst (λ k. Lacks row.third.items (slice_index area k)) same three))
+      (λ four. no_fourth area i n j behind before byte_is run
+      (let same : i + 3 ≡ i + 1 + 1 + 1 = omega arith in subst (λ k. Lacks row.fourth.items (slice_index area k)) same four))
+      more)
       lacks
 
 -- the tables of these two lists of labels, with rows

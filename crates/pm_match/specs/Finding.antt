@@ -1,11 +1,11 @@
 -- Which match is found, where the expression has a cut.
-use Rattle.std.specs.Prelude.{◌≡◌, ℕ, Bool, zero, suc, ◌+◌, ◌<◌, ◌≤◌, ◌⊎◌, List, length, Option, Some, None}
+use Rattle.std.specs.Prelude.{◌≡◌, ℕ, Bool, true, false, zero, suc, ◌+◌, ◌<◌, ◌≤◌, ◌⊎◌, List, length, Option, Some, None}
 use Rattle.pm_match.specs.declared.step.Step.{Step}
 use Rattle.pm_match.specs.declared.labels.Label.{Label}
 use Rattle.pm_match.specs.declared.find.Match.{Match}
 use Rattle.pm_regex.specs.Re.{Re}
 use Rattle.pm_match.specs.Matching.{At}
-use Rattle.pm_match.specs.Automaton.{Edge}
+use Rattle.pm_match.specs.Automaton.{Edge, Run}
 use Rattle.pm_match.specs.Labels.{rank, Below, Hops, KeepsBelow, IsClosed}
 
 -- the left part matches from s to c, and the right part from c to j
@@ -54,24 +54,25 @@ pub record Arrives (p : List Step) (area : List ℕ) (entry : ℕ) (Seed : ℕ �
   pub next : from + 1 ≡ i
   pub edge : Edge p area state from q i
 
--- the labels are those of all runs that lead here
-pub record IsHeld (p : List Step) (area : List ℕ) (entry : ℕ) (Seed : ℕ → Label → Type 0) (i : ℕ) (labels : List (Option Label)) : Type 0 where
-  pub sound : (q v : ℕ) → Below labels q v → Held p area entry Seed i q v
-  pub whole : (q v : ℕ) → Held p area entry Seed i q v → Below labels q v
+-- the labels are those of runs that lead here from what may be a seed, and all are there from what has to be one
+pub record IsHeld (p : List Step) (area : List ℕ) (entry : ℕ) (Seed : Bool → ℕ → Label → Type 0) (i : ℕ) (labels : List (Option Label)) : Type 0 where
+  pub sound : (q v : ℕ) → Below labels q v → Held p area entry (Seed false) i q v
+  pub whole : (q v : ℕ) → Held p area entry (Seed true) i q v → Below labels q v
 
 -- the labels are those of runs that lead here, and all runs are there that a last edge led here by a byte
-pub record IsArrived (p : List Step) (area : List ℕ) (entry : ℕ) (Seed : ℕ → Label → Type 0) (i : ℕ) (labels : List (Option Label)) : Type 0 where
-  pub sound : (q v : ℕ) → Below labels q v → Held p area entry Seed i q v
-  pub whole : (q v : ℕ) → Arrives p area entry Seed i q v → Below labels q v
+pub record IsArrived (p : List Step) (area : List ℕ) (entry : ℕ) (Seed : Bool → ℕ → Label → Type 0) (i : ℕ) (labels : List (Option Label)) : Type 0 where
+  pub sound : (q v : ℕ) → Below labels q v → Held p area entry (Seed false) i q v
+  pub whole : (q v : ℕ) → Arrives p area entry (Seed true) i q v → Below labels q v
   pub closed : IsClosed p area i labels
 
--- a run of the left part begins at each place
-abbrev pub LeftSeed : ℕ → ℕ → Label → Type 0
-LeftSeed from c w = (from ≤ c) × (w.start ≡ c) × (w.cut ≡ 0)
+-- A run of the left part may begin at each place. The flag says that it has to: where a run leads from there to the end.
+abbrev pub LeftSeed : List Step → List ℕ → ℕ → ℕ → ℕ → Bool → ℕ → Label → Type 0
+LeftSeed p area entry exit from false c w = (from ≤ c) × (w.start ≡ c) × (w.cut ≡ 0)
+LeftSeed p area entry exit from true c w = (from ≤ c) × (w.start ≡ c) × (w.cut ≡ 0) × (n : ℕ) × (j : ℕ) × Run p area exit j n entry c
 
 -- a run of the right part begins where one of the left part ends
-abbrev pub RightSeed : List Step → List ℕ → ℕ → ℕ → ℕ → ℕ → Label → Type 0
-RightSeed p area entry exit from c w = (n : ℕ) × (from ≤ w.start) × Reach p area entry w.start n exit c × (w.cut ≡ c)
+abbrev pub RightSeed : List Step → List ℕ → ℕ → ℕ → ℕ → Bool → ℕ → Label → Type 0
+RightSeed p area entry exit from sure c w = (n : ℕ) × (from ≤ w.start) × Reach p area entry w.start n exit c × (w.cut ≡ c)
 
 -- what the right part begins with, where the left part has this label at its end
 abbrev pub right_seed : Option Label → ℕ → Option Label

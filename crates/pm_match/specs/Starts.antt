@@ -28,13 +28,14 @@ abbrev pub MayTake : List Step → Test → Option ℕ → Type 0
 MayTake p t None = Unit {0}
 MayTake p t (Some b) = takes p t b ≡ true
 
--- the row says no to one of the two bytes behind place i
+-- the row says no to one of the three bytes behind place i
 abbrev pub RowLacks : Row → List ℕ → ℕ → Type 0
 RowLacks row area i = Lacks row.second.items (slice_index area (i + 1)) ⊎ Lacks row.third.items (slice_index area (i + 2))
+    ⊎ Lacks row.fourth.items (slice_index area (i + 3))
 
 -- the row says no only where no run from the entry to the end begins with the byte, or with any where none is given
 abbrev pub IsRow : List Step → ℕ → ℕ → Option ℕ → Row → Type 0
-IsRow p entry exit byte row = (area : List ℕ) (i n j : ℕ) → 0 < i → i + 2 < length area → ((b : ℕ) → byte ≡ Some b → slice_index area i ≡ b) →
+IsRow p entry exit byte row = (area : List ℕ) (i n j : ℕ) → 0 < i → i + 3 < length area → ((b : ℕ) → byte ≡ Some b → slice_index area i ≡ b) →
     RowLacks row area i → Run p area exit j n entry i → ⊥
 
 -- each row is one of its byte
@@ -44,7 +45,7 @@ AreRows p entry exit rows = (b : ℕ) (row : Row) → slice_get rows b ≡ Some 
 -- the tables say no to place i
 pub record Excluded (s : Starts) (area : List ℕ) (i : ℕ) : Type 0 where
   pub behind : 0 < i
-  pub before : i + 2 < length area
+  pub before : i + 3 < length area
   pub lacks : Lacks s.first.items (slice_index area i) ⊎ RowLacks s.any area i
       ⊎ ((row : Row) × (slice_get s.rows.items (slice_index area i) ≡ Some (Some row)) × RowLacks row area i)
       ⊎ ((slice_index area (i - 1) ≢ 10) × Lacks s.inner.items (slice_index area i))

@@ -1,16 +1,16 @@
 //! The search for the first match, in one pass.
-ghost use Rattle.std.specs.Prelude.{◌≡◌, ℕ, Bool, ◌+◌, ◌^◌, ◌*◌, IsTrue, ◌<◌, ◌≤◌, ◌⊎◌, length, vec_len, slice_get, Some, None, Option};
+ghost use Rattle.std.specs.Prelude.{◌≡◌, ℕ, Bool, ◌+◌, ◌^◌, ◌*◌, IsTrue, IfSome, ◌<◌, ◌≤◌, ◌⊎◌, length, vec_len, slice_get, Some, None, Option};
 ghost use Rattle.pm_regex.specs.Re.{Re};
 ghost use Rattle.pm_match.specs.Automaton.{Built};
 ghost use Rattle.pm_match.specs.Labels.{rank, NoneBefore, Below, InRange, IsClosed};
 ghost use Rattle.pm_match.specs.Finding.{IsBestBefore, IsFirst, IsHeld, IsArrived, LeftSeed, RightSeed, Opens, right_seed};
-ghost use Rattle.pm_match.specs.Starts.{AreStarts};
+ghost use Rattle.pm_match.specs.Starts.{HaveAllBytes, IsExcluded, AreStarts};
 
 use crate::advancing::advance;
 use crate::build::Program;
 use crate::closing::reach;
 use crate::labels::{Label, Labels, clear, none_before, none_through};
-use crate::starts::{Starts, go_on};
+use crate::starts::{Starts, go_on, is_ruled_out};
 use crate::step::Step;
 use std::mem;
 
@@ -71,6 +71,7 @@ fn open(program: &Program, labels: &mut Labels, area: &[u8], place: usize, seed:
 
 /// Begins runs of both parts here, and gives the label with which the right part ends here.
 fn visit(
+    starts: &Option<Starts>,
     left: &Program,
     right: &Program,
     left_labels: &mut Labels,
@@ -79,6 +80,7 @@ fn visit(
     from: usize,
     place: usize,
 ) -> Option<Label>
+    requires starts { AreStarts left.now.steps.items left.now.entry left.now.exit starts.now }
     requires left_range { InRange left.now.steps.items }
     requires left_len { vec_len left_labels.old.of ≡ length left.now.steps.items }
     requires left_entry { left.now.entry < vec_len left_labels.old.of }
@@ -89,29 +91,38 @@ fn visit(
     requires right_exit { right.now.exit < vec_len right_labels.old.of }
     requires from { from ≤ place }
     requires place { place ≤ length area.now }
-    requires left_arrived { IsArrived left.now.steps.items area.now left.now.entry (LeftSeed from) place left_labels.old.of.items }
+    requires left_arrived { IsArrived left.now.steps.items area.now left.now.entry (LeftSeed left.now.steps.items area.now left.now.entry left.now.exit from) place left_labels.old.of.items }
     requires right_arrived { IsArrived right.now.steps.items area.now right.now.entry
         (RightSeed left.now.steps.items area.now left.now.entry left.now.exit from) place right_labels.old.of.items }
-    ensures left_held { IsHeld left.now.steps.items area.now left.now.entry (LeftSeed from) place left_labels.new.of.items }
+    ensures left_held { IsHeld left.now.steps.items area.now left.now.entry (LeftSeed left.now.steps.items area.now left.now.entry left.now.exit from) place left_labels.new.of.items }
     ensures right_held { IsHeld right.now.steps.items area.now right.now.entry
         (RightSeed left.now.steps.items area.now left.now.entry left.now.exit from) place right_labels.new.of.items }
     ensures left_kept { vec_len left_labels.new.of ≡ vec_len left_labels.old.of }
     ensures right_kept { vec_len right_labels.new.of ≡ vec_len right_labels.old.of }
     ensures met { slice_get right_labels.new.of.items right.now.exit ≡ Some result }
 {
-    open(
-        left,
-        left_labels,
-        area,
-        place,
-        Some(Label {
-            start: place,
-            cut: 0,
-        }),
-    );
+    let begin = left_seed(starts, area, place);
+    open(left, left_labels, area, place, begin);
     let seed = seed_of(left_labels.of[left.exit], place);
     open(right, right_labels, area, place, seed);
     right_labels.of[right.exit]
+}
+
+/// The label with which the left part begins, if the tables allow that here.
+fn left_seed(starts: &Option<Starts>, area: &[u8], place: usize) -> Option<Label>
+    requires tables { IfSome starts.now HaveAllBytes }
+    requires place { place ≤ length area.now }
+    ensures some { (u : Label) → result ≡ Some u → u ≡ record { start = place; cut = 0 } }
+    ensures none { result ≡ None → IsExcluded starts.now area.now place }
+{
+    if is_ruled_out(starts, area, place) {
+        None
+    } else {
+        Some(Label {
+            start: place,
+            cut: 0,
+        })
+    }
 }
 
 /// The label with which the right part begins.
@@ -188,7 +199,16 @@ pub fn find(
     clear(left_labels);
     clear(right_labels);
     while place < area.len() {
-        let met = visit(left, right, left_labels, right_labels, area, base, place);
+        let met = visit(
+            starts,
+            left,
+            right,
+            left_labels,
+            right_labels,
+            area,
+            base,
+            place,
+        );
         best = better(best, met, place);
         if is_final(best, left_labels, right_labels) {
             return best;
@@ -210,6 +230,7 @@ pub fn find(
         place = on.place;
     }
     let met = visit(
+        starts,
         left,
         right,
         left_labels,

@@ -34,17 +34,19 @@ fn lacks(table: &Vec<bool>, byte: u8) -> bool
     !table[byte as usize]
 }
 
-/// Whether the row says no to the two bytes behind a place.
+/// Whether the row says no to one of the three bytes behind a place.
 fn row_lacks(row: &Row, area: &[u8], place: usize) -> bool
-    requires { place + 2 < length area.now }
+    requires { place + 3 < length area.now }
     ensures { IsTrue result → RowLacks row.now area.now place }
 {
-    lacks(&row.second, area[place + 1]) || lacks(&row.third, area[place + 2])
+    lacks(&row.second, area[place + 1])
+        || lacks(&row.third, area[place + 2])
+        || lacks(&row.fourth, area[place + 3])
 }
 
 /// Whether there is a row for the byte at a place, and it says no.
 fn own_row_lacks(starts: &Starts, area: &[u8], place: usize) -> bool
-    requires { place + 2 < length area.now }
+    requires { place + 3 < length area.now }
     ensures { IsTrue result → (row : Row) × (slice_get starts.now.rows.items (slice_index area.now place) ≡ Some (Some row)) × RowLacks row area.now place }
 {
     let byte = area[place] as usize;
@@ -61,7 +63,7 @@ fn own_row_lacks(starts: &Starts, area: &[u8], place: usize) -> bool
 fn is_excluded(starts: &Starts, area: &[u8], place: usize) -> bool
     requires tables { HaveAllBytes starts.now }
     requires behind { 0 < place }
-    requires before { place + 2 < length area.now }
+    requires before { place + 3 < length area.now }
     ensures { IsTrue result → Excluded starts.now area.now place }
 {
     if lacks(&starts.first, area[place]) {
@@ -76,6 +78,18 @@ fn is_excluded(starts: &Starts, area: &[u8], place: usize) -> bool
     area[place - 1] != b'\n' && lacks(&starts.inner, area[place])
 }
 
+/// Whether there are tables, and they say no to a place.
+pub fn is_ruled_out(starts: &Option<Starts>, area: &[u8], place: usize) -> bool
+    requires tables { IfSome starts.now HaveAllBytes }
+    requires place { place ≤ length area.now }
+    ensures { IsTrue result → IsExcluded starts.now area.now place }
+{
+    match starts {
+        None => false,
+        Some(tables) => { place > 0 && area.len() - place > 3 && is_excluded(tables, area, place) }
+    }
+}
+
 /// The next place to which the tables don't say no.
 fn next_place(starts: &Starts, area: &[u8], from: usize) -> usize
     requires tables { HaveAllBytes starts.now }
@@ -84,10 +98,10 @@ fn next_place(starts: &Starts, area: &[u8], from: usize) -> usize
     ensures within { result ≤ length area.now }
     ensures excluded { (i : ℕ) → from ≤ i → i < result → Excluded starts.now area.now i }
 {
-    if from == 0 || area.len() < 2 {
+    if from == 0 || area.len() < 3 {
         return from;
     }
-    let last = area.len() - 2;
+    let last = area.len() - 3;
     let mut place = from;
     while place < last {
         if !is_excluded(starts, area, place) {

@@ -223,7 +223,7 @@ fn reached_behind(
     Ok(next)
 }
 
-/// The tables of the second and the third byte behind this one, or behind any where none is given.
+/// The tables of the second to the fourth byte behind this one, or behind any where none is given.
 fn row_of(
     alloc: Global,
     steps: &[Step],
@@ -241,9 +241,15 @@ fn row_of(
 {
     let second_labels = reached_behind(alloc, steps, first, exit, &[10, 0], byte)?;
     let third_labels = reached_behind(alloc, steps, &second_labels, exit, &[10, 0], None)?;
+    let fourth_labels = reached_behind(alloc, steps, &third_labels, exit, &[10, 0], None)?;
     let second = table_of(alloc, steps, &second_labels, exit)?;
     let third = table_of(alloc, steps, &third_labels, exit)?;
-    Ok(Row { second, third })
+    let fourth = table_of(alloc, steps, &fourth_labels, exit)?;
+    Ok(Row {
+        second,
+        third,
+        fourth,
+    })
 }
 
 /// The row of a byte that a match can begin with, and none for another.

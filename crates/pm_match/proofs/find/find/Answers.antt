@@ -16,8 +16,8 @@ loop-place-init c = record {
   after = omega arith;
   ordered = omega arith;
   within = c.requires.from;
-  left_arrived = arrived_first c.args.left.now.steps.items c.args.area.now c.args.left.now.entry (LeftSeed c.args.from) c.args.from
-      (λ k w h. left_late c.args.from k w h) c.clear.new.labels.of.items c.clear.ensures.none;
+  left_arrived = arrived_first c.args.left.now.steps.items c.args.area.now c.args.left.now.entry (LeftSeed c.args.left.now.steps.items c.args.area.now c.args.left.now.entry c.args.left.now.exit c.args.from) c.args.from
+      (λ k w h. left_late c.args.left.now.steps.items c.args.area.now c.args.left.now.entry c.args.left.now.exit c.args.from k w h) c.clear.new.labels.of.items c.clear.ensures.none;
   right_arrived = arrived_first c.args.right.now.steps.items c.args.area.now c.args.right.now.entry
       (RightSeed c.args.left.now.steps.items c.args.area.now c.args.left.now.entry c.args.left.now.exit c.args.from) c.args.from
       (λ k w h. right_late c.args.left.now.steps.items c.args.area.now c.args.left.now.entry c.args.left.now.exit c.args.from k w h) c.clear-2.new.labels.of.items c.clear-2.ensures.none;
@@ -38,9 +38,9 @@ loop-place-preserved c =
     let ys = c.swap-in-loop-place.new.x.of.items in
     let r = c.go_on-on.result in
     let on : GoesOn c.args.starts.now c.better-best.result xs ys area base (i + 1) r = c.go_on-on.ensures in
-    let left : IsArrived p area c.args.left.now.entry (LeftSeed base) (i + 1) xs =
-    subst (λ v. IsArrived p area c.args.left.now.entry (LeftSeed base) (i + 1) v.of.items) (sym c.swap.ensures.x_after)
-    (arrived_through p c.deref.result.now area c.args.left.now.entry i (LeftSeed base)
+    let left : IsArrived p area c.args.left.now.entry (LeftSeed p area c.args.left.now.entry c.args.left.now.exit base) (i + 1) xs =
+    subst (λ v. IsArrived p area c.args.left.now.entry (LeftSeed p area c.args.left.now.entry c.args.left.now.exit base) (i + 1) v.of.items) (sym c.swap.ensures.x_after)
+    (arrived_through p c.deref.result.now area c.args.left.now.entry i (LeftSeed p area c.args.left.now.entry c.args.left.now.exit base)
     c.visit-met.new.left_labels.of.items c.advance.new.next.of.items c.deref.ensures.value
     c.visit-met.ensures.left_held c.advance.ensures.sound c.advance.ensures.reached c.advance.ensures.closed) in
     let right : IsArrived q area c.args.right.now.entry (RightSeed p area c.args.left.now.entry c.args.left.now.exit base) (i + 1) ys =
@@ -78,7 +78,7 @@ loop-place-preserved c =
 pub visit-met-requires-2-clause-left_arrived : goal.visit-met-requires-2-clause-left_arrived
 visit-met-requires-2-clause-left_arrived c =
     let same : c.loop-place.place ≡ length c.args.area.now = omega arith in
-    subst (λ k. IsArrived c.args.left.now.steps.items c.args.area.now c.args.left.now.entry (LeftSeed c.loop-place.base) k c.loop-place.left_labels.of.items) same c.loop-place.invariant.left_arrived
+    subst (λ k. IsArrived c.args.left.now.steps.items c.args.area.now c.args.left.now.entry (LeftSeed c.args.left.now.steps.items c.args.area.now c.args.left.now.entry c.args.left.now.exit c.loop-place.base) k c.loop-place.left_labels.of.items) same c.loop-place.invariant.left_arrived
 
 pub visit-met-requires-2-clause-right_arrived : goal.visit-met-requires-2-clause-right_arrived
 visit-met-requires-2-clause-right_arrived c =

@@ -15,7 +15,7 @@ invariant-loop-place l = record {
   after : l.from ≤ l.base;
   ordered : l.base ≤ l.place;
   within : l.place ≤ length l.area;
-  left_arrived : IsArrived l.left.steps.items l.area l.left.entry (LeftSeed l.base) l.place l.left_labels.of.items;
+  left_arrived : IsArrived l.left.steps.items l.area l.left.entry (LeftSeed l.left.steps.items l.area l.left.entry l.left.exit l.base) l.place l.left_labels.of.items;
   right_arrived : IsArrived l.right.steps.items l.area l.right.entry (RightSeed l.left.steps.items l.area l.left.entry l.left.exit l.base) l.place l.right_labels.of.items;
   best : (fold : Bool) (x y : Re) → Built fold l.left.steps.items x l.left.entry l.left.exit → slice_get l.left.steps.items l.left.exit ≡ Some Stop
       → Built fold l.right.steps.items y l.right.entry l.right.exit → slice_get l.right.steps.items l.right.exit ≡ Some Stop
