@@ -3,8 +3,6 @@
 #![tactic(auto)]
 
 pub mod drain;
-#[cfg(test)]
-mod tests;
 pub mod top;
 pub mod words;
 
