@@ -1,2 +1,4 @@
-pub mod TopLemmas
-pub mod PromiseLemmas
+pub mod Lent
+pub mod Tracing
+pub mod Promised
+pub mod Refusals

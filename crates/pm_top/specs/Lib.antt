@@ -1,3 +1,6 @@
 pub mod Drain
-pub mod Headline
-pub mod Promises
+pub mod Run
+pub mod Outcome
+pub mod Account
+pub mod Promise
+pub mod Traced

@@ -1,17 +1,22 @@
 //! The whole run of the program, from its words to its exit status.
-ghost use Rattle.std.specs.Prelude.{◌≡◌, []};
+ghost use Rattle.std.specs.Prelude.{◌≡◌, [], IfOk, OnErr};
 ghost use Rattle.pm_journal.specs.Entries.{view_of};
-ghost use Rattle.pm_journal.specs.Held.{AllGivenBack};
+ghost use Rattle.pm_journal.specs.Held.{Keeping};
+ghost use Rattle.pm_journal.specs.Walking.{Completes, Abandoned};
+ghost use Rattle.pm_meaning.specs.Running.{Arrived, step};
 ghost use Rattle.pm_meaning.specs.Status.{status_number, end_status};
-ghost use Rattle.pm_top.specs.Headline.{Outcome, RunsLine, RunsMail, SaysLine, LastLine, status_line};
-ghost use Rattle.pm_top.specs.Promises.{CameToEnd, HasMeaning, HasState, HasDelivered, Accounted, Refuses, LacksMemory};
+ghost use Rattle.pm_meaning.specs.declared.process.Ending.{Ending};
+ghost use Rattle.pm_top.specs.Outcome.{SaysLine, LastLine, status_line};
+ghost use Rattle.pm_top.specs.Promise.{Promise};
+ghost use Rattle.pm_top.specs.Traced.{RunsLine, RunsMail};
 
 use crate::{Mail, read_mail, read_words};
+use pm_acts::Objects;
 use pm_append::write_text;
 use pm_bytes::{Blob, Environ, Memory};
 use pm_host::{Child, Host, Sink, Source};
 use pm_journal::Journal;
-use pm_meaning::{CommandLine, End, Status, status_of};
+use pm_meaning::{CommandLine, End, Ending, Status, status_of};
 use pm_run::run_process;
 use std::alloc::Global;
 
@@ -29,39 +34,16 @@ pub fn procmail<S: Source, H: Host, O: Sink, E: Sink>(
 ) -> u8
     requires empty { journal.old.entries ≡ [] }
     requires no_child { (H.told host.old).child ≡ Child.NoChild }
-    ensures run { Outcome words.now env.now result (S.told source.old) (S.told source.new) journal.old journal.new
-        (view_of (H.told host.old) (O.told out.old) (E.told err.old)) (view_of (H.told host.new) (O.told out.new) (E.told err.new)) }
-    ensures meaning { CameToEnd result → HasMeaning words.now env.now result (S.told source.old) (S.told source.new) journal.new }
-    ensures state { HasState result journal.new
-        (view_of (H.told host.old) (O.told out.old) (E.told err.old)) (view_of (H.told host.new) (O.told out.new) (E.told err.new)) }
-    ensures deliveries { HasDelivered result journal.new
-        (view_of (H.told host.old) (O.told out.old) (E.told err.old)) (view_of (H.told host.new) (O.told out.new) (E.told err.new)) }
-    ensures locks { AllGivenBack journal.new.entries }
-    ensures causes { Accounted result journal.new
-        (view_of (H.told host.old) (O.told out.old) (E.told err.old)) (view_of (H.told host.new) (O.told out.new) (E.told err.new)) }
-    ensures refusals { Refuses words.now result (S.told source.old) (S.told source.new) journal.new
-        (view_of (H.told host.old) (O.told out.old) (E.told err.old)) (view_of (H.told host.new) (O.told out.new) (E.told err.new)) }
-    ensures memory { LacksMemory words.now env.now result (S.told source.old) (S.told source.new) journal.old journal.new
-        (view_of (H.told host.old) (O.told out.old) (E.told err.old)) (view_of (H.told host.new) (O.told out.new) (E.told err.new)) }
-{
-    let status = run_words(alloc, words, env, source, host, out, err, journal);
-    status.number()
-}
-
-fn run_words<S: Source, H: Host, O: Sink, E: Sink>(
-    alloc: Global,
-    words: &[String],
-    env: &Environ,
-    source: &mut S,
-    host: &mut H,
-    out: &O,
-    err: &mut E,
-    journal: &mut Journal,
-) -> Status
-    requires { journal.old.entries ≡ [] }
-    ensures run { Outcome words.now env.now (status_number result) (S.told source.old) (S.told source.new) journal.old journal.new
-        (view_of (H.told host.old) (O.told out.now) (E.told err.old)) (view_of (H.told host.new) (O.told out.now) (E.told err.new)) }
-    ensures locks { AllGivenBack journal.new.entries }
+    ensures promise { Promise (record {
+      words = words.now;
+      env = env.now;
+      status = result;
+      source = S.told source.old;
+      rest = S.told source.new;
+      entries = journal.new.entries;
+      before = view_of (H.told host.old) (O.told out.old) (E.told err.old);
+      after = view_of (H.told host.new) (O.told out.new) (E.told err.new);
+    }) }
 {
     match read_words(alloc, words) {
         Ok(Some(line)) => run_line(alloc, line, env, source, host, out, err, journal),
@@ -76,14 +58,22 @@ fn run_line<S: Source, H: Host, O: Sink, E: Sink>(
     env: &Environ,
     source: &mut S,
     host: &mut H,
-    out: &O,
+    out: &mut O,
     err: &mut E,
     journal: &mut Journal,
-) -> Status
+) -> u8
     requires empty { journal.old.entries ≡ [] }
-    ensures run { RunsLine line env.now result (S.told source.old) (S.told source.new) journal.old journal.new
-        (view_of (H.told host.old) (O.told out.now) (E.told err.old)) (view_of (H.told host.new) (O.told out.now) (E.told err.new)) }
-    ensures locks { AllGivenBack journal.new.entries }
+    ensures run { RunsLine line (λ words. record {
+      words = words;
+      env = env.now;
+      status = result;
+      source = S.told source.old;
+      rest = S.told source.new;
+      entries = journal.new.entries;
+      before = view_of (H.told host.old) (O.told out.old) (E.told err.old);
+      after = view_of (H.told host.new) (O.told out.new) (E.told err.new);
+    }) }
+    ensures keeping { Keeping journal.new [] }
 {
     match read_mail(alloc, source) {
         Ok(Mail::Bytes(bytes)) => run_mail(alloc, line, env, bytes, host, out, err, journal),
@@ -99,39 +89,107 @@ fn run_mail<H: Host, O: Sink, E: Sink>(
     env: &Environ,
     bytes: Blob,
     host: &mut H,
-    out: &O,
+    out: &mut O,
     err: &mut E,
     journal: &mut Journal,
-) -> Status
+) -> u8
     requires empty { journal.old.entries ≡ [] }
-    ensures run { RunsMail line env.now bytes result journal.old journal.new
-        (view_of (H.told host.old) (O.told out.now) (E.told err.old)) (view_of (H.told host.new) (O.told out.now) (E.told err.new)) }
-    ensures locks { AllGivenBack journal.new.entries }
+    ensures run { RunsMail line bytes (λ words source rest. record {
+      words = words;
+      env = env.now;
+      status = result;
+      source = source;
+      rest = rest;
+      entries = journal.new.entries;
+      before = view_of (H.told host.old) (O.told out.old) (E.told err.old);
+      after = view_of (H.told host.new) (O.told out.new) (E.told err.new);
+    }) }
+    ensures keeping { Keeping journal.new [] }
 {
-    match run_process(alloc, line, env, bytes, host, out, err, journal) {
-        Ok(end) => finish(err, end),
+    match run_lent(alloc, line, env, bytes, host, out, err, journal) {
+        Ok(ending) => finish(err, ending),
         Err(Memory) => refuse(err, Status::SystemError),
     }
 }
 
-// The status of a process that ended so; a mail filter without its rcfile says so.
-fn finish<E: Sink>(err: &mut E, end: End) -> Status
-    ensures status { result ≡ end_status end }
-    ensures last { LastLine end (E.told err.old) (E.told err.new) }
+// The process, over objects that are lent to it.
+fn run_lent<H: Host, O: Sink, E: Sink>(
+    alloc: Global,
+    line: CommandLine,
+    env: &Environ,
+    bytes: Blob,
+    host: &mut H,
+    out: &mut O,
+    err: &mut E,
+    journal: &mut Journal,
+) -> Result<Ending, Memory>
+    requires keeping { Keeping journal.old [] }
+    ensures ok { IfOk result (λ ending. Completes step (Arrived line env.now bytes) ending journal.old journal.new
+        (view_of (H.told host.old) (O.told out.old) (E.told err.old))
+        (view_of (H.told host.new) (O.told out.new) (E.told err.new))) }
+    ensures memory { OnErr result (Abandoned {X = Ending} step (Arrived line env.now bytes) journal.old journal.new
+        (view_of (H.told host.old) (O.told out.old) (E.told err.old))
+        (view_of (H.told host.new) (O.told out.new) (E.told err.new))) }
+    ensures keeping { Keeping journal.new [] }
 {
-    match end {
+    let mut objects = lend(host, out, err);
+    run_objects(alloc, line, env, bytes, &mut objects, journal)
+}
+
+fn lend<'a, H: Host, O: Sink, E: Sink>(
+    host: &'a mut H,
+    out: &'a mut O,
+    err: &'a mut E,
+) -> Objects<'a, H, O, E>
+    ensures host { (result.host.ghost_name ≡ host.entry.ghost_name) × (result.host.now ≡ host.old) }
+    ensures out { (result.out.ghost_name ≡ out.entry.ghost_name) × (result.out.now ≡ out.old) }
+    ensures err { (result.err.ghost_name ≡ err.entry.ghost_name) × (result.err.now ≡ err.old) }
+{
+    Objects { host, out, err }
+}
+
+// The process, after which the objects are the same ones.
+fn run_objects<'a, H: Host, O: Sink, E: Sink>(
+    alloc: Global,
+    line: CommandLine,
+    env: &Environ,
+    bytes: Blob,
+    objects: &mut Objects<'a, H, O, E>,
+    journal: &mut Journal,
+) -> Result<Ending, Memory>
+    requires keeping { Keeping journal.old [] }
+    ensures ok { IfOk result (λ ending. Completes step (Arrived line env.now bytes) ending journal.old journal.new
+        (view_of (H.told objects.old.host.now) (O.told objects.old.out.now) (E.told objects.old.err.now))
+        (view_of (H.told objects.new.host.now) (O.told objects.new.out.now) (E.told objects.new.err.now))) }
+    ensures memory { OnErr result (Abandoned {X = Ending} step (Arrived line env.now bytes) journal.old journal.new
+        (view_of (H.told objects.old.host.now) (O.told objects.old.out.now) (E.told objects.old.err.now))
+        (view_of (H.told objects.new.host.now) (O.told objects.new.out.now) (E.told objects.new.err.now))) }
+    ensures keeping { Keeping journal.new [] }
+    ensures host { objects.new.host.ghost_name ≡ objects.old.host.ghost_name }
+    ensures out { objects.new.out.ghost_name ≡ objects.old.out.ghost_name }
+    ensures err { objects.new.err.ghost_name ≡ objects.old.err.ghost_name }
+{
+    run_process(alloc, line, env, bytes, objects, journal)
+}
+
+// The status of a run that ended so; a mail filter without its rcfile says so.
+fn finish<E: Sink>(err: &mut E, ending: Ending) -> u8
+    ensures status { result ≡ status_number (end_status ending.end) }
+    ensures last { LastLine ending.end (E.told err.old) (E.told err.new) }
+{
+    match ending.end {
         End::NoRc => refuse(err, Status::NoInput),
-        other => status_of(other),
+        other => status_of(other).number(),
     }
 }
 
-/// Says the line of this status, if it has one, and answers the status. It takes no memory.
-pub fn refuse<E: Sink>(err: &mut E, status: Status) -> Status
-    ensures same { result ≡ status }
+/// Says the line of this status, if it has one, and answers its number. It takes no memory.
+pub fn refuse<E: Sink>(err: &mut E, status: Status) -> u8
+    ensures same { result ≡ status_number status }
     ensures said { SaysLine (status_line status) (E.told err.old) (E.told err.new) }
 {
     write_text(err, line_of(status));
-    status
+    status.number()
 }
 
 fn line_of(status: Status) -> &'static [u8]

@@ -25,10 +25,10 @@ fn run(rt: &HostRuntime, err: &mut RealSink<Stderr>) -> u8 {
     match read_words(rt.alloc(), rt) {
         Words::Read(words) => match deliver(rt, words.as_slice(), err) {
             Ok(status) => status,
-            Err(Memory) => refuse(err, Status::SystemError).number(),
+            Err(Memory) => refuse(err, Status::SystemError),
         },
-        Words::NoText => refuse(err, Status::Usage).number(),
-        Words::Memory => refuse(err, Status::SystemError).number(),
+        Words::NoText => refuse(err, Status::Usage),
+        Words::Memory => refuse(err, Status::SystemError),
     }
 }
 

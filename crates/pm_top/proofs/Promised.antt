@@ -1,0 +1,117 @@
+-- The promise, from how a run went and the account of it.
+use Rattle.std.proofs.Common.{◌≡◌, List, ℕ, [], ◌∷◌, ◌++◌, refl, sym, ap, ◌∙◌, subst, append_assoc}
+use Rattle.pm_host.specs.Told.{HostView, Tells, Adds}
+use Rattle.pm_host.specs.Runs.{Ran, Steps, after_calls, child_after}
+use Rattle.pm_host.specs.declared.answers.Child.{Child}
+use Rattle.pm_host.specs.declared.answers.Child.TheVariants.{NoChild}
+use Rattle.pm_host.specs.declared.calls.Logged.{Logged}
+use Rattle.pm_host.proofs.RunsJoin.{tells_then, ran_join}
+use Rattle.pm_journal.specs.JournalState.{JournalState}
+use Rattle.pm_journal.specs.Entries.{View, counts_of, view_of, Honest, joined, after_entries, said_by, all_said, written_by, all_written, Frame, AllCovered}
+use Rattle.pm_journal.specs.Held.{Keeping, AllGivenBack}
+use Rattle.pm_journal.specs.declared.acts.Entry.{Entry}
+use Rattle.pm_journal.proofs.AccountsJoin.{honest_join, accounts_effect}
+use Rattle.pm_journal.proofs.DeliveriesHold.{accounts_deliver}
+use Rattle.pm_journal.proofs.KeepsJoin.{all_given_back}
+use Rattle.pm_top.specs.Run.{Run}
+use Rattle.pm_top.specs.Outcome.{Outcome, bad_words, read_fault, too_long, not_begun, left_off, meant}
+use Rattle.pm_top.specs.Account.{done_in, calls_in, given_in, Account}
+use Rattle.pm_top.specs.Promise.{IsFramed, Promise}
+use Rattle.pm_top.specs.Traced.{Traced}
+use Rattle.pm_top.proofs.Refusals.{meaning_of, starved_of, refuses_of}
+
+all_said-append : (es fs : List Entry) → all_said (es ++ fs) ≡ all_said es ++ all_said fs
+all_said-append [] fs = refl
+all_said-append (e ∷ es) fs = ap (λ l. said_by e.act e.reply ++ l) (all_said-append es fs) ∙ sym (append_assoc (said_by e.act e.reply) (all_said es) (all_said fs))
+
+all_written-append : (es fs : List Entry) → all_written (es ++ fs) ≡ all_written es ++ all_written fs
+all_written-append [] fs = refl
+all_written-append (e ∷ es) fs = ap (λ l. written_by e.act e.reply ++ l) (all_written-append es fs) ∙ sym (append_assoc (written_by e.act e.reply) (all_written es) (all_written fs))
+
+covered_join : (es fs : List Entry) → AllCovered es → AllCovered fs → AllCovered (es ++ fs)
+covered_join [] fs h k = k
+covered_join (e ∷ es) fs h k = (h.0, covered_join es fs h.1 k)
+
+adds_then : (p q x y z : List ℕ) → Adds p x y → Adds q y z → Adds (p ++ q) x z
+adds_then p q x y z h k = k ∙ ap (λ l. l ++ q) h ∙ append_assoc x p q
+
+-- what the run did with its host, in one
+ran_in : (run : Run) (how : Outcome run) (a : Account run how) → Ran (joined a.accounts.groups ++ calls_in run how ++ joined a.back.groups) run.before.host run.after.host
+ran_in run how a =
+    let first = ran_join (joined a.accounts.groups) (calls_in run how) run.before.host a.middle.host a.later.host a.accounts.ran a.took.ran in
+    let whole = ran_join (joined a.accounts.groups ++ calls_in run how) (joined a.back.groups) run.before.host a.later.host a.last.host first a.back.ran in
+    subst (λ v. Ran (joined a.accounts.groups ++ calls_in run how ++ joined a.back.groups) run.before.host v) (sym a.host_same) whole
+
+tree_in : (run : Run) (how : Outcome run) (a : Account run how)
+    → Tells (λ old new. new ≡ after_entries (given_in run how) a.back.groups (after_calls (calls_in run how) (after_entries (done_in run how) a.accounts.groups old))) run.before.host.world run.after.host.world
+tree_in run how a =
+    let first = tells_then (λ w v. v ≡ after_entries (done_in run how) a.accounts.groups w) (Steps (calls_in run how)) (λ w v. v ≡ after_calls (calls_in run how) (after_entries (done_in run how) a.accounts.groups w))
+    (λ u v w f s. s.made ∙ ap (after_calls (calls_in run how)) f) run.before.host.world a.middle.host.world a.later.host.world (accounts_effect (done_in run how) run.before a.middle a.accounts) a.took.ran.world in
+    let whole = tells_then (λ w v. v ≡ after_calls (calls_in run how) (after_entries (done_in run how) a.accounts.groups w)) (λ w v. v ≡ after_entries (given_in run how) a.back.groups w)
+    (λ w v. v ≡ after_entries (given_in run how) a.back.groups (after_calls (calls_in run how) (after_entries (done_in run how) a.accounts.groups w)))
+    (λ u v w f s. s ∙ ap (after_entries (given_in run how) a.back.groups) f) run.before.host.world a.later.host.world a.last.host.world first (accounts_effect (given_in run how) a.later a.last a.back) in
+    subst (λ o. Tells (λ w v. v ≡ after_entries (given_in run how) a.back.groups (after_calls (calls_in run how) (after_entries (done_in run how) a.accounts.groups w))) run.before.host.world o) (ap (λ h. h.world) (sym a.host_same)) whole
+
+written_in : (run : Run) (how : Outcome run) (a : Account run how) → Tells (Adds (all_written run.entries)) run.before.out.bytes run.after.out.bytes
+written_in run how a =
+    let same : all_written run.entries ≡ all_written (done_in run how) ++ all_written (given_in run how) = ap all_written a.entries_are ∙ all_written-append (done_in run how) (given_in run how) in
+    let next : Tells (Adds (all_written (given_in run how))) a.middle.out.bytes run.after.out.bytes =
+    subst (λ v. Tells (Adds (all_written (given_in run how))) a.middle.out.bytes v.bytes) (sym a.out_same) (subst (λ v. Tells (Adds (all_written (given_in run how))) v.bytes a.last.out.bytes) a.took.out_same a.back.written) in
+    subst (λ l. Tells (Adds l) run.before.out.bytes run.after.out.bytes) (sym same)
+    (tells_then (Adds (all_written (done_in run how))) (Adds (all_written (given_in run how))) (Adds (all_written (done_in run how) ++ all_written (given_in run how))) (adds_then (all_written (done_in run how)) (all_written (given_in run how)))
+    run.before.out.bytes a.middle.out.bytes run.after.out.bytes a.accounts.written next)
+
+said_in : (run : Run) (how : Outcome run) (a : Account run how) → Tells (Adds (all_said run.entries)) run.before.err.bytes a.last.err.bytes
+said_in run how a =
+    let same : all_said run.entries ≡ all_said (done_in run how) ++ all_said (given_in run how) = ap all_said a.entries_are ∙ all_said-append (done_in run how) (given_in run how) in
+    let next : Tells (Adds (all_said (given_in run how))) a.middle.err.bytes a.last.err.bytes = subst (λ v. Tells (Adds (all_said (given_in run how))) v.bytes a.last.err.bytes) a.took.err_same a.back.said in
+    subst (λ l. Tells (Adds l) run.before.err.bytes a.last.err.bytes) (sym same)
+    (tells_then (Adds (all_said (done_in run how))) (Adds (all_said (given_in run how))) (Adds (all_said (done_in run how) ++ all_said (given_in run how))) (adds_then (all_said (done_in run how)) (all_said (given_in run how)))
+    run.before.err.bytes a.middle.err.bytes a.last.err.bytes a.accounts.said next)
+
+-- a frame up to a view that differs from the last only in name
+frame_at : (es : List Entry) (a v w : View) (h : HostView) (run : Run) → Frame es (counts_of a) (counts_of v) → w ≡ v → run.after.host ≡ w.host → run.after.out ≡ w.out
+    → Frame es (counts_of a) (counts_of (view_of run.after.host run.after.out w.err))
+frame_at es a v w h run f e hs os =
+    subst (λ o. Frame es (counts_of a) (counts_of (view_of run.after.host o w.err))) (sym os)
+    (subst (λ o. Frame es (counts_of a) (counts_of (view_of o w.out w.err))) (sym hs) (subst (λ u. Frame es (counts_of a) (counts_of u)) (sym e) f))
+
+framed_in : (run : Run) (how : Outcome run) (a : Account run how) → IsFramed run how a
+framed_in run (bad_words h) a = frame_at run.entries run.before a.middle a.last a.last.host run a.accounts.framed a.stops a.host_same a.out_same
+framed_in run (read_fault h) a = frame_at run.entries run.before a.middle a.last a.last.host run a.accounts.framed a.stops a.host_same a.out_same
+framed_in run (too_long h) a = frame_at run.entries run.before a.middle a.last a.last.host run a.accounts.framed a.stops a.host_same a.out_same
+framed_in run (not_begun h) a = frame_at run.entries run.before a.middle a.last a.last.host run a.accounts.framed a.stops a.host_same a.out_same
+framed_in run (left_off h) a = (a.accounts.framed, frame_at h.given a.later a.last a.last a.last.host run a.back.framed refl a.host_same a.out_same)
+framed_in run (meant h) a = frame_at run.entries run.before a.middle a.last a.last.host run a.accounts.framed a.stops a.host_same a.out_same
+
+-- no call leaves a child behind
+child_same : (cs : List Logged) (child : Child) → child_after cs child ≡ child
+child_same [] child = refl
+child_same (c ∷ cs) child = child_same cs child
+
+promised : (run : Run) → Traced run → AllGivenBack run.entries → run.before.host.child ≡ NoChild → Promise run
+promised run t locks child = let a = t.account in record {
+  how = t.how;
+  account = a;
+  meaning = meaning_of run t.how;
+  state = record { tree = tree_in run t.how a; written = written_in run t.how a; said = said_in run t.how a };
+  deliveries = accounts_deliver (done_in run t.how) run.before a.middle a.accounts;
+  locks = locks;
+  causes = record {
+    honest = subst (λ l. Honest l (a.accounts.groups ++ a.back.groups)) (sym a.entries_are) (honest_join (done_in run t.how) (given_in run t.how) a.accounts.groups a.back.groups a.accounts.honest a.back.honest);
+    ran = ran_in run t.how a;
+    framed = framed_in run t.how a;
+    covered = subst AllCovered (sym a.entries_are) (covered_join (done_in run t.how) (given_in run t.how) a.accounts.covered a.back.covered);
+  };
+  refusals = refuses_of run t.how;
+  memory = starved_of run t.how;
+  children = (ran_in run t.how a).child ∙ (child_same (joined a.accounts.groups ++ calls_in run t.how ++ joined a.back.groups) run.before.host.child ∙ child);
+}
+
+-- a run that keeps no lock
+pub promised_kept : (run : Run) (x : JournalState) → run.entries ≡ x.entries → Traced run → Keeping x [] → run.before.host.child ≡ NoChild → Promise run
+promised_kept run x is t k child = promised run t (subst AllGivenBack (sym is) (all_given_back x.entries [] k.keeps)) child
+
+-- a run that noted nothing
+pub promised_refused : (run : Run) → run.entries ≡ [] → Traced run → run.before.host.child ≡ NoChild → Promise run
+promised_refused run none t child = promised run t (subst AllGivenBack (sym none) tt) child

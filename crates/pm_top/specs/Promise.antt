@@ -1,0 +1,86 @@
+-- What is promised of every run.
+use Rattle.std.specs.Prelude.{◌≡◌, ◌<◌, ◌⊎◌, List, ℕ, ◌++◌, length, Some, None}
+use Rattle.pm_host.specs.Told.{Tells, Adds}
+use Rattle.pm_host.specs.Runs.{Ran, after_calls}
+use Rattle.pm_host.specs.declared.answers.Child.TheVariants.{NoChild}
+use Rattle.pm_journal.specs.Entries.{counts_of, view_of, Honest, joined, after_entries, all_said, all_written, Frame, AllCovered}
+use Rattle.pm_journal.specs.Deliveries.{AllDelivered}
+use Rattle.pm_journal.specs.Held.{AllGivenBack}
+use Rattle.pm_meaning.specs.CommandLine.{command_line}
+use Rattle.pm_top.specs.Run.{Run}
+use Rattle.pm_top.specs.Outcome.{BadWords, ReadFault, TooLong, NotBegun, LeftOff, HasMeaning, Outcome, left_off}
+use Rattle.pm_top.specs.Account.{done_in, calls_in, given_in, Account}
+
+-- the run ended before it took a call of the host: unread words, a failed read, or too long a message
+abbrev pub IsRefused : Run → Type 0
+IsRefused run = BadWords run ⊎ (ReadFault run ⊎ TooLong run)
+
+-- memory was wanting, before the process began or in it
+abbrev pub IsStarved : Run → Type 0
+IsStarved run = NotBegun run ⊎ LeftOff run
+
+-- The tree is what the entries, the calls of an act that was left off and the unlocks make of the tree at the beginning,
+-- and the sinks took what the entries say, `err` besides its last line.
+pub record HasState (run : Run) (how : Outcome run) (account : Account run how) : Type 0 where
+  pub tree : Tells (λ old new. new ≡ after_entries (given_in run how) account.back.groups
+      (after_calls (calls_in run how) (after_entries (done_in run how) account.accounts.groups old)))
+      run.before.host.world run.after.host.world
+  pub written : Tells (Adds (all_written run.entries)) run.before.out.bytes run.after.out.bytes
+  pub said : Tells (Adds (all_said run.entries)) run.before.err.bytes account.last.err.bytes
+
+-- a done append added its piece, a torn one the front that it states, and any other nothing
+abbrev pub HasDelivered : (run : Run) (how : Outcome run) → Account run how → Type 0
+HasDelivered run how account =
+    Tells (λ old new. AllDelivered (done_in run how) account.accounts.groups old) run.before.host.world account.middle.host.world
+
+-- Each count of faults is the one that the entry before left, from the beginning of the run to its last line; where an act
+-- was left off, up to it and from it on.
+abbrev pub IsFramed : (run : Run) (how : Outcome run) → Account run how → Type 0
+IsFramed run (left_off h) account =
+    Frame h.done (counts_of run.before) (counts_of account.middle)
+    × Frame h.given (counts_of account.later) (counts_of (view_of run.after.host run.after.out account.last.err))
+IsFramed run other account =
+    Frame run.entries (counts_of run.before) (counts_of (view_of run.after.host run.after.out account.last.err))
+
+-- Each entry has the calls of its protocol, in order, and a host took these calls and those of an act that was left off
+-- and no others; a reply that tells of a fault has the count of its own object risen.
+pub record HasCauses (run : Run) (how : Outcome run) (account : Account run how) : Type 0 where
+  pub honest : Honest run.entries (account.accounts.groups ++ account.back.groups)
+  pub ran : Ran (joined account.accounts.groups ++ calls_in run how ++ joined account.back.groups)
+      run.before.host run.after.host
+  pub framed : IsFramed run how account
+  pub covered : AllCovered run.entries
+
+-- How a run ends by what came: by words that aren't read, by a failed read, and by a message that is too long; and what
+-- came where it ends with one of their statuses, unless the meaning gives that status.
+pub record Refuses (run : Run) : Type 0 where
+  pub unread : command_line run.words ≡ None → BadWords run
+  pub faulted : (old new : List ℕ) → run.source.bytes ≡ Some old → run.rest.bytes ≡ Some new
+      → run.source.faults < run.rest.faults → ReadFault run ⊎ NotBegun run
+  pub over : (old new : List ℕ) → run.source.bytes ≡ Some old → run.rest.bytes ≡ Some new
+      → 67108864 < length old → IsRefused run ⊎ NotBegun run
+  pub on_64 : run.status ≡ 64 → BadWords run ⊎ HasMeaning run
+  pub on_65 : run.status ≡ 65 → TooLong run ⊎ HasMeaning run
+  pub on_66 : run.status ≡ 66 → HasMeaning run
+  pub on_74 : run.status ≡ 74 → ReadFault run ⊎ HasMeaning run
+
+-- what is promised of a run: how it went and the account of what was done, of which the rest speaks
+pub record Promise (run : Run) : Type 0 where
+  pub how : Outcome run
+  pub account : Account run how
+  -- the entries are the meaning of every run that was neither refused nor starved
+  pub meaning : IsRefused run ⊎ (IsStarved run ⊎ HasMeaning run)
+  -- the files and the sinks are what the account makes of them
+  pub state : HasState run how account
+  -- each append added to its file what its reply says
+  pub deliveries : HasDelivered run how account
+  -- each lock that was taken was given back
+  pub locks : AllGivenBack run.entries
+  -- no call is hidden, and no fault is invented
+  pub causes : HasCauses run how account
+  -- a run is refused for what came alone
+  pub refusals : Refuses run
+  -- a run that says that memory was wanting was starved, or means it
+  pub memory : run.status ≡ 71 → IsStarved run ⊎ HasMeaning run
+  -- no child runs afterwards
+  pub children : run.after.host.child ≡ NoChild
