@@ -1,4 +1,5 @@
 pub mod Lent
 pub mod Tracing
+pub mod Grown
 pub mod Promised
 pub mod Refusals

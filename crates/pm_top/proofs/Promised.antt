@@ -18,6 +18,7 @@ use Rattle.pm_top.specs.Outcome.{Outcome, bad_words, read_fault, too_long, not_b
 use Rattle.pm_top.specs.Account.{done_in, calls_in, given_in, Account}
 use Rattle.pm_top.specs.Promise.{IsFramed, Promise}
 use Rattle.pm_top.specs.Traced.{Traced}
+use Rattle.pm_top.proofs.Grown.{grown_in}
 use Rattle.pm_top.proofs.Refusals.{meaning_of, starved_of, refuses_of}
 
 all_said-append : (es fs : List Entry) → all_said (es ++ fs) ≡ all_said es ++ all_said fs
@@ -96,6 +97,7 @@ promised run t locks child = let a = t.account in record {
   meaning = meaning_of run t.how;
   state = record { tree = tree_in run t.how a; written = written_in run t.how a; said = said_in run t.how a };
   deliveries = accounts_deliver (done_in run t.how) run.before a.middle a.accounts;
+  files = grown_in run t.how a;
   locks = locks;
   causes = record {
     honest = subst (λ l. Honest l (a.accounts.groups ++ a.back.groups)) (sym a.entries_are) (honest_join (done_in run t.how) (given_in run t.how) a.accounts.groups a.back.groups a.accounts.honest a.back.honest);

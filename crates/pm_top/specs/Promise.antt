@@ -4,7 +4,7 @@ use Rattle.pm_host.specs.Told.{Tells, Adds}
 use Rattle.pm_host.specs.Runs.{Ran, after_calls}
 use Rattle.pm_host.specs.declared.answers.Child.TheVariants.{NoChild}
 use Rattle.pm_journal.specs.Entries.{counts_of, view_of, Honest, joined, after_entries, all_said, all_written, Frame, AllCovered}
-use Rattle.pm_journal.specs.Deliveries.{AllDelivered}
+use Rattle.pm_journal.specs.Deliveries.{AllDelivered, AllGrow}
 use Rattle.pm_journal.specs.Held.{AllGivenBack}
 use Rattle.pm_meaning.specs.CommandLine.{command_line}
 use Rattle.pm_top.specs.Run.{Run}
@@ -74,6 +74,8 @@ pub record Promise (run : Run) : Type 0 where
   pub state : HasState run how account
   -- each append added to its file what its reply says
   pub deliveries : HasDelivered run how account
+  -- in the end each file has its opening bytes and what the entries added to it, in order, and nothing else
+  pub files : Tells (AllGrow run.entries) run.before.host.world run.after.host.world
   -- each lock that was taken was given back
   pub locks : AllGivenBack run.entries
   -- no call is hidden, and no fault is invented
