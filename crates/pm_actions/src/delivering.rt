@@ -3,7 +3,8 @@ ghost use Rattle.std.specs.Prelude.{◌≡◌};
 ghost use Rattle.pm_journal.specs.Executed.{Carries};
 ghost use Rattle.pm_journal.specs.Held.{Keeping};
 ghost use Rattle.pm_recipe.specs.View.{act_of};
-ghost use Rattle.pm_meaning.specs.Delivering.{is_plain as is_plain_top, tell_filed as told, all_stored, deliver_to, deliver, run_recipe};
+ghost use Rattle.pm_meaning.specs.Delivering.{is_plain as is_plain_top, tell_filed as told, all_stored};
+ghost use Rattle.pm_meaning.specs.Delivering.{deliver_to, deliver, run_recipe};
 ghost use Rattle.pm_meaning.specs.Minds.{Mind, mind_of};
 ghost use Rattle.pm_actions.specs.Names.{top_of};
 ghost use Rattle.pm_actions.specs.Turning.{turn_of};
@@ -64,7 +65,8 @@ fn deliver_text<D: Outside>(
     journal: &mut Journal,
 ) -> Result<Option<End>, Memory>
     requires keeping { Keeping journal.old process.old.locks.names }
-    ensures carries { Carries (deliver flags text.now (mind_of process.old)) (λ end. turn_of end (mind_of process.new)) result
+    ensures carries { Carries (deliver flags text.now (mind_of process.old))
+        (λ end. turn_of end (mind_of process.new)) result
         journal.old journal.new (D.told outside.old) (D.told outside.new) }
     ensures keeping { Keeping journal.new process.new.locks.names }
 {
@@ -90,7 +92,8 @@ fn deliver_to_words<D: Outside>(
     journal: &mut Journal,
 ) -> Result<Option<End>, Memory>
     requires keeping { Keeping journal.old process.old.locks.names }
-    ensures carries { Carries (deliver_to flags text.now words.now (mind_of process.old)) (λ end. turn_of end (mind_of process.new)) result
+    ensures carries { Carries (deliver_to flags text.now words.now (mind_of process.old))
+        (λ end. turn_of end (mind_of process.new)) result
         journal.old journal.new (D.told outside.old) (D.told outside.new) }
     ensures keeping { Keeping journal.new process.new.locks.names }
 {
@@ -121,7 +124,8 @@ fn tell_filed<D: Outside>(
     journal: &mut Journal,
 ) -> Result<Option<End>, Memory>
     requires keeping { Keeping journal.old process.now.locks.names }
-    ensures carries { Carries (told flags filed (mind_of process.now)) (λ end. turn_of end (mind_of process.now)) result
+    ensures carries { Carries (told flags filed (mind_of process.now))
+        (λ end. turn_of end (mind_of process.now)) result
         journal.old journal.new (D.told outside.old) (D.told outside.new) }
     ensures keeping { Keeping journal.new process.now.locks.names }
 {

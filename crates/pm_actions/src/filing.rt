@@ -5,9 +5,11 @@ ghost use Rattle.pm_bytes.specs.Path.{full_name};
 ghost use Rattle.pm_journal.specs.Appending.{append_reply};
 ghost use Rattle.pm_journal.specs.Executed.{Carries, Executes};
 ghost use Rattle.pm_journal.specs.Held.{Keeping};
-ghost use Rattle.pm_meaning.specs.Delivering.{feed_of, filed_by, is_nothing as is_null_device, file_at, file_all as each_filed};
+ghost use Rattle.pm_meaning.specs.Delivering.{feed_of, filed_by, is_nothing as is_null_device, file_at};
+ghost use Rattle.pm_meaning.specs.Delivering.{file_all as each_filed};
 ghost use Rattle.pm_meaning.specs.Minds.{mind_of};
-ghost use Rattle.pm_actions.specs.Copies.{copy_for, remembered, file_copies, filing_of, mind_after, is_stored_end, AllShown};
+ghost use Rattle.pm_actions.specs.Copies.{copy_for, remembered, file_copies, filing_of, mind_after};
+ghost use Rattle.pm_actions.specs.Copies.{is_stored_end, AllShown};
 
 use pm_acts::Outside;
 use pm_append::AppendEnd;
@@ -40,7 +42,8 @@ pub fn file_all<D: Outside>(
     journal: &mut Journal,
 ) -> Result<Filed, Memory>
     requires keeping { Keeping journal.old process.old.locks.names }
-    ensures carries { Carries (each_filed flags words.now (mind_of process.old)) (λ filed. filing_of filed (mind_of process.new)) result
+    ensures carries { Carries (each_filed flags words.now (mind_of process.old))
+        (λ filed. filing_of filed (mind_of process.new)) result
         journal.old journal.new (D.told outside.old) (D.told outside.new) }
     ensures untouched { OnErr result (journal.new.entries ≡ journal.old.entries) }
     ensures keeping { Keeping journal.new process.new.locks.names }

@@ -24,7 +24,8 @@ pub fn skip_value<D: Outside>(
 ) -> Result<Option<End>, Memory>
     requires keeping { Keeping journal.old process.old.locks.names }
     ensures carries { let p = mind_of process.old in
-        Carries (say_then p (value_too_long_line length) (GoesOn (overflowed p))) (λ end. turn_of end (mind_of process.new)) result
+        Carries (say_then p (value_too_long_line length) (GoesOn (overflowed p)))
+        (λ end. turn_of end (mind_of process.new)) result
         journal.old journal.new (D.told outside.old) (D.told outside.new) }
     ensures keeping { Keeping journal.new process.new.locks.names }
 {

@@ -4,7 +4,9 @@ ghost use Rattle.pm_journal.specs.Executed.{Carries};
 ghost use Rattle.pm_journal.specs.Held.{Keeping};
 ghost use Rattle.pm_journal.specs.Plan.{Ends, and_then, ask};
 ghost use Rattle.pm_journal.specs.declared.acts.Act.TheVariants.{Probe};
-ghost use Rattle.pm_meaning.specs.Assigning.{is_later, waits as asks_for_later, leads_elsewhere as leads_away, probed, change_folder, assigned, assign, unset};
+ghost use Rattle.pm_meaning.specs.Assigning.{is_later, waits as asks_for_later};
+ghost use Rattle.pm_meaning.specs.Assigning.{leads_elsewhere as leads_away, probed, change_folder};
+ghost use Rattle.pm_meaning.specs.Assigning.{assigned, assign, unset};
 ghost use Rattle.pm_meaning.specs.Minds.{mind_of};
 ghost use Rattle.pm_actions.specs.Turning.{turn_of};
 
@@ -27,7 +29,8 @@ pub fn assign_text<D: Outside>(
     journal: &mut Journal,
 ) -> Result<Option<End>, Memory>
     requires keeping { Keeping journal.old process.old.locks.names }
-    ensures carries { Carries (assign name.now text.now (mind_of process.old)) (λ end. turn_of end (mind_of process.new)) result
+    ensures carries { Carries (assign name.now text.now (mind_of process.old))
+        (λ end. turn_of end (mind_of process.new)) result
         journal.old journal.new (D.told outside.old) (D.told outside.new) }
     ensures keeping { Keeping journal.new process.new.locks.names }
 {
@@ -75,7 +78,8 @@ fn assign_value<D: Outside>(
     journal: &mut Journal,
 ) -> Result<Option<End>, Memory>
     requires keeping { Keeping journal.old process.old.locks.names }
-    ensures carries { Carries (assigned name.now value (mind_of process.old)) (λ end. turn_of end (mind_of process.new)) result
+    ensures carries { Carries (assigned name.now value (mind_of process.old))
+        (λ end. turn_of end (mind_of process.new)) result
         journal.old journal.new (D.told outside.old) (D.told outside.new) }
     ensures keeping { Keeping journal.new process.new.locks.names }
 {
@@ -116,7 +120,8 @@ fn move_to_folder<D: Outside>(
     journal: &mut Journal,
 ) -> Result<Option<End>, Memory>
     requires keeping { Keeping journal.old process.old.locks.names }
-    ensures carries { Carries (change_folder value.now (mind_of process.old)) (λ end. turn_of end (mind_of process.new)) result
+    ensures carries { Carries (change_folder value.now (mind_of process.old))
+        (λ end. turn_of end (mind_of process.new)) result
         journal.old journal.new (D.told outside.old) (D.told outside.new) }
     ensures keeping { Keeping journal.new process.new.locks.names }
 {
@@ -141,7 +146,8 @@ fn probe_folder<D: Outside>(
     journal: &mut Journal,
 ) -> Result<Option<End>, Memory>
     requires keeping { Keeping journal.old process.old.locks.names }
-    ensures carries { Carries (and_then (ask (Probe name)) (probed name (mind_of process.old))) (λ end. turn_of end (mind_of process.new)) result
+    ensures carries { Carries (and_then (ask (Probe name)) (probed name (mind_of process.old)))
+        (λ end. turn_of end (mind_of process.new)) result
         journal.old journal.new (D.told outside.old) (D.told outside.new) }
     ensures keeping { Keeping journal.new process.new.locks.names }
 {

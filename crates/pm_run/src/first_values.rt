@@ -3,7 +3,10 @@ ghost use Rattle.std.specs.Prelude.{◌≡◌, nat_le, IfOk, option_copied};
 ghost use Rattle.std.specs.List.{list_all};
 ghost use Rattle.pm_vars.specs.Variables.{with_value};
 ghost use Rattle.pm_meaning.specs.Minds.{mind_of};
-ghost use Rattle.pm_meaning.specs.FirstValues.{environment_value, is_filled, is_login, login_name, home_folder, search_path, time_zone, first_folder, system_mailbox, user_values, place_values, mailbox_values, program_values, file_values, all_set, first_process};
+ghost use Rattle.pm_meaning.specs.FirstValues.{environment_value, is_filled, is_login, login_name};
+ghost use Rattle.pm_meaning.specs.FirstValues.{home_folder, search_path, time_zone, first_folder};
+ghost use Rattle.pm_meaning.specs.FirstValues.{system_mailbox, user_values, place_values, mailbox_values};
+ghost use Rattle.pm_meaning.specs.FirstValues.{program_values, file_values, all_set, first_process};
 
 use pm_bytes::{Blob, Environ, Memory, Name};
 use pm_journal::HeldLocks;
@@ -41,14 +44,16 @@ pub fn begin(
 }
 
 fn set(alloc: Global, vars: &mut Vars, name: &[u8], value: &[u8]) -> Result<(), Memory>
-    ensures { IfOk result (λ _. vars.new ≡ record vars.old { variables = with_value name.now value.now vars.old.variables }) }
+    ensures { IfOk result (λ _.
+        vars.new ≡ record vars.old { variables = with_value name.now value.now vars.old.variables }) }
 {
     vars.set(name, Blob::from_slice(alloc, value)?)
 }
 
 // Who runs the program.
 fn set_user(alloc: Global, vars: &mut Vars, env: &Environ) -> Result<(), Memory>
-    ensures { IfOk result (λ _. vars.new ≡ record vars.old { variables = all_set (user_values env.now) vars.old.variables }) }
+    ensures { IfOk result (λ _.
+        vars.new ≡ record vars.old { variables = all_set (user_values env.now) vars.old.variables }) }
 {
     set(alloc, vars, b"LOGNAME", login(env).as_bytes())?;
     set(alloc, vars, b"HOME", home(env).as_bytes())?;
@@ -57,7 +62,8 @@ fn set_user(alloc: Global, vars: &mut Vars, env: &Environ) -> Result<(), Memory>
 }
 
 fn set_time_zone(alloc: Global, vars: &mut Vars, env: &Environ) -> Result<(), Memory>
-    ensures { IfOk result (λ _. vars.new ≡ record vars.old { variables = all_set (time_zone env.now) vars.old.variables }) }
+    ensures { IfOk result (λ _.
+        vars.new ≡ record vars.old { variables = all_set (time_zone env.now) vars.old.variables }) }
 {
     match value_in_environment(env, b"TZ") {
         Some(zone) => set(alloc, vars, b"TZ", zone.as_str().as_bytes()),
@@ -67,7 +73,8 @@ fn set_time_zone(alloc: Global, vars: &mut Vars, env: &Environ) -> Result<(), Me
 
 // Where the program runs.
 fn set_place(alloc: Global, vars: &mut Vars, filter: bool, env: &Environ) -> Result<(), Memory>
-    ensures { IfOk result (λ _. vars.new ≡ record vars.old { variables = all_set (place_values filter env.now) vars.old.variables }) }
+    ensures { IfOk result (λ _.
+        vars.new ≡ record vars.old { variables = all_set (place_values filter env.now) vars.old.variables }) }
 {
     set(alloc, vars, b"HOST", env.host_name.as_str().as_bytes())?;
     set(
@@ -80,7 +87,9 @@ fn set_place(alloc: Global, vars: &mut Vars, filter: bool, env: &Environ) -> Res
 
 // A mail filter has no default mailbox.
 fn set_mailbox(alloc: Global, vars: &mut Vars, filter: bool, env: &Environ) -> Result<(), Memory>
-    ensures { IfOk result (λ _. vars.new ≡ record vars.old { variables = all_set (mailbox_values filter env.now) vars.old.variables }) }
+    ensures { IfOk result (λ _.
+        vars.new ≡ record vars.old
+            { variables = all_set (mailbox_values filter env.now) vars.old.variables }) }
 {
     if filter {
         return Ok(());
@@ -92,7 +101,8 @@ fn set_mailbox(alloc: Global, vars: &mut Vars, filter: bool, env: &Environ) -> R
 }
 
 fn set_programs(alloc: Global, vars: &mut Vars) -> Result<(), Memory>
-    ensures { IfOk result (λ _. vars.new ≡ record vars.old { variables = all_set program_values vars.old.variables }) }
+    ensures { IfOk result (λ _.
+        vars.new ≡ record vars.old { variables = all_set program_values vars.old.variables }) }
 {
     set(alloc, vars, b"SENDMAIL", b"/usr/sbin/sendmail")?;
     set(alloc, vars, b"SENDMAILFLAGS", b"-oi")?;
@@ -101,7 +111,8 @@ fn set_programs(alloc: Global, vars: &mut Vars) -> Result<(), Memory>
 }
 
 fn set_files(alloc: Global, vars: &mut Vars) -> Result<(), Memory>
-    ensures { IfOk result (λ _. vars.new ≡ record vars.old { variables = all_set file_values vars.old.variables }) }
+    ensures { IfOk result (λ _.
+        vars.new ≡ record vars.old { variables = all_set file_values vars.old.variables }) }
 {
     set(alloc, vars, b"MSGPREFIX", b"msg.")?;
     set(alloc, vars, b"LOCKEXT", b".lock")?;

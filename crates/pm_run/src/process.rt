@@ -7,7 +7,8 @@ ghost use Rattle.pm_message.specs.FromLine.{makes_line, prepared_of};
 ghost use Rattle.pm_recipe.specs.Build.{rc_of};
 ghost use Rattle.pm_meaning.specs.Changes.{entered, is_given};
 ghost use Rattle.pm_meaning.specs.Minds.{mind_of};
-ghost use Rattle.pm_meaning.specs.Running.{Arrived, Running, Over, ahead, step, renewal as renewal_of, unread, has_default as default_given, fall_off as falls_off};
+ghost use Rattle.pm_meaning.specs.Running.{Arrived, Running, Over, ahead, step, renewal as renewal_of};
+ghost use Rattle.pm_meaning.specs.Running.{unread, has_default as default_given, fall_off as falls_off};
 ghost use Rattle.pm_meaning.specs.declared.process.Ending.{Ending};
 ghost use Rattle.pm_run.specs.Ends.{opening, opened_next};
 ghost use Rattle.pm_run.specs.Stretches.{Walks};
@@ -64,7 +65,8 @@ fn arrive<D: Outside>(
     journal: &mut Journal,
 ) -> Result<Process, Memory>
     requires keeping { Keeping journal.old [] }
-    ensures carries { Carries (step (Arrived line.now env.now bytes.now)) (λ process. Go (opening line.now.rcfile (mind_of process)))
+    ensures carries { Carries (step (Arrived line.now env.now bytes.now))
+        (λ process. Go (opening line.now.rcfile (mind_of process)))
         result journal.old journal.new (D.told outside.old) (D.told outside.new) }
     ensures locks { IfOk result (λ process. process.locks.names ≡ []) }
     ensures keeping { Keeping journal.new [] }
@@ -120,7 +122,8 @@ fn run_rest<D: Outside>(
     journal: &mut Journal,
 ) -> Result<End, Memory>
     requires keeping { Keeping journal.old process.old.locks.names }
-    ensures walks { Walks (Running (ahead statements.now []) (mind_of process.old)) (λ end. Over end (mind_of process.new)) result
+    ensures walks { Walks (Running (ahead statements.now []) (mind_of process.old))
+        (λ end. Over end (mind_of process.new)) result
         journal.old journal.new (D.told outside.old) (D.told outside.new) }
     ensures keeping { Keeping journal.new process.new.locks.names }
 {
@@ -139,7 +142,8 @@ fn open_rcfile<D: Outside>(
     journal: &mut Journal,
 ) -> Result<Opened, Memory>
     requires keeping { Keeping journal.old process.old.locks.names }
-    ensures carries { Carries (step (opening name (mind_of process.old))) (λ opened. opened_next opened (mind_of process.new)) result
+    ensures carries { Carries (step (opening name (mind_of process.old)))
+        (λ opened. opened_next opened (mind_of process.new)) result
         journal.old journal.new (D.told outside.old) (D.told outside.new) }
     ensures keeping { Keeping journal.new process.new.locks.names }
 {
@@ -192,7 +196,8 @@ fn miss_rcfile<D: Outside>(
     journal: &mut Journal,
 ) -> Result<Opened, Memory>
     requires keeping { Keeping journal.old process.now.locks.names }
-    ensures carries { Carries (unread name.now [] (mind_of process.now)) (λ opened. opened_next opened (mind_of process.now)) result
+    ensures carries { Carries (unread name.now [] (mind_of process.now))
+        (λ opened. opened_next opened (mind_of process.now)) result
         journal.old journal.new (D.told outside.old) (D.told outside.new) }
     ensures keeping { Keeping journal.new process.now.locks.names }
 {
@@ -212,7 +217,8 @@ fn fall_off<D: Outside>(
     journal: &mut Journal,
 ) -> Result<End, Memory>
     requires keeping { Keeping journal.old process.now.locks.names }
-    ensures carries { Carries (falls_off (mind_of process.now)) (λ end. Go (Over end (mind_of process.now))) result
+    ensures carries { Carries (falls_off (mind_of process.now))
+        (λ end. Go (Over end (mind_of process.now))) result
         journal.old journal.new (D.told outside.old) (D.told outside.new) }
     ensures keeping { Keeping journal.new process.now.locks.names }
 {

@@ -28,7 +28,8 @@ pub fn run_statements<D: Outside>(
     journal: &mut Journal,
 ) -> Result<Option<End>, Memory>
     requires keeping { Keeping journal.old process.old.locks.names }
-    ensures walks { Walks (Running (ahead statements.now []) (mind_of process.old)) (λ end. stands_at end (mind_of process.new)) result
+    ensures walks { Walks (Running (ahead statements.now []) (mind_of process.old))
+        (λ end. stands_at end (mind_of process.new)) result
         journal.old journal.new (D.told outside.old) (D.told outside.new) }
     ensures keeping { Keeping journal.new process.new.locks.names }
 {
@@ -48,7 +49,8 @@ fn run_statement<D: Outside>(
     journal: &mut Journal,
 ) -> Result<Option<End>, Memory>
     requires keeping { Keeping journal.old process.old.locks.names }
-    ensures carries { Carries (statement_plan (tree_of statement.now) (mind_of process.old)) (λ end. turn_of end (mind_of process.new)) result
+    ensures carries { Carries (statement_plan (tree_of statement.now) (mind_of process.old))
+        (λ end. turn_of end (mind_of process.new)) result
         journal.old journal.new (D.told outside.old) (D.told outside.new) }
     ensures keeping { Keeping journal.new process.new.locks.names }
 {
@@ -78,7 +80,8 @@ fn skip_line<D: Outside>(
     journal: &mut Journal,
 ) -> Result<Option<End>, Memory>
     requires keeping { Keeping journal.old process.now.locks.names }
-    ensures carries { Carries (skip_defect text.now (mind_of process.now)) (λ end. turn_of end (mind_of process.now)) result
+    ensures carries { Carries (skip_defect text.now (mind_of process.now))
+        (λ end. turn_of end (mind_of process.now)) result
         journal.old journal.new (D.told outside.old) (D.told outside.new) }
     ensures keeping { Keeping journal.new process.now.locks.names }
 {

@@ -38,8 +38,8 @@ SaysLast run (not_begun h) before after = SaysLine (status_line SystemError) bef
 SaysLast run (left_off h) before after = SaysLine (status_line SystemError) before after
 SaysLast run (meant h) before after = LastLine h.ending.end before after
 
--- What was done in a run that went so: its entries up to the end or to the want of memory, the calls of the act that was
--- then left off, the unlocks of the locks that were still held, and at last a line on `err`.
+-- What was done in a run that went so: its entries up to the end or to a want of memory, the calls of the act
+-- that was then left off, the unlocks of the locks that were still held, and at last a line on `err`.
 pub record Account (run : Run) (how : Outcome run) : Type 0 where
   pub entries_are : run.entries ≡ done_in run how ++ given_in run how
   pub middle : View

@@ -19,7 +19,7 @@ use Rattle.pm_meaning.specs.declared.status.Status.TheVariants.{Usage, DataError
 use Rattle.pm_top.specs.Drain.{Drained, ReadPast, StopsFailed}
 use Rattle.pm_top.specs.Run.{Run}
 
--- the line that tells of a run that is refused, starved, or a mail filter without its rcfile
+-- the line that is said before these statuses
 abbrev pub status_line : Status → List ℕ
 status_line Usage = codes "procmail: Bad words\n"
 status_line DataError = codes "procmail: Message too long\n"
@@ -72,8 +72,8 @@ pub record NotBegun (run : Run) : Type 0 where
   pub read : command_line run.words ≡ Some line
   pub refused : Refused SystemError run
 
--- Memory was wanting in the process: after its entries it wanted an act, of which at most some calls were made, and then
--- the locks that it held were given back.
+-- Memory was wanting in the process: after its entries it wanted an act, of which at most some calls were
+-- made, and then the locks that it held were given back.
 pub record LeftOff (run : Run) : Type 0 where
   pub status_is : run.status ≡ status_number SystemError
   pub line : CommandLine
@@ -88,8 +88,8 @@ pub record LeftOff (run : Run) : Type 0 where
   pub unlocks : AreUnlocks held given
   pub entries_are : run.entries ≡ done ++ given
 
--- The source was read whole, what the run noted is the meaning of the words, the environment and the message over its
--- replies, and the status is the one of that meaning's end.
+-- The source was read whole, what the run noted is the meaning of the words, the environment and the message
+-- over its replies, and the status is the one of that meaning's end.
 pub record HasMeaning (run : Run) : Type 0 where
   pub line : CommandLine
   pub read : command_line run.words ≡ Some line

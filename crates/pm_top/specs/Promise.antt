@@ -4,6 +4,7 @@ use Rattle.pm_host.specs.Told.{Tells, Adds}
 use Rattle.pm_host.specs.Runs.{Ran, after_calls}
 use Rattle.pm_host.specs.declared.answers.Child.TheVariants.{NoChild}
 use Rattle.pm_journal.specs.Entries.{counts_of, view_of, Honest, joined, after_entries, all_said, all_written, Frame, AllCovered}
+use Rattle.pm_journal.specs.declared.acts.Counts.{Counts}
 use Rattle.pm_journal.specs.Deliveries.{AllDelivered, AllGrow}
 use Rattle.pm_journal.specs.Held.{AllGivenBack}
 use Rattle.pm_meaning.specs.CommandLine.{command_line}
@@ -11,7 +12,7 @@ use Rattle.pm_top.specs.Run.{Run}
 use Rattle.pm_top.specs.Outcome.{BadWords, ReadFault, TooLong, NotBegun, LeftOff, HasMeaning, Outcome, left_off}
 use Rattle.pm_top.specs.Account.{done_in, calls_in, given_in, Account}
 
--- the run ended before it took a call of the host: unread words, a failed read, or too long a message
+-- the run ended before the host took a call: its words weren't read, a read failed, or too many bytes came
 abbrev pub IsRefused : Run → Type 0
 IsRefused run = BadWords run ⊎ (ReadFault run ⊎ TooLong run)
 
@@ -19,8 +20,8 @@ IsRefused run = BadWords run ⊎ (ReadFault run ⊎ TooLong run)
 abbrev pub IsStarved : Run → Type 0
 IsStarved run = NotBegun run ⊎ LeftOff run
 
--- The tree is what the entries, the calls of an act that was left off and the unlocks make of the tree at the beginning,
--- and the sinks took what the entries say, `err` besides its last line.
+-- The tree is what the entries, the calls of an act that was left off and the unlocks make of the tree at the
+-- beginning, and the sinks took what the entries say, `err` besides its last line.
 pub record HasState (run : Run) (how : Outcome run) (account : Account run how) : Type 0 where
   pub tree : Tells (λ old new. new ≡ after_entries (given_in run how) account.back.groups
       (after_calls (calls_in run how) (after_entries (done_in run how) account.accounts.groups old)))
@@ -31,19 +32,24 @@ pub record HasState (run : Run) (how : Outcome run) (account : Account run how) 
 -- a done append added its piece, a torn one the front that it states, and any other nothing
 abbrev pub HasDelivered : (run : Run) (how : Outcome run) → Account run how → Type 0
 HasDelivered run how account =
-    Tells (λ old new. AllDelivered (done_in run how) account.accounts.groups old) run.before.host.world account.middle.host.world
+    Tells (λ old new. AllDelivered (done_in run how) account.accounts.groups old)
+    run.before.host.world account.middle.host.world
 
--- Each count of faults is the one that the entry before left, from the beginning of the run to its last line; where an act
--- was left off, up to it and from it on.
+-- the counts of faults at the end of the run, before its last line
+abbrev pub last_counts : (run : Run) (how : Outcome run) → Account run how → Counts
+last_counts run how account = counts_of (view_of run.after.host run.after.out account.last.err)
+
+-- Each count of faults is the one that the entry before left, from the beginning of the run to its last line;
+-- where an act was left off, up to it and from it on.
 abbrev pub IsFramed : (run : Run) (how : Outcome run) → Account run how → Type 0
 IsFramed run (left_off h) account =
     Frame h.done (counts_of run.before) (counts_of account.middle)
-    × Frame h.given (counts_of account.later) (counts_of (view_of run.after.host run.after.out account.last.err))
+    × Frame h.given (counts_of account.later) (last_counts run (left_off h) account)
 IsFramed run other account =
-    Frame run.entries (counts_of run.before) (counts_of (view_of run.after.host run.after.out account.last.err))
+    Frame run.entries (counts_of run.before) (last_counts run other account)
 
--- Each entry has the calls of its protocol, in order, and a host took these calls and those of an act that was left off
--- and no others; a reply that tells of a fault has the count of its own object risen.
+-- Each entry has the calls of its protocol, in order, and a host took these calls and those of an act that
+-- was left off and no others; a reply that tells of a fault has the count of its own object risen.
 pub record HasCauses (run : Run) (how : Outcome run) (account : Account run how) : Type 0 where
   pub honest : Honest run.entries (account.accounts.groups ++ account.back.groups)
   pub ran : Ran (joined account.accounts.groups ++ calls_in run how ++ joined account.back.groups)
@@ -51,8 +57,8 @@ pub record HasCauses (run : Run) (how : Outcome run) (account : Account run how)
   pub framed : IsFramed run how account
   pub covered : AllCovered run.entries
 
--- How a run ends by what came: by words that aren't read, by a failed read, and by a message that is too long; and what
--- came where it ends with one of their statuses, unless the meaning gives that status.
+-- How a run ends by what came: words that aren't read, a failed read, or more bytes than a message may have;
+-- and what came where it ends with one of their statuses, unless the meaning gives that status.
 pub record Refuses (run : Run) : Type 0 where
   pub unread : command_line run.words ≡ None → BadWords run
   pub faulted : (old new : List ℕ) → run.source.bytes ≡ Some old → run.rest.bytes ≡ Some new

@@ -21,5 +21,5 @@ RunsLine line run = (words : List (String Global)) → command_line words ≡ So
 -- and for all sources that gave this message
 abbrev pub RunsMail : CommandLine → List ℕ → (List (String Global) → StreamView → StreamView → Run) → Type 0
 RunsMail line mail run =
-    (words : List (String Global)) (source rest : StreamView) → command_line words ≡ Some line → Drained mail source rest
-    → Traced (run words source rest)
+    (words : List (String Global)) (source rest : StreamView) → command_line words ≡ Some line
+    → Drained mail source rest → Traced (run words source rest)

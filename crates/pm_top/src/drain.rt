@@ -45,7 +45,8 @@ pub fn read_mail<S: Source>(alloc: Global, source: &mut S) -> Result<Mail, Memor
 
 fn read_part<S: Source>(source: &mut S, bytes: &mut Blob, room: &mut [u8]) -> Result<Part, Memory>
     requires { 0 < length room.old }
-    ensures { IfOk result (λ part. Comes part (length room.old) bytes.old bytes.new (S.told source.old) (S.told source.new)) }
+    ensures { IfOk result (λ part. Comes part (length room.old) bytes.old bytes.new
+        (S.told source.old) (S.told source.new)) }
 {
     match source.read(room) {
         Got::Failed => Ok(Part::Failed),

@@ -20,8 +20,8 @@ use pm_meaning::{CommandLine, End, Ending, Status, status_of};
 use pm_run::run_process;
 use std::alloc::Global;
 
-/// Reads the words and the message, carries out the recipes, notes each act in the journal, and answers the exit
-/// status (procmail(1)). The words leave out the program's name.
+/// Reads the words and the message, carries out the recipes, notes each act in the journal, and answers the
+/// exit status (procmail(1)). The words leave out the program's name.
 pub fn procmail<S: Source, H: Host, O: Sink, E: Sink>(
     alloc: Global,
     words: &[String],
@@ -124,10 +124,12 @@ fn run_lent<H: Host, O: Sink, E: Sink>(
     journal: &mut Journal,
 ) -> Result<Ending, Memory>
     requires keeping { Keeping journal.old [] }
-    ensures ok { IfOk result (λ ending. Completes step (Arrived line env.now bytes) ending journal.old journal.new
+    ensures ok { IfOk result (λ ending. Completes step (Arrived line env.now bytes) ending
+        journal.old journal.new
         (view_of (H.told host.old) (O.told out.old) (E.told err.old))
         (view_of (H.told host.new) (O.told out.new) (E.told err.new))) }
-    ensures memory { OnErr result (Abandoned {X = Ending} step (Arrived line env.now bytes) journal.old journal.new
+    ensures memory { OnErr result (Abandoned {X = Ending} step (Arrived line env.now bytes)
+        journal.old journal.new
         (view_of (H.told host.old) (O.told out.old) (E.told err.old))
         (view_of (H.told host.new) (O.told out.new) (E.told err.new))) }
     ensures keeping { Keeping journal.new [] }
@@ -158,10 +160,12 @@ fn run_objects<'a, H: Host, O: Sink, E: Sink>(
     journal: &mut Journal,
 ) -> Result<Ending, Memory>
     requires keeping { Keeping journal.old [] }
-    ensures ok { IfOk result (λ ending. Completes step (Arrived line env.now bytes) ending journal.old journal.new
+    ensures ok { IfOk result (λ ending. Completes step (Arrived line env.now bytes) ending
+        journal.old journal.new
         (view_of (H.told objects.old.host.now) (O.told objects.old.out.now) (E.told objects.old.err.now))
         (view_of (H.told objects.new.host.now) (O.told objects.new.out.now) (E.told objects.new.err.now))) }
-    ensures memory { OnErr result (Abandoned {X = Ending} step (Arrived line env.now bytes) journal.old journal.new
+    ensures memory { OnErr result (Abandoned {X = Ending} step (Arrived line env.now bytes)
+        journal.old journal.new
         (view_of (H.told objects.old.host.now) (O.told objects.old.out.now) (E.told objects.old.err.now))
         (view_of (H.told objects.new.host.now) (O.told objects.new.out.now) (E.told objects.new.err.now))) }
     ensures keeping { Keeping journal.new [] }
