@@ -30,8 +30,10 @@ pub fn perform<D: Outside>(
     journal: &mut Journal,
 ) -> Result<Option<End>, Memory>
     requires keeping { Keeping journal.old process.old.locks.names }
-    ensures carries { Carries (run_recipe (top_of recipe.now) (act_of recipe.now.action) (mind_of process.old))
-        (λ end. turn_of end (mind_of process.new)) result journal.old journal.new (D.told outside.old) (D.told outside.new) }
+    ensures carries { Carries
+        (run_recipe (top_of recipe.now) (act_of recipe.now.action) (mind_of process.old))
+        (λ end. turn_of end (mind_of process.new)) result
+        journal.old journal.new (D.told outside.old) (D.told outside.new) }
     ensures keeping { Keeping journal.new process.new.locks.names }
 {
     if !is_plain(recipe) {

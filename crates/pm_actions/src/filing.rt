@@ -117,7 +117,8 @@ fn append_all<D: Outside>(
     requires keeping { Keeping journal.old process.old.locks.names }
     requires room { length process.old.locks.names + length copies.items ≤ journal.old.room }
     requires shown { AllShown copies.items }
-    ensures files { Executes (file_copies copies.items (mind_of process.old)) (filing_of result (mind_of process.new))
+    ensures files { Executes (file_copies copies.items (mind_of process.old))
+        (filing_of result (mind_of process.new))
         journal.old journal.new (D.told outside.old) (D.told outside.new) }
     ensures keeping { Keeping journal.new process.new.locks.names }
 {

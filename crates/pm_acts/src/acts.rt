@@ -25,7 +25,8 @@ pub fn tell<D: Outside>(
     journal: &mut Journal,
 ) -> Result<(), Memory>
     requires keeping { Keeping journal.old held.now.names }
-    ensures ok { IfOk result (λ _. Says line journal.old journal.new (D.told outside.old) (D.told outside.new)) }
+    ensures ok { IfOk result (λ _. Says line
+        journal.old journal.new (D.told outside.old) (D.told outside.new)) }
     ensures memory { OnErr result (OutOfMemory (ask (SayErr line))
         journal.old journal.new (D.told outside.old) (D.told outside.new)) }
     ensures keeping { Keeping journal.new held.now.names }

@@ -1,7 +1,7 @@
 //! The host and the sinks of a run, lent for its acts.
-ghost use Rattle.std.specs.Prelude.{◌≡◌, [], IfOk};
+ghost use Rattle.std.specs.Prelude.{◌≡◌, IfOk};
 ghost use Rattle.pm_journal.specs.Appending.{append_reply};
-ghost use Rattle.pm_journal.specs.Entries.{counts_of, seen_by, unlock_reply};
+ghost use Rattle.pm_journal.specs.Entries.{counts_of, view_of, unlock_reply};
 ghost use Rattle.pm_append.specs.ReadsFile.{read_reply, content_of};
 ghost use Rattle.pm_append.specs.Writing.{say_reply};
 
@@ -23,7 +23,8 @@ pub struct Objects<'a, H: Host, O: Sink, E: Sink> {
 impl<'a, H: Host, O: Sink, E: Sink> Objects<'a, H, O, E> {
     // The counts of faults at this moment.
     fn counts(&self) -> Counts
-        ensures { result ≡ counts_of (seen_by [] (H.told self.now.host.now) (O.told self.now.out.now) (E.told self.now.err.now)) }
+        ensures { result ≡ counts_of (view_of
+            (H.told self.now.host.now) (O.told self.now.out.now) (E.told self.now.err.now)) }
     {
         Counts {
             host: self.host.faults(),
@@ -37,7 +38,8 @@ impl<'a, H: Host, O: Sink, E: Sink> Outside for Objects<'a, H, O, E> {
     ghost use Rattle.std.specs.Prelude.{[], ◌∷◌};
     ghost use Rattle.pm_journal.specs.Entries.{seen_by};
 
-    ghost told = { λ o. seen_by (o.host.ghost_name ∷ o.out.ghost_name ∷ o.err.ghost_name ∷ []) (H.told o.host.now) (O.told o.out.now) (E.told o.err.now) };
+    ghost told = { λ o. seen_by (o.host.ghost_name ∷ o.out.ghost_name ∷ o.err.ghost_name ∷ [])
+        (H.told o.host.now) (O.told o.out.now) (E.told o.err.now) };
 
     fn append(&mut self, journal: &mut Journal, name: Name, piece: Blob) -> AppendEnd {
         let before = self.counts();

@@ -33,7 +33,8 @@ pub trait Outside {
     /// file was read in part.
     fn read(&mut self, alloc: Global, journal: &mut Journal, name: Name) -> Result<Option<Blob>, Memory>
         requires { 0 < journal.old.room }
-        ensures ok { IfOk result (λ content. NotesRead name content journal.old journal.new (told self.old) (told self.new)) }
+        ensures ok { IfOk result (λ content. NotesRead name content
+            journal.old journal.new (told self.old) (told self.new)) }
         ensures fits { IfOk result (λ content. FitsFile content) }
         ensures left { OnErr result (LeavesRead name (told self.old) (told self.new)) }
         ensures same { OnErr result (journal.new ≡ journal.old) };
