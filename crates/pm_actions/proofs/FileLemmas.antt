@@ -33,7 +33,7 @@ with_value_again : (name first second : List ℕ) (vs : List Variable) → with_
 with_value_again name first second [] = ap (λ b. if b then (record { name = name; value = second } ∷ []) else (record { name = name; value = first } ∷ record { name = name; value = second } ∷ [])) (same_name name)
 with_value_again name first second (v ∷ vs) =
     elim (bytes_eq name v.name) as (λ b. bytes_eq name v.name ≡ b
-        → with_value name second (if b then (record { name = v.name; value = first } ∷ vs) else (v ∷ with_value name first vs)) ≡ (if b then (record { name = v.name; value = second } ∷ vs) else (v ∷ with_value name second vs))) [
+    → with_value name second (if b then (record { name = v.name; value = first } ∷ vs) else (v ∷ with_value name first vs)) ≡ (if b then (record { name = v.name; value = second } ∷ vs) else (v ∷ with_value name second vs))) [
       | true ↦ λ e. ap (λ b. if b then (record { name = v.name; value = second } ∷ vs) else (record { name = v.name; value = first } ∷ with_value name second vs)) e
       | false ↦ λ e. ap (λ b. if b then (record { name = v.name; value = second } ∷ with_value name first vs) else (v ∷ with_value name second (with_value name first vs))) e ∙ ap (λ l. v ∷ l) (with_value_again name first second vs)
     ] refl

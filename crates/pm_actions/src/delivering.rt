@@ -41,7 +41,14 @@ pub fn perform<D: Outside>(
     }
     match &recipe.action {
         Action::Mailbox(text) => {
-            deliver_text(alloc, recipe.flags, text.as_slice(), process, outside, journal)
+            deliver_text(
+                alloc,
+                recipe.flags,
+                text.as_slice(),
+                process,
+                outside,
+                journal,
+            )
         }
         _ => Ok(Some(End::NotBuilt)),
     }
@@ -77,7 +84,15 @@ fn deliver_text<D: Outside>(
     }
     match expand_text(alloc, text, Mode::Many, &process.vars)? {
         Expansion::Words(words) => {
-            deliver_to_words(alloc, flags, text, words.as_slice(), process, outside, journal)
+            deliver_to_words(
+                alloc,
+                flags,
+                text,
+                words.as_slice(),
+                process,
+                outside,
+                journal,
+            )
         }
         Expansion::TooLong(length) => skip_value(alloc, length, process, outside, journal),
     }

@@ -31,7 +31,12 @@ pub trait Outside {
 
     /// Reads the whole file; `None` where the reply isn't its content. After want of memory nothing is noted, and the
     /// file was read in part.
-    fn read(&mut self, alloc: Global, journal: &mut Journal, name: Name) -> Result<Option<Blob>, Memory>
+    fn read(
+        &mut self,
+        alloc: Global,
+        journal: &mut Journal,
+        name: Name,
+    ) -> Result<Option<Blob>, Memory>
         requires { 0 < journal.old.room }
         ensures ok { IfOk result (λ content. NotesRead name content
             journal.old journal.new (told self.old) (told self.new)) }

@@ -89,7 +89,7 @@ fn set_place(alloc: Global, vars: &mut Vars, filter: bool, env: &Environ) -> Res
 fn set_mailbox(alloc: Global, vars: &mut Vars, filter: bool, env: &Environ) -> Result<(), Memory>
     ensures { IfOk result (λ _.
         vars.new ≡ record vars.old
-            { variables = all_set (mailbox_values filter env.now) vars.old.variables }) }
+        { variables = all_set (mailbox_values filter env.now) vars.old.variables }) }
 {
     if filter {
         return Ok(());

@@ -76,7 +76,13 @@ fn arrive<D: Outside>(
         return begin(alloc, line.filter, env, message);
     }
     let moment = ask_moment(&HeldLocks::new(alloc), outside, journal)?;
-    let message = prepare(alloc, bytes, &renewal(line.filter), login(env).as_bytes(), moment)?;
+    let message = prepare(
+        alloc,
+        bytes,
+        &renewal(line.filter),
+        login(env).as_bytes(),
+        moment,
+    )?;
     begin(alloc, line.filter, env, message)
 }
 
@@ -84,7 +90,11 @@ fn arrive<D: Outside>(
 fn renewal(filter: bool) -> Renew
     ensures { result ≡ renewal_of filter }
 {
-    if filter { Renew::Keep } else { Renew::AddMissing }
+    if filter {
+        Renew::Keep
+    } else {
+        Renew::AddMissing
+    }
 }
 
 // Whether the mail lacks a From line and should have one.

@@ -24,9 +24,11 @@ returns-then-has_folder-clause-carries g c =
 pub returns-in_err-filed-in-Some-clause-carries : goal.returns-in_err-filed-in-Some-clause-carries
 returns-in_err-filed-in-Some-clause-carries g c =
     let p = mind_of c.args.process.now in
-    let usable = rw c.in-Some.is at c.in_ok-file_names.ensures in
-    (search rules, on_err _ _ (filed_to_all_out c.args.flags c.args.text.now c.args.words.now c.as_slice-names.result.now p _ _ _ _ usable.0 (c.as_slice-names.ensures.value ∙ usable.1) (sym c.has_folder.ensures ∙ c.if-has_folder.false)
-    (filed_out c.args.flags c.as_slice-names.result.now p _ _ _ _ c.in_err-filed-in-Some.ensures.carries.1)))
+    let usable = rw c.in-Some.is at c.in_ok-file_names.ensures in (
+      search rules,
+      on_err _ _ (filed_to_all_out c.args.flags c.args.text.now c.args.words.now c.as_slice-names.result.now p _ _ _ _ usable.0 (c.as_slice-names.ensures.value ∙ usable.1) (sym c.has_folder.ensures ∙ c.if-has_folder.false)
+          (filed_out c.args.flags c.as_slice-names.result.now p _ _ _ _ c.in_err-filed-in-Some.ensures.carries.1)),
+    )
 
 pub returns-in_ok-filed-in-Some-clause-carries : goal.returns-in_ok-filed-in-Some-clause-carries
 returns-in_ok-filed-in-Some-clause-carries g c =
@@ -36,6 +38,7 @@ returns-in_ok-filed-in-Some-clause-carries g c =
     let names = c.as_slice-names.result.now in
     let usable = rw c.in-Some.is at c.in_ok-file_names.ensures in
     let files = sym c.has_folder.ensures ∙ c.if-has_folder.false in
-    let filed = c.in_ok-filed-in-Some.ensures.carries.0 in
-    (ok_map _ _ _ (λ end h. filed_to_all c.args.flags c.args.text.now c.args.words.now names p _ _ _ _ _ usable.0 (c.as_slice-names.ensures.value ∙ usable.1) files (filed_then c.args.flags names p filing _ _ c.file_all.new.journal _ _ _ _ filed h)) told.0,
-    err_map _ _ _ (λ h. filed_to_all_out c.args.flags c.args.text.now c.args.words.now names p _ _ _ _ usable.0 (c.as_slice-names.ensures.value ∙ usable.1) files (filed_then_out c.args.flags names p filing _ c.file_all.new.journal _ _ _ _ filed h)) told.1)
+    let filed = c.in_ok-filed-in-Some.ensures.carries.0 in (
+      ok_map _ _ _ (λ end h. filed_to_all c.args.flags c.args.text.now c.args.words.now names p _ _ _ _ _ usable.0 (c.as_slice-names.ensures.value ∙ usable.1) files (filed_then c.args.flags names p filing _ _ c.file_all.new.journal _ _ _ _ filed h)) told.0,
+      err_map _ _ _ (λ h. filed_to_all_out c.args.flags c.args.text.now c.args.words.now names p _ _ _ _ usable.0 (c.as_slice-names.ensures.value ∙ usable.1) files (filed_then_out c.args.flags names p filing _ c.file_all.new.journal _ _ _ _ filed h)) told.1,
+    )

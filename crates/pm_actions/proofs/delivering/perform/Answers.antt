@@ -13,9 +13,10 @@ returns-in-Mailbox-clause-carries g c =
     let top = top_of c.args.recipe.now in
     let p = mind_of c.args.process.now in
     let plain = sym c.is_plain.ensures ∙ c.if-not-is_plain.false in
-    let done = c.deliver_text.ensures.carries in
-    (ok_map _ _ _ (λ end h. mailbox_carried top c.args.recipe.now.action _ c.as_slice.result.now p _ _ _ _ _ plain c.in-Mailbox.is c.as_slice.ensures h) done.0,
-    err_map _ _ _ (λ h. mailbox_carried_out top c.args.recipe.now.action _ c.as_slice.result.now p _ _ _ _ plain c.in-Mailbox.is c.as_slice.ensures h) done.1)
+    let done = c.deliver_text.ensures.carries in (
+      ok_map _ _ _ (λ end h. mailbox_carried top c.args.recipe.now.action _ c.as_slice.result.now p _ _ _ _ _ plain c.in-Mailbox.is c.as_slice.ensures h) done.0,
+      err_map _ _ _ (λ h. mailbox_carried_out top c.args.recipe.now.action _ c.as_slice.result.now p _ _ _ _ plain c.in-Mailbox.is c.as_slice.ensures h) done.1,
+    )
 
 pub returns-in_default : goal.returns-in_default
 returns-in_default g c = record {

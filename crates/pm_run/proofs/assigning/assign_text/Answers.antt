@@ -20,6 +20,7 @@ returns-in_err-words-clause-carries g c =
 
 pub returns-in-Words-clause-carries : goal.returns-in-Words-clause-carries
 returns-in-Words-clause-carries g c =
-    let k = rw c.in-Words.is at c.in_ok-words.ensures in
-    (ok_map _ _ _ (λ end h. value_assigned c.args.name.now c.args.text.now c.first_word-value.result (mind_of c.args.process.now) _ _ _ _ _ (sym c.in_ok-waits.ensures ∙ c.if-branch.false) k.0 (c.first_word-value.ensures ∙ ap first_word k.1) h) c.assign_value.ensures.carries.0,
-    err_map _ _ _ (λ h. value_assigned_out c.args.name.now c.args.text.now c.first_word-value.result (mind_of c.args.process.now) _ _ _ _ (sym c.in_ok-waits.ensures ∙ c.if-branch.false) k.0 (c.first_word-value.ensures ∙ ap first_word k.1) h) c.assign_value.ensures.carries.1)
+    let k = rw c.in-Words.is at c.in_ok-words.ensures in (
+      ok_map _ _ _ (λ end h. value_assigned c.args.name.now c.args.text.now c.first_word-value.result (mind_of c.args.process.now) _ _ _ _ _ (sym c.in_ok-waits.ensures ∙ c.if-branch.false) k.0 (c.first_word-value.ensures ∙ ap first_word k.1) h) c.assign_value.ensures.carries.0,
+      err_map _ _ _ (λ h. value_assigned_out c.args.name.now c.args.text.now c.first_word-value.result (mind_of c.args.process.now) _ _ _ _ (sym c.in_ok-waits.ensures ∙ c.if-branch.false) k.0 (c.first_word-value.ensures ∙ ap first_word k.1) h) c.assign_value.ensures.carries.1,
+    )

@@ -24,6 +24,7 @@ returns-in_err-message-2-clause-carries g c =
 
 pub returns-clause-carries : goal.returns-clause-carries
 returns-clause-carries g c =
-    let moment = to_z-of_z {w = w64} {z = c.in_ok-moment.moment} (search rules) in
-    (ok_map _ _ _ (λ p h. arrived_dated c.args.line.now c.args.env.now c.args.bytes.now c.login.result.now c.in_ok-moment.moment c.in_ok-message-2.message (mind_of p) _ _ _ _ (sym c.wants_line.ensures ∙ c.if-not-wants_line.false) c.login.ensures (rw (moment, c.renewal.ensures, c.as_bytes.ensures.value) at c.in_ok-message-2.ensures.prepared) h c.in_ok-moment.ensures.carries.0) c.begin-2.ensures,
-    on_err _ _ (dated_then_wants c.args.line.now c.args.env.now c.args.bytes.now _ _ _ _ _ (sym c.wants_line.ensures ∙ c.if-not-wants_line.false) c.in_ok-moment.ensures.carries.0))
+    let moment = to_z-of_z {w = w64} {z = c.in_ok-moment.moment} (search rules) in (
+      ok_map _ _ _ (λ p h. arrived_dated c.args.line.now c.args.env.now c.args.bytes.now c.login.result.now c.in_ok-moment.moment c.in_ok-message-2.message (mind_of p) _ _ _ _ (sym c.wants_line.ensures ∙ c.if-not-wants_line.false) c.login.ensures (rw (moment, c.renewal.ensures, c.as_bytes.ensures.value) at c.in_ok-message-2.ensures.prepared) h c.in_ok-moment.ensures.carries.0) c.begin-2.ensures,
+      on_err _ _ (dated_then_wants c.args.line.now c.args.env.now c.args.bytes.now _ _ _ _ _ (sym c.wants_line.ensures ∙ c.if-not-wants_line.false) c.in_ok-moment.ensures.carries.0),
+    )

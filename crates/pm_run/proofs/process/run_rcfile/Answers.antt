@@ -19,6 +19,7 @@ pub returns-in-Read-clause-walks : goal.returns-in-Read-clause-walks
 returns-in-Read-clause-walks g c =
     let start = opening c.args.name (mind_of c.args.process.now) in
     let left = Running (ahead c.in-Read.statements []) (mind_of c.open_rcfile.new.process) in
-    let opened = rw c.in-Read.is at c.in_ok-end.ensures.carries.0 in
-    (ok_map _ _ _ (λ end h. reaches_after step start left (Over end (mind_of c.run_rest.new.process)) c.args.journal.now c.open_rcfile.new.journal c.run_rest.new.journal _ _ _ opened h) c.run_rest.ensures.walks.0,
-    err_map _ _ _ (λ h. interrupted_after step start left c.args.journal.now c.open_rcfile.new.journal c.run_rest.new.journal _ _ _ opened h) c.run_rest.ensures.walks.1)
+    let opened = rw c.in-Read.is at c.in_ok-end.ensures.carries.0 in (
+      ok_map _ _ _ (λ end h. reaches_after step start left (Over end (mind_of c.run_rest.new.process)) c.args.journal.now c.open_rcfile.new.journal c.run_rest.new.journal _ _ _ opened h) c.run_rest.ensures.walks.0,
+      err_map _ _ _ (λ h. interrupted_after step start left c.args.journal.now c.open_rcfile.new.journal c.run_rest.new.journal _ _ _ opened h) c.run_rest.ensures.walks.1,
+    )

@@ -9,6 +9,7 @@ pub returns-in-None-clause-walks : goal.returns-in-None-clause-walks
 returns-in-None-clause-walks g c =
     let start = Running (ahead c.args.statements.now []) (mind_of c.args.process.now) in
     let left = Running [] (mind_of c.run_statements.new.process) in
-    let reached = rw c.in-None.is at c.in_ok-end.ensures.walks.0 in
-    (ok_map _ _ _ (λ end h. reaches_then step start left (Over end (mind_of c.run_statements.new.process)) c.args.journal.now c.run_statements.new.journal c.fall_off.new.journal _ _ _ reached h) c.fall_off.ensures.carries.0,
-    err_map _ _ _ (λ h. interrupted_then step start left c.args.journal.now c.run_statements.new.journal c.fall_off.new.journal _ _ _ reached h) c.fall_off.ensures.carries.1)
+    let reached = rw c.in-None.is at c.in_ok-end.ensures.walks.0 in (
+      ok_map _ _ _ (λ end h. reaches_then step start left (Over end (mind_of c.run_statements.new.process)) c.args.journal.now c.run_statements.new.journal c.fall_off.new.journal _ _ _ reached h) c.fall_off.ensures.carries.0,
+      err_map _ _ _ (λ h. interrupted_then step start left c.args.journal.now c.run_statements.new.journal c.fall_off.new.journal _ _ _ reached h) c.fall_off.ensures.carries.1,
+    )
