@@ -117,3 +117,10 @@ promised_kept run x is t k child = promised run t (subst AllGivenBack (sym is) (
 -- a run that noted nothing
 pub promised_refused : (run : Run) → run.entries ≡ [] → Traced run → run.before.host.child ≡ NoChild → Promise run
 promised_refused run none t child = promised run t (subst AllGivenBack (sym none) tt) child
+
+-- the promise of a run over other objects that tell the same
+pub promised_lent : (run : Run) (before after : View) → before ≡ run.before → after ≡ run.after → Promise run
+    → Promise (record { words = run.words; env = run.env; status = run.status; source = run.source; rest = run.rest; entries = run.entries; before = before; after = after })
+promised_lent run before after b a p =
+    subst (λ v. Promise (record { words = run.words; env = run.env; status = run.status; source = run.source; rest = run.rest; entries = run.entries; before = before; after = v })) (sym a)
+    (subst (λ v. Promise (record { words = run.words; env = run.env; status = run.status; source = run.source; rest = run.rest; entries = run.entries; before = v; after = run.after })) (sym b) p)

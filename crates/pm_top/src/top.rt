@@ -45,97 +45,8 @@ pub fn procmail<S: Source, H: Host, O: Sink, E: Sink>(
       after = view_of (H.told host.new) (O.told out.new) (E.told err.new);
     }) }
 {
-    match read_words(alloc, words) {
-        Ok(Some(line)) => run_line(alloc, line, env, source, host, out, err, journal),
-        Ok(None) => refuse(err, Status::Usage),
-        Err(Memory) => refuse(err, Status::SystemError),
-    }
-}
-
-fn run_line<S: Source, H: Host, O: Sink, E: Sink>(
-    alloc: Global,
-    line: CommandLine,
-    env: &Environ,
-    source: &mut S,
-    host: &mut H,
-    out: &mut O,
-    err: &mut E,
-    journal: &mut Journal,
-) -> u8
-    requires empty { journal.old.entries ≡ [] }
-    ensures run { RunsLine line (λ words. record {
-      words = words;
-      env = env.now;
-      status = result;
-      source = S.told source.old;
-      rest = S.told source.new;
-      entries = journal.new.entries;
-      before = view_of (H.told host.old) (O.told out.old) (E.told err.old);
-      after = view_of (H.told host.new) (O.told out.new) (E.told err.new);
-    }) }
-    ensures keeping { Keeping journal.new [] }
-{
-    match read_mail(alloc, source) {
-        Ok(Mail::Bytes(bytes)) => run_mail(alloc, line, env, bytes, host, out, err, journal),
-        Ok(Mail::TooMany) => refuse(err, Status::DataError),
-        Ok(Mail::Failed) => refuse(err, Status::InputOutput),
-        Err(Memory) => refuse(err, Status::SystemError),
-    }
-}
-
-fn run_mail<H: Host, O: Sink, E: Sink>(
-    alloc: Global,
-    line: CommandLine,
-    env: &Environ,
-    bytes: Blob,
-    host: &mut H,
-    out: &mut O,
-    err: &mut E,
-    journal: &mut Journal,
-) -> u8
-    requires empty { journal.old.entries ≡ [] }
-    ensures run { RunsMail line bytes (λ words source rest. record {
-      words = words;
-      env = env.now;
-      status = result;
-      source = source;
-      rest = rest;
-      entries = journal.new.entries;
-      before = view_of (H.told host.old) (O.told out.old) (E.told err.old);
-      after = view_of (H.told host.new) (O.told out.new) (E.told err.new);
-    }) }
-    ensures keeping { Keeping journal.new [] }
-{
-    match run_lent(alloc, line, env, bytes, host, out, err, journal) {
-        Ok(ending) => finish(err, ending),
-        Err(Memory) => refuse(err, Status::SystemError),
-    }
-}
-
-// The process, over objects that are lent to it.
-fn run_lent<H: Host, O: Sink, E: Sink>(
-    alloc: Global,
-    line: CommandLine,
-    env: &Environ,
-    bytes: Blob,
-    host: &mut H,
-    out: &mut O,
-    err: &mut E,
-    journal: &mut Journal,
-) -> Result<Ending, Memory>
-    requires keeping { Keeping journal.old [] }
-    ensures ok { IfOk result (λ ending. Completes step (Arrived line env.now bytes) ending
-        journal.old journal.new
-        (view_of (H.told host.old) (O.told out.old) (E.told err.old))
-        (view_of (H.told host.new) (O.told out.new) (E.told err.new))) }
-    ensures memory { OnErr result (Abandoned {X = Ending} step (Arrived line env.now bytes)
-        journal.old journal.new
-        (view_of (H.told host.old) (O.told out.old) (E.told err.old))
-        (view_of (H.told host.new) (O.told out.new) (E.told err.new))) }
-    ensures keeping { Keeping journal.new [] }
-{
     let mut objects = lend(host, out, err);
-    run_objects(alloc, line, env, bytes, &mut objects, journal)
+    run_words(alloc, words, env, source, &mut objects, journal)
 }
 
 fn lend<'a, H: Host, O: Sink, E: Sink>(
@@ -148,6 +59,99 @@ fn lend<'a, H: Host, O: Sink, E: Sink>(
     ensures err { (result.err.ghost_name ≡ err.entry.ghost_name) × (result.err.now ≡ err.old) }
 {
     Objects { host, out, err }
+}
+
+fn run_words<'a, S: Source, H: Host, O: Sink, E: Sink>(
+    alloc: Global,
+    words: &[String],
+    env: &Environ,
+    source: &mut S,
+    objects: &mut Objects<'a, H, O, E>,
+    journal: &mut Journal,
+) -> u8
+    requires empty { journal.old.entries ≡ [] }
+    requires no_child { (H.told objects.old.host.now).child ≡ Child.NoChild }
+    ensures promise { Promise (record {
+      words = words.now;
+      env = env.now;
+      status = result;
+      source = S.told source.old;
+      rest = S.told source.new;
+      entries = journal.new.entries;
+      before = view_of (H.told objects.old.host.now) (O.told objects.old.out.now) (E.told objects.old.err.now);
+      after = view_of (H.told objects.new.host.now) (O.told objects.new.out.now) (E.told objects.new.err.now);
+    }) }
+    ensures host { objects.new.host.ghost_name ≡ objects.old.host.ghost_name }
+    ensures out { objects.new.out.ghost_name ≡ objects.old.out.ghost_name }
+    ensures err { objects.new.err.ghost_name ≡ objects.old.err.ghost_name }
+{
+    match read_words(alloc, words) {
+        Ok(Some(line)) => run_line(alloc, line, env, source, objects, journal),
+        Ok(None) => refuse(&mut *objects.err, Status::Usage),
+        Err(Memory) => refuse(&mut *objects.err, Status::SystemError),
+    }
+}
+
+fn run_line<'a, S: Source, H: Host, O: Sink, E: Sink>(
+    alloc: Global,
+    line: CommandLine,
+    env: &Environ,
+    source: &mut S,
+    objects: &mut Objects<'a, H, O, E>,
+    journal: &mut Journal,
+) -> u8
+    requires empty { journal.old.entries ≡ [] }
+    ensures run { RunsLine line (λ words. record {
+      words = words;
+      env = env.now;
+      status = result;
+      source = S.told source.old;
+      rest = S.told source.new;
+      entries = journal.new.entries;
+      before = view_of (H.told objects.old.host.now) (O.told objects.old.out.now) (E.told objects.old.err.now);
+      after = view_of (H.told objects.new.host.now) (O.told objects.new.out.now) (E.told objects.new.err.now);
+    }) }
+    ensures keeping { Keeping journal.new [] }
+    ensures host { objects.new.host.ghost_name ≡ objects.old.host.ghost_name }
+    ensures out { objects.new.out.ghost_name ≡ objects.old.out.ghost_name }
+    ensures err { objects.new.err.ghost_name ≡ objects.old.err.ghost_name }
+{
+    match read_mail(alloc, source) {
+        Ok(Mail::Bytes(bytes)) => run_mail(alloc, line, env, bytes, objects, journal),
+        Ok(Mail::TooMany) => refuse(&mut *objects.err, Status::DataError),
+        Ok(Mail::Failed) => refuse(&mut *objects.err, Status::InputOutput),
+        Err(Memory) => refuse(&mut *objects.err, Status::SystemError),
+    }
+}
+
+fn run_mail<'a, H: Host, O: Sink, E: Sink>(
+    alloc: Global,
+    line: CommandLine,
+    env: &Environ,
+    bytes: Blob,
+    objects: &mut Objects<'a, H, O, E>,
+    journal: &mut Journal,
+) -> u8
+    requires empty { journal.old.entries ≡ [] }
+    ensures run { RunsMail line bytes (λ words source rest. record {
+      words = words;
+      env = env.now;
+      status = result;
+      source = source;
+      rest = rest;
+      entries = journal.new.entries;
+      before = view_of (H.told objects.old.host.now) (O.told objects.old.out.now) (E.told objects.old.err.now);
+      after = view_of (H.told objects.new.host.now) (O.told objects.new.out.now) (E.told objects.new.err.now);
+    }) }
+    ensures keeping { Keeping journal.new [] }
+    ensures host { objects.new.host.ghost_name ≡ objects.old.host.ghost_name }
+    ensures out { objects.new.out.ghost_name ≡ objects.old.out.ghost_name }
+    ensures err { objects.new.err.ghost_name ≡ objects.old.err.ghost_name }
+{
+    match run_objects(alloc, line, env, bytes, objects, journal) {
+        Ok(ending) => finish(&mut *objects.err, ending),
+        Err(Memory) => refuse(&mut *objects.err, Status::SystemError),
+    }
 }
 
 // The process, after which the objects are the same ones.

@@ -1,19 +1,6 @@
-use Rattle.std.proofs.Common.{refl, sym, ◌∙◌}
-use Rattle.pm_meaning.specs.declared.status.Status.TheVariants.{Usage, SystemError}
-use Rattle.pm_top.proofs.Tracing.{refused, bad_words_run, not_begun_read}
-use Rattle.pm_top.proofs.Promised.{promised_kept, promised_refused}
+use Rattle.std.proofs.Common.{rules}
+use Rattle.pm_top.proofs.Promised.{promised_lent}
 use Rattle.pm_top.proofs.top.procmail.Goals as goal
 
-pub returns-in-Ok-Some : goal.returns-in-Ok-Some
-returns-in-Ok-Some g c = record { promise = promised_kept _ c.run_line.new.journal refl (c.run_line.ensures.run c.args.words.now (sym c.in-Ok-Some.ensures.ok ∙ c.in-Ok-Some.field-0-is)) c.run_line.ensures.keeping c.requires.no_child }
-
-pub returns-in-Ok-None : goal.returns-in-Ok-None
-returns-in-Ok-None g c = record {
-  promise = promised_refused _ c.requires.empty (bad_words_run _ (sym c.in-Ok-None.ensures.ok ∙ c.in-Ok-None.field-0-is) refl (refused _ Usage c.refuse.ensures.same c.requires.empty refl refl c.refuse.ensures.said)) c.requires.no_child;
-}
-
-pub returns-in-Err : goal.returns-in-Err
-returns-in-Err g c = record {
-  promise = promised_refused _ c.requires.empty (not_begun_read _ _ refl c.in-Err.ensures.memory (refused _ SystemError c.refuse-in-Err.ensures.same c.requires.empty refl refl c.refuse-in-Err.ensures.said))
-      c.requires.no_child;
-}
+pub returns : goal.returns
+returns g c = record { promise = promised_lent _ _ _ (search rules) (search rules) c.run_words.ensures.promise }
