@@ -1,5 +1,5 @@
 //! Single acts, each a plan of its own: room is made for its entry beside those of the unlocks of the held locks, and
-//! it is done and noted.
+//! it is done and noted. After want of memory nothing was noted.
 ghost use Rattle.std.specs.Prelude.{◌≡◌, [], IfOk, OnErr};
 ghost use Rattle.pm_append.specs.ReadsFile.{FitsFile};
 ghost use Rattle.pm_journal.specs.declared.acts.Act.TheVariants.{ReadFile, Probe, Append, SayErr, Moment};
@@ -29,6 +29,7 @@ pub fn tell<D: Outside>(
         journal.old journal.new (D.told outside.old) (D.told outside.new)) }
     ensures memory { OnErr result (OutOfMemory (ask (SayErr line))
         journal.old journal.new (D.told outside.old) (D.told outside.new)) }
+    ensures untouched { OnErr result (journal.new.entries ≡ journal.old.entries) }
     ensures keeping { Keeping journal.new held.now.names }
 {
     journal.reserve(held.len() + 1)?;
@@ -46,6 +47,7 @@ pub fn probe<D: Outside>(
     requires keeping { Keeping journal.old held.now.names }
     ensures carries { Carries (ask (Probe name)) (λ looked. Found looked) result
         journal.old journal.new (D.told outside.old) (D.told outside.new) }
+    ensures untouched { OnErr result (journal.new.entries ≡ journal.old.entries) }
     ensures keeping { Keeping journal.new held.now.names }
 {
     journal.reserve(held.len() + 1)?;
@@ -61,6 +63,7 @@ pub fn ask_moment<D: Outside>(
     requires keeping { Keeping journal.old held.now.names }
     ensures carries { Carries (ask Moment) (λ moment. Now moment) result
         journal.old journal.new (D.told outside.old) (D.told outside.new) }
+    ensures untouched { OnErr result (journal.new.entries ≡ journal.old.entries) }
     ensures keeping { Keeping journal.new held.now.names }
 {
     journal.reserve(held.len() + 1)?;
@@ -81,6 +84,7 @@ pub fn read<D: Outside>(
     ensures fits { IfOk result (λ content. FitsFile content) }
     ensures memory { OnErr result (OutOfMemory (ask (ReadFile name))
         journal.old journal.new (D.told outside.old) (D.told outside.new)) }
+    ensures untouched { OnErr result (journal.new.entries ≡ journal.old.entries) }
     ensures keeping { Keeping journal.new held.now.names }
 {
     journal.reserve(held.len() + 1)?;
