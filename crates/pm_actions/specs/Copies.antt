@@ -15,6 +15,7 @@ use Rattle.pm_actions.specs.declared.filing.Copy.{Copy}
 abbrev pub remembered : List ℕ → Table → Table
 remembered word vars = record vars { variables = with_value (codes "LASTFOLDER") word vars.variables }
 
+-- one destination with its name, its piece, and the variables once it has the mail
 abbrev pub copy_for : Flags → Mind → List ℕ → Copy
 copy_for flags p word = record {
   name = full_name p.base word;
@@ -27,6 +28,7 @@ copy_for flags p word = record {
 abbrev pub filing_of : Filed → Mind → Filing
 filing_of filed p = record { filed = filed; mind = p }
 
+-- the process with these variables
 abbrev pub with_vars : Table → Mind → Mind
 with_vars vars p = record p { vars = vars }
 
@@ -35,6 +37,7 @@ abbrev pub mind_after : Filed → Table → Mind → Mind
 mind_after Stored vars p = with_vars vars p
 mind_after other vars p = p
 
+-- the destination has the mail
 abbrev pub is_stored_end : Filed → Bool
 is_stored_end Stored = true
 is_stored_end other = false

@@ -8,6 +8,7 @@ use Rattle.pm_journal.specs.Executed.{WantsAct, HasEnded, TakesCalls}
 use Rattle.pm_journal.specs.declared.acts.Entry.{Entry}
 use Rattle.pm_host.specs.declared.calls.Logged.{Logged}
 
+-- what comes of a step: the end, or the next state
 pub data Next (S X : Type 0) : Type 0 where
   Stop : X → Next S X
   Go : S → Next S X

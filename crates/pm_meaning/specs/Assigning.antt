@@ -17,6 +17,7 @@ use Rattle.pm_meaning.specs.Changes.{with_variable, without_variable, with_base}
 use Rattle.pm_meaning.specs.Turns.{Turn, GoesOn, not_built, say_then, has_command, is_too_long, skip_value}
 use Rattle.pm_meaning.specs.Minds.{Mind}
 
+-- the name is among these
 abbrev pub is_one_of : List ℕ → List (List ℕ) → Bool
 is_one_of name names = list_any (λ other. bytes_eq name other) names
 
@@ -37,6 +38,7 @@ abbrev pub first_word : List (List ℕ) → List ℕ
 first_word [] = []
 first_word (word ∷ words) = word
 
+-- the value that a text stands for
 abbrev pub value_in : Table → List ℕ → List ℕ
 value_in vars text = first_word (words_in One vars [] text)
 

@@ -5,9 +5,11 @@ use Rattle.pm_vars.specs.Variables.{value_of, with_value, without}
 use Rattle.pm_subst.specs.Values.{is_unset_or_empty}
 use Rattle.pm_meaning.specs.Minds.{Mind}
 
+-- the variable has this value
 abbrev pub with_variable : List ℕ → List ℕ → Mind → Mind
 with_variable name value p = record p { vars = record p.vars { variables = with_value name value p.vars.variables } }
 
+-- the variable is unset
 abbrev pub without_variable : List ℕ → Mind → Mind
 without_variable name p = record p { vars = record p.vars { variables = without name p.vars.variables } }
 

@@ -44,6 +44,7 @@ mailbox_piece flags p = piece_of p.message (feed_of flags) MailboxFile flags.raw
 abbrev pub is_folder_name : List ℕ → Bool
 is_folder_name name = ends_with nat_eq name (codes "/") || ends_with nat_eq name (codes "/.")
 
+-- `/dev/null` takes everything and is no file
 abbrev pub is_nothing : List ℕ → Bool
 is_nothing name = bytes_eq name (codes "/dev/null")
 
@@ -90,6 +91,7 @@ tell_filed flags Folder p = not_built p
 abbrev pub are_file_texts : List (List ℕ) → Bool
 are_file_texts words = not (length words == 0) && list_all is_file_text words
 
+-- names that can't be used are told; folders aren't built yet; else each destination gets the mail, and what came of it is told
 abbrev pub deliver_to : Flags → List ℕ → List (List ℕ) → Mind → Plan Turn
 deliver_to flags text words p =
     if not (are_file_texts words) then say_then p (unusable_name_line text) (GoesOn p)
@@ -108,5 +110,6 @@ abbrev pub act_on : Flags → Act → Mind → Plan Turn
 act_on flags (Mailbox text) p = deliver flags text p
 act_on flags other p = not_built p
 
+-- a recipe that is plain does its action
 abbrev pub run_recipe : Top → Act → Mind → Plan Turn
 run_recipe top act p = if is_plain top then act_on top.flags act p else not_built p

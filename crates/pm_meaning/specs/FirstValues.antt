@@ -8,6 +8,7 @@ use Rattle.pm_vars.specs.Variables.{Variable, value_of, with_value, variable_of}
 use Rattle.pm_subst.specs.Values.{is_empty}
 use Rattle.pm_meaning.specs.Minds.{Mind}
 
+-- a variable with its value
 abbrev pub variable : List ℕ → List ℕ → Variable
 variable name value = record { name = name; value = value }
 
@@ -20,6 +21,7 @@ abbrev pub passing : (List ℕ → Bool) → Option (List ℕ) → List ℕ → 
 passing fits None otherwise = otherwise
 passing fits (Some value) otherwise = if fits value then value else otherwise
 
+-- the value isn't empty
 abbrev pub is_filled : List ℕ → Bool
 is_filled value = not (is_empty value)
 
@@ -27,19 +29,24 @@ is_filled value = not (is_empty value)
 abbrev pub is_login : List ℕ → Bool
 is_login value = is_filled value && list_all (λ byte. nat_le 33 byte) value
 
+-- who runs the program: LOGNAME, or `nobody`
 abbrev pub login_name : Environ → List ℕ
 login_name env = passing is_login (environment_value env (codes "LOGNAME")) (codes "nobody")
 
+-- HOME, or the root
 abbrev pub home_folder : Environ → List ℕ
 home_folder env = passing is_filled (environment_value env (codes "HOME")) (codes "/")
 
+-- PATH, or where the system's programs are
 abbrev pub search_path : Environ → List ℕ
 search_path env = passing is_filled (environment_value env (codes "PATH")) (codes "/usr/bin:/bin")
 
+-- the variable, where it has a value
 abbrev pub variable_or_none : List ℕ → Option (List ℕ) → List Variable
 variable_or_none name None = []
 variable_or_none name (Some value) = variable name value ∷ []
 
+-- TZ, where the environment has it
 abbrev pub time_zone : Environ → List Variable
 time_zone env = variable_or_none (codes "TZ") (environment_value env (codes "TZ"))
 
@@ -47,6 +54,7 @@ time_zone env = variable_or_none (codes "TZ") (environment_value env (codes "TZ"
 abbrev pub first_folder : Bool → Environ → List ℕ
 first_folder filter env = if filter then codes "." else home_folder env
 
+-- the mailbox of the login name below /var/mail
 abbrev pub system_mailbox : Environ → List ℕ
 system_mailbox env = codes "/var/mail/" ++ login_name env
 
@@ -56,6 +64,7 @@ user_values env =
     variable (codes "LOGNAME") (login_name env) ∷ variable (codes "HOME") (home_folder env) ∷ variable (codes "SHELL") (codes "/bin/sh")
     ∷ variable (codes "PATH") (search_path env) ∷ []
 
+-- the host, and the folder from which names are seen
 abbrev pub place_values : Bool → Environ → List Variable
 place_values filter env = variable (codes "HOST") env.host_name ∷ variable (codes "MAILDIR") (first_folder filter env) ∷ []
 
@@ -64,11 +73,13 @@ abbrev pub mailbox_values : Bool → Environ → List Variable
 mailbox_values filter env =
     if filter then [] else variable (codes "ORGMAIL") (system_mailbox env) ∷ variable (codes "DEFAULT") (system_mailbox env) ∷ []
 
+-- how mail is sent on and how programs are started
 abbrev pub program_values : List Variable
 program_values =
     variable (codes "SENDMAIL") (codes "/usr/sbin/sendmail") ∷ variable (codes "SENDMAILFLAGS") (codes "-oi")
     ∷ variable (codes "SHELLMETAS") (codes "&|<>~;?*[") ∷ variable (codes "SHELLFLAGS") (codes "-c") ∷ []
 
+-- how files and lock files are named, and how long a lock is waited for
 abbrev pub file_values : List Variable
 file_values =
     variable (codes "MSGPREFIX") (codes "msg.") ∷ variable (codes "LOCKEXT") (codes ".lock") ∷ variable (codes "LOCKSLEEP") (codes "8")
@@ -83,6 +94,7 @@ abbrev pub all_set : List Variable → List Variable → List Variable
 all_set [] variables = variables
 all_set (v ∷ more) variables = all_set more (with_value v.name v.value variables)
 
+-- the first variables, without arguments
 abbrev pub first_table : Bool → Environ → Table
 first_table filter env = record {
   variables = all_set (first_values filter env) [];

@@ -49,6 +49,7 @@ abbrev pub dated : CommandLine → Environ → List ℕ → Reply → Plan (Next
 dated line env bytes (Now moment) = Ends (begun line env (prepared_of bytes (renewal line.filter) (login_name env) moment))
 dated line env bytes other = Ends (begun line env (split_of bytes))
 
+-- the message gets its From line where one is missing and wanted
 abbrev pub prepare : CommandLine → Environ → List ℕ → Plan (Next State Ending)
 prepare line env bytes =
     if makes_line bytes (renewal line.filter) then and_then (ask Moment) (dated line env bytes)
@@ -63,6 +64,7 @@ abbrev pub ahead : Trees → List Item → List Item
 ahead nil rest = rest
 ahead (cons tree trees) rest = Do tree ∷ ahead trees rest
 
+-- the statements of an rcfile that was read come first; one that wasn't is told
 abbrev pub after_read : List ℕ → List Item → Mind → Reply → Plan (Next State Ending)
 after_read name rest p (Content bytes) = Ends (Go (Running (ahead (rc_of bytes) rest) (entered name p)))
 after_read name rest p other = unread name rest p
@@ -71,19 +73,23 @@ after_read name rest p other = unread name rest p
 abbrev pub has_default : Mind → Bool
 has_default p = not p.filter || is_given (codes "DEFAULT") p || is_given (codes "ORGMAIL") p
 
+-- no statement ended the process
 abbrev pub fall_off : Mind → Plan (Next State Ending)
 fall_off p = if has_default p then Ends (Go (Over NotBuilt p)) else say_then p no_delivery_line (Go (Over FellOff p))
 
+-- what a statement asks for
 abbrev pub statement : Tree → Mind → Plan Turn
 statement (Assign name text) p = assign name text p
 statement (Unset name) p = unset name p
 statement (Recipe top act) p = run_recipe top act p
 statement (Defect line text) p = skip_defect text p
 
+-- the process goes on with what is left, or is over
 abbrev pub next_of : List Item → Turn → Next State Ending
 next_of rest (GoesOn p) = Go (Running rest p)
 next_of rest (Halts end p) = Go (Over end p)
 
+-- what a process does next: it falls off the end, opens an rcfile, or carries a statement out
 abbrev pub running : List Item → Mind → Plan (Next State Ending)
 running [] p = fall_off p
 running (Open name ∷ rest) p = and_then (ask (ReadFile name)) (after_read name rest p)
