@@ -86,9 +86,9 @@ pub record Promise (run : Run) : Type 0 where
   pub locks : AllGivenBack run.entries
   -- no call is hidden, and no fault is invented
   pub causes : HasCauses run how account
-  -- a run is refused for what came alone
+  -- what came decides how a run is refused
   pub refusals : Refuses run
-  -- a run that says that memory was wanting was starved, or means it
+  -- a run with status 71 was starved, or its meaning gives that status
   pub memory : run.status ≡ 71 → IsStarved run ⊎ HasMeaning run
   -- no child runs afterwards
   pub children : run.after.host.child ≡ NoChild

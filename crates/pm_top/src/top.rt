@@ -78,8 +78,10 @@ fn run_words<'a, S: Source, H: Host, O: Sink, E: Sink>(
       source = S.told source.old;
       rest = S.told source.new;
       entries = journal.new.entries;
-      before = view_of (H.told objects.old.host.now) (O.told objects.old.out.now) (E.told objects.old.err.now);
-      after = view_of (H.told objects.new.host.now) (O.told objects.new.out.now) (E.told objects.new.err.now);
+      before = view_of (H.told objects.old.host.now) (O.told objects.old.out.now)
+          (E.told objects.old.err.now);
+      after = view_of (H.told objects.new.host.now) (O.told objects.new.out.now)
+          (E.told objects.new.err.now);
     }) }
     ensures host { objects.new.host.ghost_name ≡ objects.old.host.ghost_name }
     ensures out { objects.new.out.ghost_name ≡ objects.old.out.ghost_name }
@@ -108,8 +110,10 @@ fn run_line<'a, S: Source, H: Host, O: Sink, E: Sink>(
       source = S.told source.old;
       rest = S.told source.new;
       entries = journal.new.entries;
-      before = view_of (H.told objects.old.host.now) (O.told objects.old.out.now) (E.told objects.old.err.now);
-      after = view_of (H.told objects.new.host.now) (O.told objects.new.out.now) (E.told objects.new.err.now);
+      before = view_of (H.told objects.old.host.now) (O.told objects.old.out.now)
+          (E.told objects.old.err.now);
+      after = view_of (H.told objects.new.host.now) (O.told objects.new.out.now)
+          (E.told objects.new.err.now);
     }) }
     ensures keeping { Keeping journal.new [] }
     ensures host { objects.new.host.ghost_name ≡ objects.old.host.ghost_name }
@@ -140,8 +144,10 @@ fn run_mail<'a, H: Host, O: Sink, E: Sink>(
       source = source;
       rest = rest;
       entries = journal.new.entries;
-      before = view_of (H.told objects.old.host.now) (O.told objects.old.out.now) (E.told objects.old.err.now);
-      after = view_of (H.told objects.new.host.now) (O.told objects.new.out.now) (E.told objects.new.err.now);
+      before = view_of (H.told objects.old.host.now) (O.told objects.old.out.now)
+          (E.told objects.old.err.now);
+      after = view_of (H.told objects.new.host.now) (O.told objects.new.out.now)
+          (E.told objects.new.err.now);
     }) }
     ensures keeping { Keeping journal.new [] }
     ensures host { objects.new.host.ghost_name ≡ objects.old.host.ghost_name }
