@@ -8,6 +8,8 @@ use Rattle.pm_journal.specs.Walking.{Next, Stop, Go, walk, Means, IsUnfinished, 
 use Rattle.pm_journal.proofs.PlanJoin.{plays_then, wants_then}
 use Rattle.pm_journal.proofs.WantsMemory.{wants_front, ended_front}
 use Rattle.pm_journal.proofs.AccountsJoin.{accounts_join, accounts_none}
+use Rattle.pm_journal.proofs.KeepingActs.{keeps_rest}
+use Rattle.pm_journal.specs.Held.{Keeps, Keeping}
 use Rattle.pm_journal.specs.declared.acts.Entry.{Entry}
 use Rattle.pm_host.specs.declared.calls.Logged.{Logged}
 
@@ -150,8 +152,9 @@ reaches_after step s t u x y z a b c h k = record {
 }
 
 -- a process that wanted memory, and then gave its locks back
-pub abandoned_by : {S X : Type 0} (step : S → Plan (Next S X)) (s : S) (held : List (List ℕ)) (x y z : JournalState) (a b c : View) → Interrupted {X = X} step s x y a b → GivesEach held y z b c → Abandoned {X = X} step s x z a c
-abandoned_by step s held x y z a b c h k = record {
+pub abandoned_by : {S X : Type 0} (step : S → Plan (Next S X)) (s : S) (held : List (List ℕ)) (x y z : JournalState) (a b c : View) → Interrupted {X = X} step s x y a b → GivesEach held y z b c
+    → Keeping x [] → Keeping y held → Abandoned {X = X} step s x z a c
+abandoned_by step s held x y z a b c h k start now = record {
   done = h.more;
   given = k.given;
   entries = k.entries ∙ ap (λ l. l ++ k.given) h.entries;
@@ -162,6 +165,7 @@ abandoned_by step s held x y z a b c h k = record {
   later = b;
   took = h.took;
   held = held;
+  kept = keeps_rest x.entries h.more [] [] held start.keeps (subst (λ l. Keeps [] l held) h.entries now.keeps);
   unlocks = k.unlocks;
   back = k.accounts;
 }

@@ -1,6 +1,6 @@
 -- A process as a machine whose steps are plans.
-use Rattle.std.specs.Prelude.{◌≡◌, ℕ, zero, suc, List, ◌++◌, Option, Some, None, ◌⊎◌}
-use Rattle.pm_journal.specs.Held.{AreUnlocks}
+use Rattle.std.specs.Prelude.{◌≡◌, ℕ, zero, suc, List, [], ◌++◌, Option, Some, None, ◌⊎◌}
+use Rattle.pm_journal.specs.Held.{Keeps, AreUnlocks}
 use Rattle.pm_journal.specs.JournalState.{JournalState}
 use Rattle.pm_journal.specs.Entries.{View, Accounts}
 use Rattle.pm_journal.specs.Plan.{Plan, Ends, and_then, Plays}
@@ -75,5 +75,6 @@ pub record Abandoned {S X : Type 0} (step : S → Plan (Next S X)) (s : S) (old 
   pub later : View
   pub took : TakesCalls left_off middle later
   pub held : List (List ℕ)
+  pub kept : Keeps [] done held
   pub unlocks : AreUnlocks held given
   pub back : Accounts given later after

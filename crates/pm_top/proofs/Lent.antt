@@ -44,6 +44,7 @@ abandoned_plain s x y a b h = record {
   later = plain h.later;
   took = takes_plain h.left_off h.middle h.later h.took;
   held = h.held;
+  kept = h.kept;
   unlocks = h.unlocks;
   back = accounts_plain h.given h.later b h.back;
 }

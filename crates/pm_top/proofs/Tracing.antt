@@ -85,7 +85,7 @@ pub left_run : (run : Run) (line : CommandLine) (mail : List ℕ) (x y : Journal
     → run.after.host ≡ last.host → run.after.out ≡ last.out → SaysLine (status_line SystemError) last.err run.after.err → Traced run
 left_run run line mail x y last e is h read drained status hs os said =
     let parts : run.entries ≡ h.done ++ h.given = is ∙ (h.entries ∙ ap (λ l. l ++ h.done ++ h.given) e) in
-    let how : LeftOff run = record { status_is = status; line = line; read = read; mail = mail; drained = drained; done = h.done; left_off = h.left_off; unfinished = h.unfinished; held = h.held; given = h.given; unlocks = h.unlocks; entries_are = parts } in
+    let how : LeftOff run = record { status_is = status; line = line; read = read; mail = mail; drained = drained; done = h.done; left_off = h.left_off; unfinished = h.unfinished; held = h.held; kept = h.kept; given = h.given; unlocks = h.unlocks; entries_are = parts } in
     record {
       how = left_off how;
       account = record { entries_are = parts; middle = h.middle; accounts = h.accounts; later = h.later; took = h.took; last = last; back = h.back; stops = tt; host_same = hs; out_same = os; said = said };

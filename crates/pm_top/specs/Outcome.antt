@@ -2,7 +2,7 @@
 use Rattle.std.specs.Prelude.{◌≡◌, ℕ, List, [], ◌++◌, Some, None, codes}
 use Rattle.pm_host.specs.Streams.{StreamView}
 use Rattle.pm_host.specs.declared.calls.Logged.{Logged}
-use Rattle.pm_journal.specs.Held.{AreUnlocks}
+use Rattle.pm_journal.specs.Held.{Keeps, AreUnlocks}
 use Rattle.pm_journal.specs.Walking.{Means, IsUnfinished}
 use Rattle.pm_journal.specs.declared.acts.Entry.{Entry}
 use Rattle.pm_append.specs.Writing.{WritesText}
@@ -84,6 +84,7 @@ pub record LeftOff (run : Run) : Type 0 where
   pub left_off : List Logged
   pub unfinished : IsUnfinished {X = Ending} step (Arrived line run.env mail) done left_off
   pub held : List (List ℕ)
+  pub kept : Keeps [] done held
   pub given : List Entry
   pub unlocks : AreUnlocks held given
   pub entries_are : run.entries ≡ done ++ given

@@ -11,14 +11,14 @@ use Rattle.pm_run.proofs.process.run_process.Goals as goal
 pub returns-in_err-process-clause-memory : goal.returns-in_err-process-clause-memory
 returns-in_err-process-clause-memory g c =
     let start = Arrived c.args.line c.args.env.now c.args.bytes in
-    on_err _ _ (abandoned_by step start _ _ _ _ _ _ _ (interrupted_at_once step start _ _ _ _ (rw c.as_slice.ensures at c.in_err-process.ensures.carries.1)) (gives_none _ _))
+    on_err _ _ (abandoned_by step start _ _ _ _ _ _ _ (interrupted_at_once step start _ _ _ _ (rw c.as_slice.ensures at c.in_err-process.ensures.carries.1)) (gives_none _ _) c.requires.keeping c.arrive.ensures.keeping)
 
 pub returns-in_err-ended-clause-memory : goal.returns-in_err-ended-clause-memory
 returns-in_err-ended-clause-memory g c =
     let start = Arrived c.args.line c.args.env.now c.args.bytes in
     let opened = rw c.as_slice.ensures at c.in_ok-process.ensures.carries.0 in
     on_err _ _ (abandoned_by step start _ _ _ _ _ _ _
-    (interrupted_after step start (opening c.args.line.rcfile (mind_of c.in_ok-process.process)) c.args.journal.now c.arrive.new.journal c.run_rcfile-ended.new.journal _ _ _ opened c.in_err-ended.ensures.walks.1) c.give_all.ensures.gives)
+    (interrupted_after step start (opening c.args.line.rcfile (mind_of c.in_ok-process.process)) c.args.journal.now c.arrive.new.journal c.run_rcfile-ended.new.journal _ _ _ opened c.in_err-ended.ensures.walks.1) c.give_all.ensures.gives c.requires.keeping c.run_rcfile-ended.ensures.keeping)
 
 pub returns-clause-ok : goal.returns-clause-ok
 returns-clause-ok g c =
