@@ -50,7 +50,8 @@ pub fn file_all<D: Outside>(
 {
     let copies = copies_for(alloc, flags, words, process)?;
     journal.reserve(process.locks.len() + copies.len())?;
-    Ok(append_all(copies, process, outside, journal))
+    let filed = append_all(copies, process, outside, journal);
+    Ok(filed)
 }
 
 fn copies_for(

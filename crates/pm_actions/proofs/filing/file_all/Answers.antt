@@ -13,9 +13,9 @@ returns-in_err-copies-clause-carries g c = (search rules, on_err _ _ (out_anywhe
 pub returns-in_err-reserve-clause-carries : goal.returns-in_err-reserve-clause-carries
 returns-in_err-reserve-clause-carries g c = (search rules, on_err _ _ (out_anywhere _ _ _ _ c.reserve.ensures.same))
 
-pub append_all-requires-clause-shown : goal.append_all-requires-clause-shown
-append_all-requires-clause-shown g c = subst AllShown (sym c.in_ok-copies.ensures) (copies_shown c.args.flags (mind_of c.args.process.now) c.args.words.now)
+pub append_all-filed-requires-clause-shown : goal.append_all-filed-requires-clause-shown
+append_all-filed-requires-clause-shown g c = subst AllShown (sym c.in_ok-copies.ensures) (copies_shown c.args.flags (mind_of c.args.process.now) c.args.words.now)
 
 pub returns-clause-carries : goal.returns-clause-carries
 returns-clause-carries g c =
-    (all_appended c.args.flags c.args.words.now _ (mind_of c.args.process.now) _ c.args.journal.now c.reserve.new.self c.append_all.new.journal _ _ c.in_ok-copies.ensures c.reserve.ensures.same c.append_all.ensures.files, tt)
+    (all_appended c.args.flags c.args.words.now _ (mind_of c.args.process.now) _ c.args.journal.now c.reserve.new.self c.append_all-filed.new.journal _ _ c.in_ok-copies.ensures c.reserve.ensures.same c.append_all-filed.ensures.files, tt)
