@@ -7,5 +7,5 @@ pub mod objects;
 pub mod outside;
 
 pub use acts::{ask_moment, give_all, probe, read, tell};
-pub use objects::Objects;
+pub use objects::{Objects, lend};
 pub use outside::Outside;

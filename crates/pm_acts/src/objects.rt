@@ -20,6 +20,19 @@ pub struct Objects<'a, H: Host, O: Sink, E: Sink> {
     pub err: &'a mut E,
 }
 
+/// Lends a host and two sinks to their acts. Whoever lends them gets the same ones back.
+pub fn lend<'a, H: Host, O: Sink, E: Sink>(
+    host: &'a mut H,
+    out: &'a mut O,
+    err: &'a mut E,
+) -> Objects<'a, H, O, E>
+    ensures host { (result.host.ghost_name ≡ host.entry.ghost_name) × (result.host.now ≡ host.old) }
+    ensures out { (result.out.ghost_name ≡ out.entry.ghost_name) × (result.out.now ≡ out.old) }
+    ensures err { (result.err.ghost_name ≡ err.entry.ghost_name) × (result.err.now ≡ err.old) }
+{
+    Objects { host, out, err }
+}
+
 impl<'a, H: Host, O: Sink, E: Sink> Objects<'a, H, O, E> {
     // The counts of faults at this moment.
     fn counts(&self) -> Counts

@@ -24,7 +24,7 @@ reach step zero s = Ends (Some s)
 reach step (suc n) s = and_then (step s) (λ next. elim next [ Stop x ↦ Ends None | Go t ↦ reach step n t ])
 
 -- over these entries the process comes to this state
-pub record Comes {S X : Type 0} (step : S → Plan (Next S X)) (s : S) (entries : List Entry) (t : S) : Type 0 where
+pub record ArrivesAt {S X : Type 0} (step : S → Plan (Next S X)) (s : S) (entries : List Entry) (t : S) : Type 0 where
   pub steps : ℕ
   pub plays : Plays (reach step steps s) entries (Some t)
 

@@ -5,7 +5,7 @@ use Rattle.pm_bytes.specs.Name.{is_usable}
 use Rattle.pm_bytes.specs.Path.{full_name}
 use Rattle.pm_host.specs.declared.answers.Looked.TheVariants.{Folder}
 use Rattle.pm_vars.specs.Table.{Table}
-use Rattle.pm_subst.specs.Values.{is_empty}
+use Rattle.pm_meaning.specs.Texts.{is_empty}
 use Rattle.pm_subst.specs.Words.{words_in}
 use Rattle.pm_subst.specs.declared.kinds.Mode.TheVariants.{One}
 use Rattle.pm_journal.specs.LogText.{skipped_line, unusable_name_line, couldnt_chdir_line}

@@ -2,7 +2,7 @@
 use Rattle.std.specs.Prelude.{ℕ, Bool, not, List, codes, nat_eq, if◌then◌else◌}
 use Rattle.std.specs.List.{starts_with}
 use Rattle.pm_vars.specs.Variables.{value_of, with_value, without}
-use Rattle.pm_subst.specs.Values.{is_unset_or_empty}
+use Rattle.pm_meaning.specs.Texts.{is_unset_or_empty}
 use Rattle.pm_meaning.specs.Minds.{Mind}
 
 -- the variable has this value

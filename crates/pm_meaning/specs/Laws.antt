@@ -8,7 +8,7 @@ use Rattle.pm_subst.specs.Words.{words_in}
 use Rattle.pm_subst.specs.declared.kinds.Mode.TheVariants.{Many}
 use Rattle.pm_journal.specs.Held.{AreUnlocks}
 use Rattle.pm_journal.specs.Plan.{Plan, Plays, Wants}
-use Rattle.pm_journal.specs.Walking.{Next, Means, Comes}
+use Rattle.pm_journal.specs.Walking.{Next, Means, ArrivesAt}
 use Rattle.pm_journal.specs.declared.acts.Act.{Act}
 use Rattle.pm_journal.specs.declared.acts.Act.TheVariants.{Append}
 use Rattle.pm_journal.specs.declared.acts.Reply.TheVariants.{Done}
@@ -64,7 +64,7 @@ pub record DeliversLast (s : State) (entries : List Entry) : Type 0 where
   pub text : List ℕ
   pub rest : List Item
   pub mind : Mind
-  pub comes : Comes {X = Ending} step s before (Running (Do (Recipe top (Mailbox text)) ∷ rest) mind)
+  pub comes : ArrivesAt {X = Ending} step s before (Running (Do (Recipe top (Mailbox text)) ∷ rest) mind)
   pub plain : is_plain top ≡ true
   pub final : top.flags.copy ≡ false
   pub usable : are_file_texts (words_in Many mind.vars [] text) ≡ true

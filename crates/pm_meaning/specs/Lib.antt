@@ -1,3 +1,4 @@
+pub mod Texts
 pub mod Minds
 pub mod CommandLine
 pub mod FirstValues

@@ -9,7 +9,7 @@ use Rattle.pm_host.specs.declared.calls.Call.TheVariants.{Read, Append}
 use Rattle.pm_memory.specs.Host.{world_of, plan_of, record_of, is_to_fail, IsWrongKind, IsMost, TakesMemory}
 use Rattle.pm_memory.specs.Node.{Explains}
 use Rattle.pm_memory.specs.declared.host.MemoryHost.{MemoryHost}
-use Rattle.pm_memory.specs.declared.tree.Refused.{Refused}
+use Rattle.pm_memory.specs.declared.tree.Denied.{Denied}
 
 -- a call was done
 pub record Does (call : Call) (answer : Answer) (old new : MemoryHost) : Type 0 where
@@ -29,7 +29,7 @@ abbrev pub DoesAppend : List ℕ → List ℕ → MemoryHost → MemoryHost → 
 DoesAppend name piece old new count = Does (Append name piece) (AnswerAppend (TookSome count)) old new
 
 -- a call was refused
-pub record Refuses (call : Call) (old new : MemoryHost) (refused : Refused) : Type 0 where
+pub record Denies (call : Call) (old new : MemoryHost) (refused : Denied) : Type 0 where
   pub world : world_of new ≡ world_of old
   pub cause : Explains (is_to_fail old ≡ true) (IsWrongKind call (world_of old)) (TakesMemory call) refused
   pub plan : plan_of new ≡ plan_of old

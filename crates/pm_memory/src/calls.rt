@@ -2,7 +2,7 @@
 ghost use Rattle.std.specs.Prelude.{◌≡◌, ◌≤◌, ◌<◌, ◌+◌, ◌^◌, ◌-◌, vec_len, vec_capacity, IfOk, cond, [], true};
 ghost use Rattle.pm_memory.specs.Counts.{risen};
 
-use crate::tree::Refused;
+use crate::tree::Denied;
 use pm_bytes::Memory;
 use pm_host::Logged;
 use std::alloc::Global;
@@ -20,7 +20,7 @@ pub(crate) struct Calls {
 }
 
 impl Calls {
-    ghost use Rattle.pm_memory.specs.Calls.{Settles, Counts, IsNoneOf};
+    ghost use Rattle.pm_memory.specs.Calls.{Settles, CountsCall, IsNoneOf};
 
     pub(crate) fn new(alloc: Global, reserved: u64) -> Result<Calls, Memory>
         ensures { IfOk result (λ calls. IsNoneOf reserved calls) }
@@ -63,11 +63,11 @@ impl Calls {
     }
 
     /// Counts a call, and lists it where there is room and no call lacked memory.
-    pub(crate) fn settle(&mut self, refused: Option<Refused>, logged: Result<Logged, Memory>)
+    pub(crate) fn settle(&mut self, refused: Option<Denied>, logged: Result<Logged, Memory>)
         ensures { Settles refused logged self.old self.new }
     {
         let has_room = self.came < self.reserved;
-        let lacked = logged.is_err() || refused == Some(Refused::Memory);
+        let lacked = logged.is_err() || refused == Some(Denied::Memory);
         self.count(refused.is_some(), lacked);
         match logged {
             Ok(logged) if has_room && self.starved == 0 => self.list.push_reserved(logged),
@@ -76,7 +76,7 @@ impl Calls {
     }
 
     fn count(&mut self, failed: bool, lacked: bool)
-        ensures { Counts failed lacked self.old self.new }
+        ensures { CountsCall failed lacked self.old self.new }
     {
         self.came = self.came.saturating_add(1);
         self.faults = raised(self.faults, failed);

@@ -6,12 +6,12 @@ use crate::MemoryHost;
 use crate::entries::{
     appended_entry, created_entry, cut_entry, looked_entry, moment_entry, read_entry, removed_entry,
 };
-use crate::tree::Refused;
+use crate::tree::Denied;
 use pm_host::{Answer, Call, Cut, Got, Host, Looked, Made, Removed, Took};
 
 impl MemoryHost {
     ghost use Rattle.pm_memory.specs.Host.{is_to_fail};
-    ghost use Rattle.pm_memory.specs.Hosting.{Does, DoesRead, DoesAppend, Refuses};
+    ghost use Rattle.pm_memory.specs.Hosting.{Does, DoesRead, DoesAppend, Denies};
 
     fn fails_now(&self) -> bool
         ensures { result ≡ is_to_fail self.now }
@@ -19,46 +19,46 @@ impl MemoryHost {
         self.plan.fails(self.calls.next())
     }
 
-    fn look_now(&self, name: &str) -> Result<Looked, Refused>
+    fn look_now(&self, name: &str) -> Result<Looked, Denied>
         ensures ok { IfOk result (λ looked. Does (Call.Look name.now) (Answer.Look looked) self.now self.now) }
-        ensures err { IfErr result (Refuses (Call.Look name.now) self.now self.now) }
+        ensures err { IfErr result (Denies (Call.Look name.now) self.now self.now) }
     {
         if self.fails_now() {
-            return Err(Refused::ToFail);
+            return Err(Denied::ToFail);
         }
         Ok(self.tree.look(name))
     }
 
-    fn read_now(&self, name: &str, at: u64, room: &mut [u8]) -> Result<usize, Refused>
+    fn read_now(&self, name: &str, at: u64, room: &mut [u8]) -> Result<usize, Denied>
         requires { 0 < length room.old }
         ensures ok { IfOk result (DoesRead name.now at room.old room.new self.now) }
         ensures within { IfOk result (λ count. count ≤ length room.old) }
-        ensures err { IfErr result (Refuses (Call.Read name.now at (length room.old)) self.now self.now) }
+        ensures err { IfErr result (Denies (Call.Read name.now at (length room.old)) self.now self.now) }
     {
         if self.fails_now() {
-            return Err(Refused::ToFail);
+            return Err(Denied::ToFail);
         }
         self.tree.read(name, at, room)
     }
 
-    fn create_now(&mut self, name: &str) -> Result<Made, Refused>
+    fn create_now(&mut self, name: &str) -> Result<Made, Denied>
         ensures ok { IfOk result (λ made. Does (Call.Create name.now) (Answer.Create made) self.old self.new) }
-        ensures err { IfErr result (Refuses (Call.Create name.now) self.old self.new) }
+        ensures err { IfErr result (Denies (Call.Create name.now) self.old self.new) }
     {
         if self.fails_now() {
-            return Err(Refused::ToFail);
+            return Err(Denied::ToFail);
         }
         self.tree.create(name)
     }
 
-    fn append_now(&mut self, name: &str, piece: &[u8]) -> Result<usize, Refused>
+    fn append_now(&mut self, name: &str, piece: &[u8]) -> Result<usize, Denied>
         requires { 0 < length piece.now }
         ensures ok { IfOk result (DoesAppend name.now piece.now self.old self.new) }
         ensures some { IfOk result (λ count. (1 ≤ count) × (count ≤ length piece.now)) }
-        ensures err { IfErr result (Refuses (Call.Append name.now piece.now) self.old self.new) }
+        ensures err { IfErr result (Denies (Call.Append name.now piece.now) self.old self.new) }
     {
         if self.fails_now() {
-            return Err(Refused::ToFail);
+            return Err(Denied::ToFail);
         }
         let count = self.plan.most(self.calls.next(), piece.len());
         match self.tree.append(name, piece, count) {
@@ -67,22 +67,22 @@ impl MemoryHost {
         }
     }
 
-    fn cut_now(&mut self, name: &str, len: u64) -> Result<(), Refused>
+    fn cut_now(&mut self, name: &str, len: u64) -> Result<(), Denied>
         ensures ok { IfOk result (λ _. Does (Call.Cut name.now len) (Answer.Cut Cut.Cut) self.old self.new) }
-        ensures err { IfErr result (Refuses (Call.Cut name.now len) self.old self.new) }
+        ensures err { IfErr result (Denies (Call.Cut name.now len) self.old self.new) }
     {
         if self.fails_now() {
-            return Err(Refused::ToFail);
+            return Err(Denied::ToFail);
         }
         self.tree.cut(name, len)
     }
 
-    fn remove_now(&mut self, name: &str) -> Result<Removed, Refused>
+    fn remove_now(&mut self, name: &str) -> Result<Removed, Denied>
         ensures ok { IfOk result (λ removed. Does (Call.Remove name.now) (Answer.Remove removed) self.old self.new) }
-        ensures err { IfErr result (Refuses (Call.Remove name.now) self.old self.new) }
+        ensures err { IfErr result (Denies (Call.Remove name.now) self.old self.new) }
     {
         if self.fails_now() {
-            return Err(Refused::ToFail);
+            return Err(Denied::ToFail);
         }
         self.tree.remove(name)
     }

@@ -12,7 +12,7 @@ use std::mem;
 
 /// Why a call is refused: its number was given to `fail`, no node of its kind stands at the name, or memory was wanting.
 #[derive(Clone, Copy, Debug, PartialEq, Eq)]
-pub(crate) enum Refused {
+pub(crate) enum Denied {
     ToFail,
     WrongKind,
     Memory,
@@ -77,7 +77,7 @@ impl Tree {
 
     /// How many bytes of the file from the offset on came into the front of the room: as many as are there and as
     /// it holds.
-    pub(crate) fn read(&self, name: &str, at: u64, room: &mut [u8]) -> Result<usize, Refused>
+    pub(crate) fn read(&self, name: &str, at: u64, room: &mut [u8]) -> Result<usize, Denied>
         ensures ok { IfOk result (λ count. take count room.new ≡ part_at self.now name.now at (length room.old)) }
         ensures within { IfOk result (λ count. count ≤ length room.old) }
         ensures there { OnOk result (IsFile (node_at self.now name.now)) }
@@ -85,12 +85,12 @@ impl Tree {
     {
         match self.file(name) {
             Some(bytes) => Ok(copy_part(bytes, at, room)),
-            None => Err(Refused::WrongKind),
+            None => Err(Denied::WrongKind),
         }
     }
 
     /// Makes an empty file where nothing stands.
-    pub(crate) fn create(&mut self, name: &str) -> Result<Made, Refused>
+    pub(crate) fn create(&mut self, name: &str) -> Result<Made, Denied>
         ensures ok { IfOk result (λ made. IsStep (Call.Create name.now) (Answer.Create made) self.old self.new) }
         ensures found { IfOk result (λ made. made ≢ Made.Failed) }
         ensures err { IfErr result (Explains ⊥ ⊥ (Unit {0})) }
@@ -105,12 +105,12 @@ impl Tree {
         };
         match self.put(name, Node::File(file)) {
             Ok(()) => Ok(Made::Made),
-            Err(Memory) => Err(Refused::Memory),
+            Err(Memory) => Err(Denied::Memory),
         }
     }
 
     /// Adds the first bytes of the piece, so many, at the end of the file.
-    pub(crate) fn append(&mut self, name: &str, piece: &[u8], count: usize) -> Result<(), Refused>
+    pub(crate) fn append(&mut self, name: &str, piece: &[u8], count: usize) -> Result<(), Denied>
         requires { count ≤ length piece.now }
         ensures ok { OnOk result (IsStep (Call.Append name.now piece.now) (Answer.Append (Took.Took count)) self.old self.new) }
         ensures err { IfErr result (Explains ⊥ (NoFile (node_at self.old name.now)) (Unit {0})) }
@@ -118,12 +118,12 @@ impl Tree {
     {
         match self.nodes.get_mut(name) {
             Some(node) => grow(node, &piece[..count]),
-            None => Err(Refused::WrongKind),
+            None => Err(Denied::WrongKind),
         }
     }
 
     /// Keeps the first bytes of the file.
-    pub(crate) fn cut(&mut self, name: &str, len: u64) -> Result<(), Refused>
+    pub(crate) fn cut(&mut self, name: &str, len: u64) -> Result<(), Denied>
         ensures ok { OnOk result (IsStep (Call.Cut name.now len) (Answer.Cut Cut.Cut) self.old self.new) }
         ensures err { IfErr result (Explains ⊥ (NoFile (node_at self.old name.now)) ⊥) }
         ensures same { OnErr result (world_in self.new ≡ world_in self.old) }
@@ -131,19 +131,19 @@ impl Tree {
         let alloc = self.alloc;
         match self.nodes.get_mut(name) {
             Some(node) => shorten(alloc, node, len),
-            None => Err(Refused::WrongKind),
+            None => Err(Denied::WrongKind),
         }
     }
 
     /// Removes the file.
-    pub(crate) fn remove(&mut self, name: &str) -> Result<Removed, Refused>
+    pub(crate) fn remove(&mut self, name: &str) -> Result<Removed, Denied>
         ensures ok { IfOk result (λ removed. IsStep (Call.Remove name.now) (Answer.Remove removed) self.old self.new) }
         ensures found { IfOk result (λ removed. removed ≢ Removed.Failed) }
         ensures err { IfErr result (Explains ⊥ (IsFolder (node_at self.old name.now)) ⊥) }
         ensures same { OnErr result (world_in self.new ≡ world_in self.old) }
     {
         match self.nodes.get(name) {
-            Some(Node::Folder) => return Err(Refused::WrongKind),
+            Some(Node::Folder) => return Err(Denied::WrongKind),
             Some(Node::File(_)) => {}
             None => return Ok(Removed::Absent),
         }
@@ -153,7 +153,7 @@ impl Tree {
 }
 
 // Adds the piece to a file.
-fn grow(node: &mut Node, piece: &[u8]) -> Result<(), Refused>
+fn grow(node: &mut Node, piece: &[u8]) -> Result<(), Denied>
     ensures ok { OnOk result (Some node.new ≡ grown (Some node.old) piece.now) }
     ensures there { OnOk result (IsFile (Some node.old)) }
     ensures err { IfErr result (Explains ⊥ (NoFile (Some node.old)) (Unit {0})) }
@@ -162,14 +162,14 @@ fn grow(node: &mut Node, piece: &[u8]) -> Result<(), Refused>
     match node {
         Node::File(file) => match file.bytes.push_slice(piece) {
             Ok(()) => Ok(()),
-            Err(Memory) => Err(Refused::Memory),
+            Err(Memory) => Err(Denied::Memory),
         },
-        Node::Folder => Err(Refused::WrongKind),
+        Node::Folder => Err(Denied::WrongKind),
     }
 }
 
 // Keeps the first bytes of a file.
-fn shorten(alloc: Global, node: &mut Node, len: u64) -> Result<(), Refused>
+fn shorten(alloc: Global, node: &mut Node, len: u64) -> Result<(), Denied>
     ensures ok { OnOk result (Some node.new ≡ kept (Some node.old) len) }
     ensures there { OnOk result (IsFile (Some node.old)) }
     ensures err { IfErr result (Explains ⊥ (NoFile (Some node.old)) ⊥) }
@@ -184,6 +184,6 @@ fn shorten(alloc: Global, node: &mut Node, len: u64) -> Result<(), Refused>
             file.bytes = Blob::from_vec(bytes);
             Ok(())
         }
-        Node::Folder => Err(Refused::WrongKind),
+        Node::Folder => Err(Denied::WrongKind),
     }
 }

@@ -10,7 +10,7 @@ use Rattle.pm_journal.specs.JournalState.{JournalState}
 use Rattle.pm_journal.specs.Entries.{View, counts_of, view_of, Honest, joined, after_entries, said_by, all_said, written_by, all_written, Frame, AllCovered}
 use Rattle.pm_journal.specs.Held.{Keeping, AllGivenBack}
 use Rattle.pm_journal.specs.declared.acts.Entry.{Entry}
-use Rattle.pm_journal.proofs.AccountsJoin.{honest_join, accounts_effect}
+use Rattle.pm_journal.proofs.AccountsJoin.{honest_join, covered_join, adds_then, all_said-append, all_written-append, accounts_effect}
 use Rattle.pm_journal.proofs.DeliveriesHold.{accounts_deliver}
 use Rattle.pm_journal.proofs.KeepsJoin.{all_given_back}
 use Rattle.pm_top.specs.Run.{Run}
@@ -20,21 +20,6 @@ use Rattle.pm_top.specs.Promise.{IsFramed, Promise}
 use Rattle.pm_top.specs.Traced.{Traced}
 use Rattle.pm_top.proofs.Grown.{grown_in}
 use Rattle.pm_top.proofs.Refusals.{meaning_of, starved_of, refuses_of}
-
-all_said-append : (es fs : List Entry) → all_said (es ++ fs) ≡ all_said es ++ all_said fs
-all_said-append [] fs = refl
-all_said-append (e ∷ es) fs = ap (λ l. said_by e.act e.reply ++ l) (all_said-append es fs) ∙ sym (append_assoc (said_by e.act e.reply) (all_said es) (all_said fs))
-
-all_written-append : (es fs : List Entry) → all_written (es ++ fs) ≡ all_written es ++ all_written fs
-all_written-append [] fs = refl
-all_written-append (e ∷ es) fs = ap (λ l. written_by e.act e.reply ++ l) (all_written-append es fs) ∙ sym (append_assoc (written_by e.act e.reply) (all_written es) (all_written fs))
-
-covered_join : (es fs : List Entry) → AllCovered es → AllCovered fs → AllCovered (es ++ fs)
-covered_join [] fs h k = k
-covered_join (e ∷ es) fs h k = (h.0, covered_join es fs h.1 k)
-
-adds_then : (p q x y z : List ℕ) → Adds p x y → Adds q y z → Adds (p ++ q) x z
-adds_then p q x y z h k = k ∙ ap (λ l. l ++ q) h ∙ append_assoc x p q
 
 -- what the run did with its host, in one
 ran_in : (run : Run) (how : Outcome run) (a : Account run how) → Ran (joined a.accounts.groups ++ calls_in run how ++ joined a.back.groups) run.before.host run.after.host

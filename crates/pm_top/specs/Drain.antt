@@ -76,7 +76,7 @@ pub record FailsPart (most : ℕ) (before after : StreamView) : Type 0 where
   pub failed : Gives most GotFailed room before after
 
 -- what one read brought, and the bytes with it
-abbrev pub Comes : Part → ℕ → List ℕ → List ℕ → StreamView → StreamView → Type 0
-Comes More most old new before after = ComesMore most old new before after
-Comes End most old new before after = ComesEnd old new before after
-Comes PartFailed most old new before after = FailsPart most before after
+abbrev pub PartCame : Part → ℕ → List ℕ → List ℕ → StreamView → StreamView → Type 0
+PartCame More most old new before after = ComesMore most old new before after
+PartCame End most old new before after = ComesEnd old new before after
+PartCame PartFailed most old new before after = FailsPart most before after

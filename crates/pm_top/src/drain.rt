@@ -1,6 +1,6 @@
 //! The whole message from a source.
 ghost use Rattle.std.specs.Prelude.{◌<◌, length, IfOk};
-ghost use Rattle.pm_top.specs.Drain.{Comes, Drains};
+ghost use Rattle.pm_top.specs.Drain.{PartCame, Drains};
 
 use pm_bytes::{Blob, Memory};
 use pm_host::{Got, Source};
@@ -45,7 +45,7 @@ pub fn read_mail<S: Source>(alloc: Global, source: &mut S) -> Result<Mail, Memor
 
 fn read_part<S: Source>(source: &mut S, bytes: &mut Blob, room: &mut [u8]) -> Result<Part, Memory>
     requires { 0 < length room.old }
-    ensures { IfOk result (λ part. Comes part (length room.old) bytes.old bytes.new
+    ensures { IfOk result (λ part. PartCame part (length room.old) bytes.old bytes.new
         (S.told source.old) (S.told source.new)) }
 {
     match source.read(room) {

@@ -11,7 +11,7 @@ ghost use Rattle.pm_top.specs.Promise.{Promise};
 ghost use Rattle.pm_top.specs.Traced.{RunsLine, RunsMail};
 
 use crate::{Mail, read_mail, read_words};
-use pm_acts::Objects;
+use pm_acts::{Objects, lend};
 use pm_append::write_text;
 use pm_bytes::{Blob, Environ, Memory};
 use pm_host::{Child, Host, Sink, Source};
@@ -47,18 +47,6 @@ pub fn procmail<S: Source, H: Host, O: Sink, E: Sink>(
 {
     let mut objects = lend(host, out, err);
     run_words(alloc, words, env, source, &mut objects, journal)
-}
-
-fn lend<'a, H: Host, O: Sink, E: Sink>(
-    host: &'a mut H,
-    out: &'a mut O,
-    err: &'a mut E,
-) -> Objects<'a, H, O, E>
-    ensures host { (result.host.ghost_name ≡ host.entry.ghost_name) × (result.host.now ≡ host.old) }
-    ensures out { (result.out.ghost_name ≡ out.entry.ghost_name) × (result.out.now ≡ out.old) }
-    ensures err { (result.err.ghost_name ≡ err.entry.ghost_name) × (result.err.now ≡ err.old) }
-{
-    Objects { host, out, err }
 }
 
 fn run_words<'a, S: Source, H: Host, O: Sink, E: Sink>(
