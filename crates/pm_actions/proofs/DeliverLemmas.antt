@@ -16,7 +16,7 @@ use Rattle.pm_subst.specs.declared.kinds.Mode.TheVariants.{Many}
 use Rattle.pm_journal.specs.Plan.{Plan, Ends, and_then, ask}
 use Rattle.pm_journal.specs.Executed.{Executes, OutOfMemory}
 use Rattle.pm_meaning.specs.Turns.{Turn, GoesOn, Halts, say_then, not_built, is_too_long, has_command, skip_value}
-use Rattle.pm_meaning.specs.Delivering.{is_plain, is_folder_name, are_file_texts, Filing, file_all, all_stored, tell_filed, deliver_to, deliver, act_on, run_recipe}
+use Rattle.pm_meaning.specs.Delivering.{is_plain, is_folder_name, are_file_texts, Filing, file_all, all_stored, say_filed, deliver_to, deliver, act_on, run_recipe}
 use Rattle.pm_meaning.specs.Minds.{Mind}
 use Rattle.pm_meaning.specs.declared.process.End.TheVariants.{NotBuilt}
 use Rattle.pm_journal.proofs.ActPlans.{executes_then}
@@ -28,7 +28,7 @@ use Rattle.pm_actions.proofs.Choices.{choose_then, choose_else, then_out, else_o
 
 -- the destinations in order, and what is told behind them
 abbrev pub filed_and_told : Flags → List (List ℕ) → Mind → Plan Turn
-filed_and_told flags words p = and_then (file_all flags words p) (λ filing. tell_filed flags filing.filed filing.mind)
+filed_and_told flags words p = and_then (file_all flags words p) (λ filing. say_filed flags filing.filed filing.mind)
 
 abbrev after_usable : Flags → List (List ℕ) → Mind → Plan Turn
 after_usable flags words p = if list_any is_folder_name words then (not_built p) else filed_and_told flags words p
@@ -126,41 +126,41 @@ mailbox_carried_out top action text shown p x y a b e is same h =
     (subst (λ q. OutOfMemory (act_on top.flags (act_of q) p) x y a b) (sym is) (subst (λ t. OutOfMemory (deliver top.flags t p) x y a b) same h))
 
 -- what is told behind deliveries
-pub stored_told : (flags : Flags) (filed : Filed) (p : Mind) (turn : Turn) (x : JournalState) (s : View) → filed ≡ Stored → all_stored flags p ≡ turn → Executes (tell_filed flags filed p) turn x x s s
+pub stored_told : (flags : Flags) (filed : Filed) (p : Mind) (turn : Turn) (x : JournalState) (s : View) → filed ≡ Stored → all_stored flags p ≡ turn → Executes (say_filed flags filed p) turn x x s s
 stored_told flags filed p turn x s e is =
-    subst (λ f. Executes (tell_filed flags f p) turn x x s s) (sym e) (subst (λ t. Executes (Ends (all_stored flags p)) t x x s s) is (executes_nothing (all_stored flags p) x x s refl))
+    subst (λ f. Executes (say_filed flags f p) turn x x s s) (sym e) (subst (λ t. Executes (Ends (all_stored flags p)) t x x s s) is (executes_nothing (all_stored flags p) x x s refl))
 
-pub folder_told : (flags : Flags) (filed : Filed) (p : Mind) (x : JournalState) (s : View) → filed ≡ Folder → Executes (tell_filed flags filed p) (Halts NotBuilt p) x x s s
-folder_told flags filed p x s e = subst (λ f. Executes (tell_filed flags f p) (Halts NotBuilt p) x x s s) (sym e) (executes_nothing (Halts NotBuilt p) x x s refl)
+pub folder_told : (flags : Flags) (filed : Filed) (p : Mind) (x : JournalState) (s : View) → filed ≡ Folder → Executes (say_filed flags filed p) (Halts NotBuilt p) x x s s
+folder_told flags filed p x s e = subst (λ f. Executes (say_filed flags f p) (Halts NotBuilt p) x x s s) (sym e) (executes_nothing (Halts NotBuilt p) x x s refl)
 
 pub unwritten_told : (flags : Flags) (filed : Filed) (name line : List ℕ) (p : Mind) (x y : JournalState) (a b : View) → filed ≡ Unwritten name → line ≡ couldnt_write_line name → Says line x y a b
-    → Executes (tell_filed flags filed p) (GoesOn p) x y a b
+    → Executes (say_filed flags filed p) (GoesOn p) x y a b
 unwritten_told flags filed name line p x y a b e is h =
-    subst (λ f. Executes (tell_filed flags f p) (GoesOn p) x y a b) (sym e) (line_told p (couldnt_write_line name) line (GoesOn p) x y a b is h)
+    subst (λ f. Executes (say_filed flags f p) (GoesOn p) x y a b) (sym e) (line_told p (couldnt_write_line name) line (GoesOn p) x y a b is h)
 
 pub unwritten_out : (flags : Flags) (filed : Filed) (name line : List ℕ) (p : Mind) (x y : JournalState) (a b : View) → filed ≡ Unwritten name → line ≡ couldnt_write_line name → OutOfMemory (ask (SayErr line)) x y a b
-    → OutOfMemory (tell_filed flags filed p) x y a b
+    → OutOfMemory (say_filed flags filed p) x y a b
 unwritten_out flags filed name line p x y a b e is h =
-    subst (λ f. OutOfMemory (tell_filed flags f p) x y a b) (sym e) (line_out p (couldnt_write_line name) line (GoesOn p) x y a b is h)
+    subst (λ f. OutOfMemory (say_filed flags f p) x y a b) (sym e) (line_out p (couldnt_write_line name) line (GoesOn p) x y a b is h)
 
 pub left_told : (flags : Flags) (filed : Filed) (name : List ℕ) (count : ℕ) (line : List ℕ) (p : Mind) (x y : JournalState) (a b : View) → filed ≡ Left name count → line ≡ bytes_left_line count name → Says line x y a b
-    → Executes (tell_filed flags filed p) (GoesOn p) x y a b
+    → Executes (say_filed flags filed p) (GoesOn p) x y a b
 left_told flags filed name count line p x y a b e is h =
-    subst (λ f. Executes (tell_filed flags f p) (GoesOn p) x y a b) (sym e) (line_told p (bytes_left_line count name) line (GoesOn p) x y a b is h)
+    subst (λ f. Executes (say_filed flags f p) (GoesOn p) x y a b) (sym e) (line_told p (bytes_left_line count name) line (GoesOn p) x y a b is h)
 
 pub left_out : (flags : Flags) (filed : Filed) (name : List ℕ) (count : ℕ) (line : List ℕ) (p : Mind) (x y : JournalState) (a b : View) → filed ≡ Left name count → line ≡ bytes_left_line count name → OutOfMemory (ask (SayErr line)) x y a b
-    → OutOfMemory (tell_filed flags filed p) x y a b
+    → OutOfMemory (say_filed flags filed p) x y a b
 left_out flags filed name count line p x y a b e is h =
-    subst (λ f. OutOfMemory (tell_filed flags f p) x y a b) (sym e) (line_out p (bytes_left_line count name) line (GoesOn p) x y a b is h)
+    subst (λ f. OutOfMemory (say_filed flags f p) x y a b) (sym e) (line_out p (bytes_left_line count name) line (GoesOn p) x y a b is h)
 
 -- the destinations in order, and then what is told
 pub filed_then : (flags : Flags) (words : List (List ℕ)) (p : Mind) (filing : Filing) (turn : Turn) (x y z : JournalState) (a b c : View) → Executes (file_all flags words p) filing x y a b
-    → Executes (tell_filed flags filing.filed filing.mind) turn y z b c → Executes (filed_and_told flags words p) turn x z a c
-filed_then flags words p filing turn x y z a b c h k = executes_then (file_all flags words p) (λ f. tell_filed flags f.filed f.mind) filing turn x y z a b c h k
+    → Executes (say_filed flags filing.filed filing.mind) turn y z b c → Executes (filed_and_told flags words p) turn x z a c
+filed_then flags words p filing turn x y z a b c h k = executes_then (file_all flags words p) (λ f. say_filed flags f.filed f.mind) filing turn x y z a b c h k
 
 pub filed_then_out : (flags : Flags) (words : List (List ℕ)) (p : Mind) (filing : Filing) (x y z : JournalState) (a b c : View) → Executes (file_all flags words p) filing x y a b
-    → OutOfMemory (tell_filed flags filing.filed filing.mind) y z b c → OutOfMemory (filed_and_told flags words p) x z a c
-filed_then_out flags words p filing x y z a b c h k = out_then (file_all flags words p) (λ f. tell_filed flags f.filed f.mind) filing x y z a b c h k
+    → OutOfMemory (say_filed flags filing.filed filing.mind) y z b c → OutOfMemory (filed_and_told flags words p) x z a c
+filed_then_out flags words p filing x y z a b c h k = out_then (file_all flags words p) (λ f. say_filed flags f.filed f.mind) filing x y z a b c h k
 
 pub filed_out : (flags : Flags) (words : List (List ℕ)) (p : Mind) (x y : JournalState) (a b : View) → OutOfMemory (file_all flags words p) x y a b → OutOfMemory (filed_and_told flags words p) x y a b
-filed_out flags words p x y a b h = out_front (file_all flags words p) (λ f. tell_filed flags f.filed f.mind) x y a b h
+filed_out flags words p x y a b h = out_front (file_all flags words p) (λ f. say_filed flags f.filed f.mind) x y a b h

@@ -3,7 +3,7 @@ ghost use Rattle.std.specs.Prelude.{◌≡◌};
 ghost use Rattle.pm_journal.specs.Executed.{Carries};
 ghost use Rattle.pm_journal.specs.Held.{Keeping};
 ghost use Rattle.pm_recipe.specs.View.{act_of};
-ghost use Rattle.pm_meaning.specs.Delivering.{is_plain as is_plain_top, tell_filed as told, all_stored};
+ghost use Rattle.pm_meaning.specs.Delivering.{is_plain as is_plain_top, say_filed as told, all_stored};
 ghost use Rattle.pm_meaning.specs.Delivering.{deliver_to, deliver, run_recipe};
 ghost use Rattle.pm_meaning.specs.Minds.{Mind, mind_of};
 ghost use Rattle.pm_actions.specs.Names.{top_of};
@@ -13,7 +13,7 @@ use crate::expanding::{Expansion, expand_text, runs_command};
 use crate::filing::file_all;
 use crate::names::{file_names, has_folder};
 use crate::skipping::skip_value;
-use pm_acts::{Outside, tell};
+use pm_acts::{Outside, say};
 use pm_bytes::{Blob, Memory};
 use pm_journal::{Journal, bytes_left, couldnt_write, unusable_name};
 use pm_meaning::{End, Filed, Process};
@@ -117,7 +117,7 @@ fn deliver_to_words<D: Outside>(
     match file_names(alloc, words)? {
         None => {
             let line = unusable_name(alloc, text)?;
-            tell(&process.locks, line, outside, journal)?;
+            say(&process.locks, line, outside, journal)?;
             Ok(None)
         }
         Some(names) => {
@@ -126,13 +126,13 @@ fn deliver_to_words<D: Outside>(
                 return Ok(Some(End::NotBuilt));
             }
             let filed = file_all(alloc, flags, names, process, outside, journal)?;
-            tell_filed(alloc, flags, filed, process, outside, journal)
+            say_filed(alloc, flags, filed, process, outside, journal)
         }
     }
 }
 
 // What comes behind the deliveries: a line where a file couldn't be written to.
-fn tell_filed<D: Outside>(
+fn say_filed<D: Outside>(
     alloc: Global,
     flags: Flags,
     filed: Filed,
@@ -151,12 +151,12 @@ fn tell_filed<D: Outside>(
         Filed::Folder => Ok(Some(End::NotBuilt)),
         Filed::Unwritten(name) => {
             let line = couldnt_write(alloc, &name)?;
-            tell(&process.locks, line, outside, journal)?;
+            say(&process.locks, line, outside, journal)?;
             Ok(None)
         }
         Filed::Left { name, count } => {
             let line = bytes_left(alloc, count, &name)?;
-            tell(&process.locks, line, outside, journal)?;
+            say(&process.locks, line, outside, journal)?;
             Ok(None)
         }
     }

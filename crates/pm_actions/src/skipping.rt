@@ -8,7 +8,7 @@ ghost use Rattle.pm_meaning.specs.Minds.{mind_of};
 ghost use Rattle.pm_meaning.specs.Turns.{GoesOn, say_then};
 ghost use Rattle.pm_actions.specs.Turning.{turn_of};
 
-use pm_acts::{Outside, tell};
+use pm_acts::{Outside, say};
 use pm_bytes::{Blob, Memory};
 use pm_journal::{Journal, value_too_long};
 use pm_meaning::{End, Process};
@@ -32,6 +32,6 @@ pub fn skip_value<D: Outside>(
     let line = value_too_long(alloc, length)?;
     let mark = Blob::from_slice(alloc, b"yes")?;
     process.vars.set(b"PROCMAIL_OVERFLOW", mark)?;
-    tell(&process.locks, line, outside, journal)?;
+    say(&process.locks, line, outside, journal)?;
     Ok(None)
 }

@@ -18,7 +18,7 @@ use pm_journal::{HeldLocks, Journal};
 use std::alloc::Global;
 
 /// Says a line on `err`.
-pub fn tell<D: Outside>(
+pub fn say<D: Outside>(
     held: &HeldLocks,
     line: Blob,
     outside: &mut D,

@@ -15,7 +15,7 @@ use Rattle.pm_journal.specs.Walking.{Next, Stop, Go, walk, reach, Means}
 use Rattle.pm_journal.proofs.PlanJoin.{plays_then}
 use Rattle.pm_meaning.specs.Minds.{Mind}
 use Rattle.pm_meaning.specs.Turns.{Turn, GoesOn, Halts, not_built, say_then, has_command, is_too_long, skip_value}
-use Rattle.pm_meaning.specs.Delivering.{is_plain, mailbox_piece, is_folder_name, file_all, tell_filed, are_file_texts, deliver_to, deliver, act_on, run_recipe}
+use Rattle.pm_meaning.specs.Delivering.{is_plain, mailbox_piece, is_folder_name, file_all, say_filed, are_file_texts, deliver_to, deliver, act_on, run_recipe}
 use Rattle.pm_meaning.specs.Running.{State, Arrived, Running, Over, Item, Open, Do, step, statement, next_of, ending}
 use Rattle.pm_meaning.specs.Laws.{files_of, AreDone, DeliversLast}
 use Rattle.pm_meaning.specs.declared.command_line.CommandLine.{CommandLine}
@@ -66,7 +66,7 @@ final_turn : (b : Bool) (p : Mind) → delivers (if b then GoesOn p else Halts D
 final_turn true p e = let f : false ≡ true = e in absurd (cc)
 final_turn false p e = refl
 
-final_told : (flags : Flags) (filed : Filed) (p : Mind) (es : List Entry) (turn : Turn) → Plays (tell_filed flags filed p) es turn → delivers turn ≡ true → IsFinal flags filed es
+final_told : (flags : Flags) (filed : Filed) (p : Mind) (es : List Entry) (turn : Turn) → Plays (say_filed flags filed p) es turn → delivers turn ≡ true → IsFinal flags filed es
 final_told flags Stored p [] turn h passes = record { stored = refl; final = final_turn flags.copy p (sym (ap delivers h) ∙ passes); none = refl }
 final_told flags Stored p (e ∷ es) turn h passes = absurd h
 final_told flags (Unwritten name) p es turn h passes = absurd (never_told p (couldnt_write_line name) es turn h passes)
@@ -74,9 +74,9 @@ final_told flags (Left name count) p es turn h passes = absurd (never_told p (by
 final_told flags Folder p es turn h passes = absurd (never_built p es turn h passes)
 
 these : (flags : Flags) (words : List (List ℕ)) (p : Mind) (es : List Entry) (turn : Turn) → are_file_texts words ≡ true
-    → Plays (and_then (file_all flags words p) (λ filing. tell_filed flags filing.filed filing.mind)) es turn → delivers turn ≡ true → DeliversHere flags words p es
+    → Plays (and_then (file_all flags words p) (λ filing. say_filed flags filing.filed filing.mind)) es turn → delivers turn ≡ true → DeliversHere flags words p es
 these flags words p es turn usable h passes =
-    let k = parts_of (file_all flags words p) (λ filing. tell_filed flags filing.filed filing.mind) es turn h in
+    let k = parts_of (file_all flags words p) (λ filing. say_filed flags filing.filed filing.mind) es turn h in
     let told = final_told flags k.middle.filed k.middle.mind k.rest turn k.plays_rest passes in
     let same : es ≡ k.front = k.whole ∙ ap (λ l. k.front ++ l) told.none ∙ append-nil k.front in
     record { final = told.final; usable = usable; done = subst (AreDone (mailbox_piece flags p) (files_of p.base words)) (sym same) (stored_is_done flags words p k.front k.middle k.plays_front told.stored) }
@@ -89,7 +89,7 @@ if_last P false p q es end h k l = k l
 delivered_to : (flags : Flags) (text : List ℕ) (words : List (List ℕ)) (p : Mind) (es : List Entry) (turn : Turn) → Plays (deliver_to flags text words p) es turn → delivers turn ≡ true
     → DeliversHere flags words p es
 delivered_to flags text words p es turn h passes =
-    let filing : Plan Turn = and_then (file_all flags words p) (λ filing. tell_filed flags filing.filed filing.mind) in
+    let filing : Plan Turn = and_then (file_all flags words p) (λ filing. say_filed flags filing.filed filing.mind) in
     let rest : Plan Turn = if list_any is_folder_name words then not_built p else filing in
     elim (are_file_texts words) as (λ b. are_file_texts words ≡ b → Plays (if not b then say_then p (unusable_name_line text) (GoesOn p) else rest) es turn → DeliversHere flags words p es) [
       | true ↦ λ usable k. if_last (DeliversHere flags words p es) (list_any is_folder_name words) (not_built p) filing es turn (λ l. absurd (never_built p es turn l passes)) (λ l. these flags words p es turn usable l passes) k

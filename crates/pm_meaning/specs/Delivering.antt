@@ -81,11 +81,11 @@ abbrev pub all_stored : Flags → Mind → Turn
 all_stored flags p = if flags.copy then GoesOn p else Halts Delivered p
 
 -- where a destination didn't get the mail, this is told, and the process goes on
-abbrev pub tell_filed : Flags → Filed → Mind → Plan Turn
-tell_filed flags Stored p = Ends (all_stored flags p)
-tell_filed flags (Unwritten name) p = say_then p (couldnt_write_line name) (GoesOn p)
-tell_filed flags (Left name count) p = say_then p (bytes_left_line count name) (GoesOn p)
-tell_filed flags Folder p = not_built p
+abbrev pub say_filed : Flags → Filed → Mind → Plan Turn
+say_filed flags Stored p = Ends (all_stored flags p)
+say_filed flags (Unwritten name) p = say_then p (couldnt_write_line name) (GoesOn p)
+say_filed flags (Left name count) p = say_then p (bytes_left_line count name) (GoesOn p)
+say_filed flags Folder p = not_built p
 
 -- a recipe needs destinations, each of which can be a file's name
 abbrev pub are_file_texts : List (List ℕ) → Bool
@@ -96,7 +96,7 @@ abbrev pub deliver_to : Flags → List ℕ → List (List ℕ) → Mind → Plan
 deliver_to flags text words p =
     if not (are_file_texts words) then say_then p (unusable_name_line text) (GoesOn p)
     else if list_any is_folder_name words then not_built p
-    else and_then (file_all flags words p) (λ filing. tell_filed flags filing.filed filing.mind)
+    else and_then (file_all flags words p) (λ filing. say_filed flags filing.filed filing.mind)
 
 -- the text is expanded into destinations by the variables as they stand
 abbrev pub deliver : Flags → List ℕ → Mind → Plan Turn

@@ -11,7 +11,7 @@ ghost use Rattle.pm_meaning.specs.Minds.{mind_of};
 ghost use Rattle.pm_actions.specs.Turning.{turn_of};
 
 use pm_actions::{Expansion, expand_text, file_name, first_word, runs_command, skip_value};
-use pm_acts::{Outside, probe, tell};
+use pm_acts::{Outside, probe, say};
 use pm_bytes::{Blob, Memory, Name, full};
 use pm_host::Looked;
 use pm_journal::{Journal, couldnt_chdir, unusable_name};
@@ -132,7 +132,7 @@ fn move_to_folder<D: Outside>(
         }
         None => {
             let line = unusable_name(alloc, value)?;
-            tell(&process.locks, line, outside, journal)?;
+            say(&process.locks, line, outside, journal)?;
             Ok(None)
         }
     }
@@ -159,7 +159,7 @@ fn probe_folder<D: Outside>(
         }
         _ => {
             let line = couldnt_chdir(alloc, &folder)?;
-            tell(&process.locks, line, outside, journal)?;
+            say(&process.locks, line, outside, journal)?;
             Ok(None)
         }
     }

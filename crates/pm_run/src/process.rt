@@ -15,7 +15,7 @@ ghost use Rattle.pm_run.specs.Stretches.{Walks};
 
 use crate::first_values::{begin, login};
 use crate::statements::run_statements;
-use pm_acts::{Outside, ask_moment, give_all, read, tell};
+use pm_acts::{Outside, ask_moment, give_all, read, say};
 use pm_bytes::{Blob, Environ, Memory, Name};
 use pm_journal::{HeldLocks, Journal, couldnt_read, no_delivery};
 use pm_meaning::{CommandLine, End, Ending, Process};
@@ -215,7 +215,7 @@ fn miss_rcfile<D: Outside>(
         return Ok(Opened::Ended(End::NoRc));
     }
     let line = couldnt_read(alloc, name)?;
-    tell(&process.locks, line, outside, journal)?;
+    say(&process.locks, line, outside, journal)?;
     Ok(Opened::Read(Statements::new(alloc)))
 }
 
@@ -236,7 +236,7 @@ fn fall_off<D: Outside>(
         return Ok(End::NotBuilt);
     }
     let line = no_delivery(alloc)?;
-    tell(&process.locks, line, outside, journal)?;
+    say(&process.locks, line, outside, journal)?;
     Ok(End::FellOff)
 }
 

@@ -12,7 +12,7 @@ ghost use Rattle.pm_run.specs.Stretches.{Walks};
 
 use crate::assigning::{assign_text, unset_variable};
 use pm_actions::perform;
-use pm_acts::{Outside, tell};
+use pm_acts::{Outside, say};
 use pm_bytes::Memory;
 use pm_journal::{Journal, skipped};
 use pm_meaning::{End, Process};
@@ -86,6 +86,6 @@ fn skip_line<D: Outside>(
     ensures keeping { Keeping journal.new process.now.locks.names }
 {
     let line = skipped(alloc, text)?;
-    tell(&process.locks, line, outside, journal)?;
+    say(&process.locks, line, outside, journal)?;
     Ok(None)
 }

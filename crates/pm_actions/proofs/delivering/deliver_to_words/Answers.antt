@@ -12,9 +12,9 @@ returns-in_err-file_names-clause-carries g c = (search rules, on_err _ _ (out_an
 pub returns-in_err-line-in-None-clause-carries : goal.returns-in_err-line-in-None-clause-carries
 returns-in_err-line-in-None-clause-carries g c = (search rules, on_err _ _ (out_anywhere _ _ _ _ refl))
 
-pub returns-in_err-tell-in-None-clause-carries : goal.returns-in_err-tell-in-None-clause-carries
-returns-in_err-tell-in-None-clause-carries g c =
-    (search rules, on_err _ _ (texts_unusable_out c.args.flags c.args.text.now _ c.args.words.now (mind_of c.args.process.now) _ _ _ _ (rw c.in-None.is at c.in_ok-file_names.ensures) c.in_ok-line-in-None.ensures c.in_err-tell-in-None.ensures.memory))
+pub returns-in_err-say-in-None-clause-carries : goal.returns-in_err-say-in-None-clause-carries
+returns-in_err-say-in-None-clause-carries g c =
+    (search rules, on_err _ _ (texts_unusable_out c.args.flags c.args.text.now _ c.args.words.now (mind_of c.args.process.now) _ _ _ _ (rw c.in-None.is at c.in_ok-file_names.ensures) c.in_ok-line-in-None.ensures c.in_err-say-in-None.ensures.memory))
 
 pub returns-then-has_folder-clause-carries : goal.returns-then-has_folder-clause-carries
 returns-then-has_folder-clause-carries g c =
@@ -34,7 +34,7 @@ pub returns-in_ok-filed-in-Some-clause-carries : goal.returns-in_ok-filed-in-Som
 returns-in_ok-filed-in-Some-clause-carries g c =
     let p = mind_of c.args.process.now in
     let filing = filing_of c.in_ok-filed-in-Some.filed (mind_of c.file_all.new.process) in
-    let told = c.tell_filed.ensures.carries in
+    let told = c.say_filed.ensures.carries in
     let names = c.as_slice-names.result.now in
     let usable = rw c.in-Some.is at c.in_ok-file_names.ensures in
     let files = sym c.has_folder.ensures ∙ c.if-has_folder.false in

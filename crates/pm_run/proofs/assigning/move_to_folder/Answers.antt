@@ -17,9 +17,9 @@ pub returns-in_err-line-in-None-clause-carries : goal.returns-in_err-line-in-Non
 returns-in_err-line-in-None-clause-carries g c =
     (search rules, on_err _ _ (out_anywhere _ _ _ _ refl))
 
-pub returns-in_err-tell-in-None-clause-carries : goal.returns-in_err-tell-in-None-clause-carries
-returns-in_err-tell-in-None-clause-carries g c =
-    (search rules, on_err _ _ (unusable_out c.args.value.now _ (mind_of c.args.process.now) _ _ _ _ (sym c.in-None.is ∙ c.in_ok-name.ensures) c.in_ok-line-in-None.ensures c.in_err-tell-in-None.ensures.memory))
+pub returns-in_err-say-in-None-clause-carries : goal.returns-in_err-say-in-None-clause-carries
+returns-in_err-say-in-None-clause-carries g c =
+    (search rules, on_err _ _ (unusable_out c.args.value.now _ (mind_of c.args.process.now) _ _ _ _ (sym c.in-None.is ∙ c.in_ok-name.ensures) c.in_ok-line-in-None.ensures c.in_err-say-in-None.ensures.memory))
 
 pub returns-in_ok-name-in-Some-clause-carries : goal.returns-in_ok-name-in-Some-clause-carries
 returns-in_ok-name-in-Some-clause-carries g c =

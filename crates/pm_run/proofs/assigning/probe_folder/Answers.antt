@@ -18,17 +18,17 @@ returns-in_err-line-in_default g c = record {
   keeping = c.probe.ensures.keeping;
 }
 
-pub returns-in_err-tell-in_default : goal.returns-in_err-tell-in_default
-returns-in_err-tell-in_default g c = record {
+pub returns-in_err-say-in_default : goal.returns-in_err-say-in_default
+returns-in_err-say-in_default g c = record {
   carries = (
     search rules,
-    on_err _ _ (folder_untold _ _ _ _ _ c.args.journal.now c.probe.new.journal c.tell.new.journal _ _ _ c.in_default.not-Folder c.in_ok-folder.ensures c.in_ok-line-in_default.ensures c.in_ok-probe.ensures.carries.0 c.in_err-tell-in_default.ensures.memory),
+    on_err _ _ (folder_untold _ _ _ _ _ c.args.journal.now c.probe.new.journal c.say.new.journal _ _ _ c.in_default.not-Folder c.in_ok-folder.ensures c.in_ok-line-in_default.ensures c.in_ok-probe.ensures.carries.0 c.in_err-say-in_default.ensures.memory),
   );
-  keeping = c.tell.ensures.keeping;
+  keeping = c.say.ensures.keeping;
 }
 
-pub returns-in_ok-tell-in_default : goal.returns-in_ok-tell-in_default
-returns-in_ok-tell-in_default g c = record {
-  carries = (folder_missed _ _ _ _ _ c.args.journal.now c.probe.new.journal c.tell.new.journal _ _ _ c.in_default.not-Folder c.in_ok-folder.ensures c.in_ok-line-in_default.ensures c.in_ok-probe.ensures.carries.0 c.in_ok-tell-in_default.ensures.ok, tt);
-  keeping = c.tell.ensures.keeping;
+pub returns-in_ok-say-in_default : goal.returns-in_ok-say-in_default
+returns-in_ok-say-in_default g c = record {
+  carries = (folder_missed _ _ _ _ _ c.args.journal.now c.probe.new.journal c.say.new.journal _ _ _ c.in_default.not-Folder c.in_ok-folder.ensures c.in_ok-line-in_default.ensures c.in_ok-probe.ensures.carries.0 c.in_ok-say-in_default.ensures.ok, tt);
+  keeping = c.say.ensures.keeping;
 }

@@ -12,10 +12,10 @@ pub returns-in_err-line-clause-carries : goal.returns-in_err-line-clause-carries
 returns-in_err-line-clause-carries g c =
     (search rules, on_err _ _ (out_anywhere _ _ _ _ refl))
 
-pub returns-in_err-tell-clause-carries : goal.returns-in_err-tell-clause-carries
-returns-in_err-tell-clause-carries g c =
-    (search rules, on_err _ _ (fell_off_out (mind_of c.args.process.now) _ _ _ _ _ (sym c.has_default.ensures ∙ c.if-has_default.false) c.in_ok-line.ensures c.in_err-tell.ensures.memory))
+pub returns-in_err-say-clause-carries : goal.returns-in_err-say-clause-carries
+returns-in_err-say-clause-carries g c =
+    (search rules, on_err _ _ (fell_off_out (mind_of c.args.process.now) _ _ _ _ _ (sym c.has_default.ensures ∙ c.if-has_default.false) c.in_ok-line.ensures c.in_err-say.ensures.memory))
 
 pub returns-clause-carries : goal.returns-clause-carries
 returns-clause-carries g c =
-    (fell_off (mind_of c.args.process.now) _ _ _ _ _ (sym c.has_default.ensures ∙ c.if-has_default.false) c.in_ok-line.ensures c.in_ok-tell.ensures.ok, tt)
+    (fell_off (mind_of c.args.process.now) _ _ _ _ _ (sym c.has_default.ensures ∙ c.if-has_default.false) c.in_ok-line.ensures c.in_ok-say.ensures.ok, tt)

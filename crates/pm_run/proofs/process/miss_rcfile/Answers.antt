@@ -12,6 +12,6 @@ pub returns-in_err-line-clause-carries : goal.returns-in_err-line-clause-carries
 returns-in_err-line-clause-carries g c =
     (search rules, on_err _ _ (out_anywhere _ _ _ _ refl))
 
-pub returns-in_err-tell-clause-carries : goal.returns-in_err-tell-clause-carries
-returns-in_err-tell-clause-carries g c =
-    (search rules, on_err _ _ (miss_out c.args.name.now _ (mind_of c.args.process.now) _ _ _ _ c.if-process.false c.in_ok-line.ensures c.in_err-tell.ensures.memory))
+pub returns-in_err-say-clause-carries : goal.returns-in_err-say-clause-carries
+returns-in_err-say-clause-carries g c =
+    (search rules, on_err _ _ (miss_out c.args.name.now _ (mind_of c.args.process.now) _ _ _ _ c.if-process.false c.in_ok-line.ensures c.in_err-say.ensures.memory))

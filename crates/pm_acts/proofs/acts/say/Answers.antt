@@ -2,7 +2,7 @@ use Rattle.std.proofs.Common.{rules}
 use Rattle.pm_journal.proofs.FirstActs.{act_after_room}
 use Rattle.pm_journal.proofs.KeepingActs.{keeping_plain}
 use Rattle.pm_journal.proofs.WantsMemory.{on_err, out_anywhere}
-use Rattle.pm_acts.proofs.acts.tell.Goals as goal
+use Rattle.pm_acts.proofs.acts.say.Goals as goal
 
 pub returns-in_err-reserve-clause-memory : goal.returns-in_err-reserve-clause-memory
 returns-in_err-reserve-clause-memory g c = on_err _ _ (out_anywhere _ _ _ _ c.reserve.ensures.same)
