@@ -38,7 +38,7 @@ bench:
 # The merge gate.
 check:
 	@mkdir -p bin
-	@echo "Every proof, must-fail edit, test and stored run, and then deliveries on real files: from nothing about forty"
+	@echo "Every proof, must-fail edit, test and stored run, and then deliveries on real files: from nothing about twenty"
 	@echo "minutes on four processors; what an earlier run on this machine proved isn't proved again. The log is bin/check.log."
 	@bash .ci/watch bin/check.log bash .ci/run; status=$$?; \
 	    if [ $$status -eq 0 ]; then tail -n 5 bin/check.log; else tail -n 40 bin/check.log >&2; fi; exit $$status

@@ -2,7 +2,7 @@
 # Runs each file of cases by the built program, and tells how many cases passed and failed, for each file and in all.
 set -u
 cd "$(dirname "$0")/.." || exit 1
-make -s build-cases || exit 1
+[ "${ARE_BUILT:-}" = yes ] || make -s build-cases || exit 1
 
 passed=0
 failed=0

@@ -3,7 +3,6 @@
 //! tested by the files themselves.
 #![tactic(auto)]
 
-mod error;
 mod lines;
 mod numbers;
 mod refused;
@@ -11,9 +10,10 @@ mod shown;
 mod told;
 mod words;
 
-pub use error::FileRefused;
 pub use lines::{Line, read_lines};
 pub use numbers::{read_i64, read_u64, read_usize};
 pub use refused::Refused;
 pub use shown::show_words;
-pub use told::{Told, Words, copy_of, key_of, number_word, one_word, text_of, word_of};
+pub use told::{
+    Told, Words, copy_of, key_of, number_word, one_number, one_word, only_word, text_of, word_of,
+};

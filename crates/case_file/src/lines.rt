@@ -1,10 +1,10 @@
 //! The lines of a file of cases, each with the text that stands below it.
-use crate::error::{FileRefused, WordsRefused};
+use crate::Refused;
 use crate::words::{Texts, read_words};
 use std::alloc::Global;
 
 /// A line with its number, from 1, and its words. A text below the line is its last word.
-#[derive(Debug, Drop)]
+#[derive(Drop)]
 pub struct Line {
     pub number: u64,
     pub words: Vec<Vec<u8>>,
@@ -40,7 +40,7 @@ struct LineReader {
 
 /// The lines of a file. A line of its own begins with a word; the lines of a text below it begin with `|`,
 /// `"` or `@`.
-pub fn read_lines(alloc: Global, file: &str) -> Result<Vec<Line>, FileRefused> {
+pub fn read_lines(alloc: Global, file: &str) -> Result<Vec<Line>, Refused> {
     let mut reader = LineReader {
         alloc,
         texts: Texts::new(alloc),
@@ -51,7 +51,9 @@ pub fn read_lines(alloc: Global, file: &str) -> Result<Vec<Line>, FileRefused> {
     let mut number = 0u64;
     for line in file.lines() {
         number = number.saturating_add(1);
-        reader.take(number, line.trim_start())?;
+        if let Err(refused) = reader.take(number, line.trim_start()) {
+            return Err(refused.at(number));
+        }
     }
     reader.end_line()?;
     Ok(reader.lines)
@@ -62,38 +64,31 @@ fn is_arrow(word: &[u8]) -> bool {
 }
 
 impl LineReader {
-    fn take(&mut self, number: u64, line: &str) -> Result<(), FileRefused> {
+    fn take(&mut self, number: u64, line: &str) -> Result<(), Refused> {
         if line.is_empty() || line.starts_with('#') {
             return Ok(());
         }
         if let Some(text) = line.strip_prefix('|') {
             let text = text.strip_prefix(' ').unwrap_or(text);
-            self.add_text(number, text.as_bytes())?;
-            return self.add_text(number, b"\n");
+            self.add_text(text.as_bytes())?;
+            return self.add_text(b"\n");
         }
         if line.starts_with('"') || line.starts_with('@') {
-            return self.add_pieces(number, line);
+            return self.add_pieces(line);
         }
         if line.starts_with("->") {
-            return self.go_on(number, line);
+            return self.go_on(line);
         }
         self.end_line()?;
-        let words = self.words(number, line)?;
+        let words = read_words(self.alloc, line, &self.texts)?;
         self.current = Some(Line { number, words });
         Ok(())
     }
 
-    fn words(&self, number: u64, line: &str) -> Result<Vec<Vec<u8>>, FileRefused> {
-        match read_words(self.alloc, line, &self.texts) {
-            Ok(words) => Ok(words),
-            Err(refused) => Err(refused.at(number)),
-        }
-    }
-
     // Adds bytes to the text below the current line.
-    fn add_text(&mut self, number: u64, bytes: &[u8]) -> Result<(), FileRefused> {
+    fn add_text(&mut self, bytes: &[u8]) -> Result<(), Refused> {
         let Some(line) = &mut self.current else {
-            return Err(WordsRefused::Malformed("a text stands below a line").at(number));
+            return Err(Refused::Misread("a text stands below a line"));
         };
         if !self.in_text {
             line.words.push(Vec::new(self.alloc))?;
@@ -105,18 +100,18 @@ impl LineReader {
         Ok(())
     }
 
-    fn add_pieces(&mut self, number: u64, line: &str) -> Result<(), FileRefused> {
-        for piece in self.words(number, line)? {
-            self.add_text(number, &piece)?;
+    fn add_pieces(&mut self, line: &str) -> Result<(), Refused> {
+        for piece in read_words(self.alloc, line, &self.texts)? {
+            self.add_text(&piece)?;
         }
         Ok(())
     }
 
     // Adds the words behind an arrow to the current line, and the arrow itself where the line has none yet.
-    fn go_on(&mut self, number: u64, line: &str) -> Result<(), FileRefused> {
-        let words = self.words(number, line)?;
+    fn go_on(&mut self, line: &str) -> Result<(), Refused> {
+        let words = read_words(self.alloc, line, &self.texts)?;
         let Some(current) = &mut self.current else {
-            return Err(WordsRefused::Malformed("an arrow stands behind a line").at(number));
+            return Err(Refused::Misread("an arrow stands behind a line"));
         };
         let known = current.words.iter().any(|word| is_arrow(word));
         for word in words {
@@ -129,7 +124,7 @@ impl LineReader {
     }
 
     // Ends the current line. One that begins with `text` names a text.
-    fn end_line(&mut self) -> Result<(), FileRefused> {
+    fn end_line(&mut self) -> Result<(), Refused> {
         self.in_text = false;
         let Some(line) = self.current.take() else {
             return Ok(());
@@ -141,10 +136,10 @@ impl LineReader {
         self.define(line)
     }
 
-    fn define(&mut self, line: Line) -> Result<(), FileRefused> {
+    fn define(&mut self, line: Line) -> Result<(), Refused> {
         let Line { number, words } = line;
         let [_, name, text] = words.as_slice() else {
-            return Err(WordsRefused::Malformed("a text has a name and its bytes").at(number));
+            return Err(Refused::Misread("a text has a name and its bytes").at(number));
         };
         let name = name.as_slice().to_vec(self.alloc)?;
         let text = text.as_slice().to_vec(self.alloc)?;

@@ -1,17 +1,26 @@
 //! Why a case isn't run.
-use crate::FileRefused;
 use pm_bytes::{Memory, NameRefused};
 use std::alloc::{AllocError, AllocFailed};
 use std::io;
 
 /// Why a case isn't run: it isn't written as its kind asks, or memory was wanting, or a standard stream
 /// failed.
-#[derive(Clone, Copy, Debug, PartialEq, Eq)]
+#[derive(Clone, Copy)]
 pub enum Refused {
     Misread(&'static str),
     File { line: u64, why: &'static str },
     Memory,
     Stream,
+}
+
+impl Refused {
+    /// The same, with the number of the line that isn't written as its kind asks.
+    pub fn at(self, line: u64) -> Refused {
+        match self {
+            Refused::Misread(why) => Refused::File { line, why },
+            other => other,
+        }
+    }
 }
 
 impl From<Memory> for Refused {
@@ -37,15 +46,6 @@ impl From<NameRefused> for Refused {
         match refused {
             NameRefused::Unusable => Refused::Misread("a name is a text without a zero byte"),
             NameRefused::Memory => Refused::Memory,
-        }
-    }
-}
-
-impl From<FileRefused> for Refused {
-    fn from(refused: FileRefused) -> Self {
-        match refused {
-            FileRefused::Malformed { line, why } => Refused::File { line, why },
-            FileRefused::Memory => Refused::Memory,
         }
     }
 }

@@ -62,11 +62,21 @@ pub fn word_of(alloc: Global, text: &str) -> Result<Vec<u8>, Memory> {
     Ok(text.as_bytes().to_vec(alloc)?)
 }
 
+/// A line of this one word.
+pub fn only_word(alloc: Global, word: Vec<u8>) -> Result<Words, Memory> {
+    let mut words = Vec::new(alloc);
+    words.push(word)?;
+    Ok(words)
+}
+
 /// A line of the one word of this text.
 pub fn one_word(alloc: Global, text: &str) -> Result<Words, Memory> {
-    let mut words = Vec::new(alloc);
-    words.push(word_of(alloc, text)?)?;
-    Ok(words)
+    only_word(alloc, word_of(alloc, text)?)
+}
+
+/// A line of the one word of this number.
+pub fn one_number(alloc: Global, number: u64) -> Result<Words, Memory> {
+    only_word(alloc, number_word(alloc, number)?)
 }
 
 /// A word of this number.

@@ -1,5 +1,5 @@
 //! The words of a line: plain ones, which end at a blank, and quoted ones with their escapes.
-use crate::error::WordsRefused;
+use crate::Refused;
 use std::alloc::Global;
 use std::collections::BTreeMap;
 
@@ -7,7 +7,7 @@ use std::collections::BTreeMap;
 pub(crate) type Texts = BTreeMap<Vec<u8>, Vec<u8>>;
 
 // Where the reading of a line stands.
-#[derive(Clone, Copy, Debug, PartialEq, Eq)]
+#[derive(Clone, Copy)]
 enum Place {
     Between,
     Plain,
@@ -21,7 +21,7 @@ enum Place {
 }
 
 // A repetition that is open: where its text begins, and how often it comes.
-#[derive(Clone, Copy, Debug)]
+#[derive(Clone, Copy)]
 struct Open {
     start: usize,
     times: usize,
@@ -42,7 +42,7 @@ pub(crate) fn read_words(
     alloc: Global,
     line: &str,
     texts: &Texts,
-) -> Result<Vec<Vec<u8>>, WordsRefused> {
+) -> Result<Vec<Vec<u8>>, Refused> {
     let mut reader = WordReader {
         alloc,
         words: Vec::new(alloc),
@@ -62,7 +62,7 @@ fn is_blank(byte: u8) -> bool {
 }
 
 impl WordReader {
-    fn take(&mut self, byte: u8, texts: &Texts) -> Result<(), WordsRefused> {
+    fn take(&mut self, byte: u8, texts: &Texts) -> Result<(), Refused> {
         match self.place {
             Place::Between => self.begin(byte),
             Place::Plain => self.plain(byte),
@@ -79,7 +79,7 @@ impl WordReader {
         }
     }
 
-    fn begin(&mut self, byte: u8) -> Result<(), WordsRefused> {
+    fn begin(&mut self, byte: u8) -> Result<(), Refused> {
         if is_blank(byte) {
             return Ok(());
         }
@@ -94,7 +94,7 @@ impl WordReader {
         Ok(())
     }
 
-    fn plain(&mut self, byte: u8) -> Result<(), WordsRefused> {
+    fn plain(&mut self, byte: u8) -> Result<(), Refused> {
         if is_blank(byte) {
             return self.end_word();
         }
@@ -102,7 +102,7 @@ impl WordReader {
         Ok(())
     }
 
-    fn quoted(&mut self, byte: u8) -> Result<(), WordsRefused> {
+    fn quoted(&mut self, byte: u8) -> Result<(), Refused> {
         match byte {
             b'"' => self.place = Place::BehindQuote,
             b'\\' => self.place = Place::Escape,
@@ -111,7 +111,7 @@ impl WordReader {
         Ok(())
     }
 
-    fn escaped(&mut self, byte: u8) -> Result<(), WordsRefused> {
+    fn escaped(&mut self, byte: u8) -> Result<(), Refused> {
         self.place = Place::Quoted;
         match byte {
             b'n' => self.word.push(b'\n')?,
@@ -123,19 +123,19 @@ impl WordReader {
             b'x' => self.place = Place::FirstDigit,
             b'(' => self.place = Place::Times(0),
             b')' => self.repeat()?,
-            _ => return Err(WordsRefused::Malformed("no such escape")),
+            _ => return Err(Refused::Misread("no such escape")),
         }
         Ok(())
     }
 
-    fn numbered(&mut self, first: u8, byte: u8) -> Result<(), WordsRefused> {
+    fn numbered(&mut self, first: u8, byte: u8) -> Result<(), Refused> {
         let second = digit_of(byte)?;
         self.word.push(first.wrapping_mul(16).wrapping_add(second))?;
         self.place = Place::Quoted;
         Ok(())
     }
 
-    fn times(&mut self, times: usize, byte: u8) -> Result<(), WordsRefused> {
+    fn times(&mut self, times: usize, byte: u8) -> Result<(), Refused> {
         if byte == b' ' {
             let start = self.word.len();
             self.open.push(Open { start, times })?;
@@ -143,7 +143,7 @@ impl WordReader {
             return Ok(());
         }
         if !byte.is_ascii_digit() {
-            return Err(WordsRefused::Malformed("a repetition begins with a number and a blank"));
+            return Err(Refused::Misread("a repetition begins with a number and a blank"));
         }
         let digit = usize::from(byte.wrapping_sub(b'0'));
         self.place = Place::Times(times.saturating_mul(10).saturating_add(digit));
@@ -151,9 +151,9 @@ impl WordReader {
     }
 
     // Ends the repetition that was begun last.
-    fn repeat(&mut self) -> Result<(), WordsRefused> {
+    fn repeat(&mut self) -> Result<(), Refused> {
         let Some(open) = self.open.pop() else {
-            return Err(WordsRefused::Malformed("no repetition was begun"));
+            return Err(Refused::Misread("no repetition was begun"));
         };
         let unit = match self.word.get(open.start..) {
             Some(unit) => unit.to_vec(self.alloc)?,
@@ -166,19 +166,19 @@ impl WordReader {
         Ok(())
     }
 
-    fn behind_quote(&mut self, byte: u8) -> Result<(), WordsRefused> {
+    fn behind_quote(&mut self, byte: u8) -> Result<(), Refused> {
         if is_blank(byte) {
             return self.end_word();
         }
         match byte {
             b'"' => self.place = Place::Quoted,
             b'@' => self.place = Place::Name,
-            _ => return Err(WordsRefused::Malformed("a quote ends within a word")),
+            _ => return Err(Refused::Misread("a quote ends within a word")),
         }
         Ok(())
     }
 
-    fn named(&mut self, byte: u8, texts: &Texts) -> Result<(), WordsRefused> {
+    fn named(&mut self, byte: u8, texts: &Texts) -> Result<(), Refused> {
         if is_blank(byte) {
             self.put_named(texts)?;
             return self.end_word();
@@ -192,19 +192,19 @@ impl WordReader {
         Ok(())
     }
 
-    fn put_named(&mut self, texts: &Texts) -> Result<(), WordsRefused> {
+    fn put_named(&mut self, texts: &Texts) -> Result<(), Refused> {
         match texts.get(self.name.as_slice()) {
             Some(text) => self.word.extend_from_slice(text)?,
-            None => return Err(WordsRefused::Malformed("no such text")),
+            None => return Err(Refused::Misread("no such text")),
         }
         self.name.clear();
         Ok(())
     }
 
-    fn end_word(&mut self) -> Result<(), WordsRefused> {
+    fn end_word(&mut self) -> Result<(), Refused> {
         self.place = Place::Between;
         if !self.open.is_empty() {
-            return Err(WordsRefused::Malformed("a repetition isn't ended"));
+            return Err(Refused::Misread("a repetition isn't ended"));
         }
         let empty = Vec::new(self.alloc);
         let word = std::mem::replace(&mut self.word, empty);
@@ -212,7 +212,7 @@ impl WordReader {
         Ok(())
     }
 
-    fn finish(mut self, texts: &Texts) -> Result<Vec<Vec<u8>>, WordsRefused> {
+    fn finish(mut self, texts: &Texts) -> Result<Vec<Vec<u8>>, Refused> {
         match self.place {
             Place::Between => {}
             Place::Plain => self.end_word()?,
@@ -221,16 +221,16 @@ impl WordReader {
                 self.put_named(texts)?;
                 self.end_word()?;
             }
-            _ => return Err(WordsRefused::Malformed("a quote isn't ended")),
+            _ => return Err(Refused::Misread("a quote isn't ended")),
         }
         Ok(self.words)
     }
 }
 
-fn digit_of(byte: u8) -> Result<u8, WordsRefused> {
+fn digit_of(byte: u8) -> Result<u8, Refused> {
     match byte {
         b'0'..=b'9' => Ok(byte.wrapping_sub(b'0')),
         b'a'..=b'f' => Ok(byte.wrapping_sub(b'a').wrapping_add(10)),
-        _ => Err(WordsRefused::Malformed("behind \\x stand two digits, or letters from a to f")),
+        _ => Err(Refused::Misread("behind \\x stand two digits, or letters from a to f")),
     }
 }

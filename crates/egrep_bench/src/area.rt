@@ -30,7 +30,7 @@ const TEXT: &[u8] = b"Hello Anna,\n\
     \n";
 
 /// What an area is made of.
-#[derive(Clone, Copy, PartialEq, Eq, Debug, Drop)]
+#[derive(Clone, Copy, Drop)]
 pub enum Kind {
     /// The letter a, again and again.
     Letters,

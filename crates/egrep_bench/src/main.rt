@@ -16,7 +16,7 @@ const FAILED: u8 = 1;
 
 const USAGE: u8 = 64;
 
-#[derive(Debug, Drop)]
+#[derive(Drop)]
 enum Refused {
     Usage,
     Failed,

@@ -6,14 +6,21 @@ use Rattle.pm_journal.specs.Entries.{View, Accounts}
 use Rattle.pm_journal.specs.Executed.{OutOfMemory, GivesEach}
 use Rattle.pm_journal.specs.Held.{AreUnlocks, Keeping}
 use Rattle.pm_journal.specs.Plan.{Ends, ask}
-use Rattle.pm_journal.specs.declared.acts.Act.TheVariants.{ReadFile}
+use Rattle.pm_journal.specs.Noted.{NotesAct}
+use Rattle.pm_journal.specs.Held.{held_by}
+use Rattle.pm_journal.specs.Locking.{lock_act, lock_reply}
+use Rattle.pm_journal.specs.declared.locking.LockRule.{LockRule}
+use Rattle.pm_journal.specs.declared.locking.LockEnd.{LockEnd}
+use Rattle.pm_journal.specs.declared.locking.LockEnd.TheVariants.{Held, Busy, Failed}
+use Rattle.pm_journal.specs.declared.acts.Reply.{Reply}
+use Rattle.pm_journal.specs.declared.acts.Act.TheVariants.{ReadFile, Unlock}
 use Rattle.pm_journal.specs.declared.acts.Entry.{Entry}
 use Rattle.pm_journal.proofs.AccountsJoin.{accounts_join, accounts_none}
 use Rattle.pm_journal.proofs.FirstActs.{act_after_room}
 use Rattle.pm_journal.proofs.KeepingActs.{keeping_plain, keeping_unlock}
 use Rattle.pm_journal.proofs.KeepsJoin.{keeping_same}
 use Rattle.pm_journal.proofs.WantsMemory.{out_left_off}
-use Rattle.pm_acts.specs.Acts.{NotesRead, NotesUnlock, ReadsWhole, LeavesRead}
+use Rattle.pm_acts.specs.Acts.{NotesRead, ReadsWhole, LeavesRead, after_taking}
 
 pub file_read : (name : List ℕ) (result : Result (Option (List ℕ)) Memory) (x w y : JournalState) (a b : View) → w.entries ≡ x.entries
     → IfOk result (λ content. NotesRead name content w y a b) → IfOk result (λ content. ReadsWhole name content x y a b)
@@ -42,13 +49,13 @@ pub record Giving (names left : List (List ℕ)) (old new : JournalState) (befor
 pub giving_begun : (names : List (List ℕ)) (x : JournalState) (s : View) → Giving names names x x s s
 giving_begun names x s = record { given = []; entries = sym (append-nil x.entries); goes = λ more h. h; accounts = accounts_none s }
 
-pub giving_goes_on : (names left rest : List (List ℕ)) (name : List ℕ) (x y z : JournalState) (a b c : View) → Giving names left x y a b → left ≡ name ∷ rest → NotesUnlock name y z b c
+pub giving_goes_on : (names left rest : List (List ℕ)) (name : List ℕ) (reply : Reply) (x y z : JournalState) (a b c : View) → Giving names left x y a b → left ≡ name ∷ rest → NotesAct (Unlock name) reply y z b c
     → Giving names rest x z a c
-giving_goes_on names left rest name x y z a b c h was u = record {
-  given = h.given ++ u.notes.entry ∷ [];
-  entries = u.notes.entries ∙ ap (λ l. l ++ u.notes.entry ∷ []) h.entries ∙ append_assoc x.entries h.given (u.notes.entry ∷ []);
-  goes = λ more k. subst (AreUnlocks names) (sym (append_assoc h.given (u.notes.entry ∷ []) more)) (h.goes (u.notes.entry ∷ more) (subst (λ l. AreUnlocks l (u.notes.entry ∷ more)) (sym was) (u.notes.act_is, k)));
-  accounts = accounts_join h.given (u.notes.entry ∷ []) a b c h.accounts u.notes.accounts;
+giving_goes_on names left rest name reply x y z a b c h was u = record {
+  given = h.given ++ u.entry ∷ [];
+  entries = u.entries ∙ ap (λ l. l ++ u.entry ∷ []) h.entries ∙ append_assoc x.entries h.given (u.entry ∷ []);
+  goes = λ more k. subst (AreUnlocks names) (sym (append_assoc h.given (u.entry ∷ []) more)) (h.goes (u.entry ∷ more) (subst (λ l. AreUnlocks l (u.entry ∷ more)) (sym was) (u.act_is, k)));
+  accounts = accounts_join h.given (u.entry ∷ []) a b c h.accounts u.accounts;
 }
 
 pub giving_over : (names left : List (List ℕ)) (x y : JournalState) (a b : View) → Giving names left x y a b → left ≡ [] → GivesEach names x y a b
@@ -60,5 +67,11 @@ giving_over names left x y a b h was = record {
 }
 
 -- the lock that was taken last has left the held ones with its unlock
-pub keeping_first : (names rest : List (List ℕ)) (name : List ℕ) (x y : JournalState) (a b : View) → Keeping x names → names ≡ name ∷ rest → NotesUnlock name x y a b → Keeping y rest
-keeping_first names rest name x y a b h was u = keeping_unlock name u.reply x y rest a b (subst (Keeping x) was h) u.notes
+pub keeping_first : (names rest : List (List ℕ)) (name : List ℕ) (reply : Reply) (x y : JournalState) (a b : View) → Keeping x names → names ≡ name ∷ rest → NotesAct (Unlock name) reply x y a b → Keeping y rest
+keeping_first names rest name reply x y a b h was u = keeping_unlock name reply x y rest a b (subst (Keeping x) was h) u
+
+-- the held locks behind the taking of a lock are those that its reply leaves
+pub taken_held : (name : List ℕ) (rule : LockRule) (end : LockEnd) (names : List (List ℕ)) → after_taking end name names ≡ held_by (lock_act name rule) (lock_reply end) names
+taken_held name rule (Held sleeps forced) names = refl
+taken_held name rule Busy names = refl
+taken_held name rule Failed names = refl

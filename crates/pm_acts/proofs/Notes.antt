@@ -1,5 +1,5 @@
 -- Acts as entries.
-use Rattle.std.proofs.Common.{◌≡◌, ℕ, ℤ, ◌+◌, List, [], ◌∷◌, ◌++◌, refl, sym, subst, append-nil}
+use Rattle.std.proofs.Common.{◌≡◌, true, false, ℕ, ℤ, ◌+◌, List, [], ◌∷◌, ◌++◌, refl, sym, subst, append-nil}
 use Rattle.pm_host.specs.Told.{HostView, Tells, Adds, Makes}
 use Rattle.pm_host.specs.Streams.{StreamView}
 use Rattle.pm_host.specs.declared.answers.Looked.{Looked}
@@ -18,7 +18,10 @@ use Rattle.pm_journal.specs.declared.acts.Entry.{Entry}
 use Rattle.pm_journal.specs.declared.acts.Reply.{Reply}
 use Rattle.pm_journal.specs.declared.acts.Reply.TheVariants.{Found, Now as ReplyNow}
 use Rattle.pm_journal.specs.declared.appending.AppendEnd.{AppendEnd}
-use Rattle.pm_journal.proofs.OneAct.{append_accounts, say_file_accounts, probe_accounts, moment_accounts, unlock_accounts}
+use Rattle.pm_journal.proofs.OneAct.{append_accounts, say_file_accounts, probe_accounts, moment_accounts, lock_accounts, unlock_accounts}
+use Rattle.pm_journal.specs.Locking.{TakesLock, lock_reply, lock_act}
+use Rattle.pm_journal.specs.declared.locking.LockRule.{LockRule}
+use Rattle.pm_journal.specs.declared.locking.LockEnd.{LockEnd}
 use Rattle.pm_journal.proofs.ReadJoin.{read_accounts}
 use Rattle.pm_append.specs.ReadsFile.{ReadsFile, read_reply}
 use Rattle.pm_append.specs.Writing.{WritesText, say_reply}
@@ -35,13 +38,13 @@ noted : (act : Act) (reply : Reply) (x y : JournalState) (s t : View) → Accoun
     → y.room + 1 ≡ x.room → NotesAct act reply x y s t
 noted act reply x y s t h e r = record { entry = entry_of act reply s t; act_is = refl; reply_is = refl; entries = e; room = r; accounts = h }
 
-pub append_notes : (refs name piece : List ℕ) (end : AppendEnd) (x y : JournalState) (a b : HostView) (out err : StreamView) → Appends name piece end a b
+pub append_notes : (refs name piece : List ℕ) (end : AppendEnd) (x y : JournalState) (a b : HostView) (out err : StreamView) → Appends name piece true end a b
     → y.entries ≡ x.entries ++ entry_of (Append name piece) (append_reply end) (seen_by refs a out err) (seen_by refs b out err) ∷ [] → y.room + 1 ≡ x.room
     → NotesAct (Append name piece) (append_reply end) x y (seen_by refs a out err) (seen_by refs b out err)
 append_notes refs name piece end x y a b out err h e r =
     noted (Append name piece) (append_reply end) x y (seen_by refs a out err) (seen_by refs b out err) (append_accounts refs name piece end a b out err h) e r
 
-pub say_file_notes : (refs name text : List ℕ) (end : AppendEnd) (x y : JournalState) (a b : HostView) (out err : StreamView) → Appends name text end a b
+pub say_file_notes : (refs name text : List ℕ) (end : AppendEnd) (x y : JournalState) (a b : HostView) (out err : StreamView) → Appends name text false end a b
     → y.entries ≡ x.entries ++ entry_of (SayFile name text) (append_reply end) (seen_by refs a out err) (seen_by refs b out err) ∷ [] → y.room + 1 ≡ x.room
     → NotesAct (SayFile name text) (append_reply end) x y (seen_by refs a out err) (seen_by refs b out err)
 say_file_notes refs name text end x y a b out err h e r =
@@ -89,3 +92,9 @@ pub unlock_notes : (refs name : List ℕ) (removed : Removed) (x y : JournalStat
     → NotesAct (Unlock name) (unlock_reply removed) x y (seen_by refs a out err) (seen_by refs b out err)
 unlock_notes refs name removed x y a b out err h e r =
     noted (Unlock name) (unlock_reply removed) x y (seen_by refs a out err) (seen_by refs b out err) (unlock_accounts refs name removed a b out err h) e r
+
+pub lock_notes : (refs name : List ℕ) (rule : LockRule) (end : LockEnd) (x y : JournalState) (a b : HostView) (out err : StreamView) → TakesLock rule name end a b
+    → y.entries ≡ x.entries ++ entry_of (lock_act name rule) (lock_reply end) (seen_by refs a out err) (seen_by refs b out err) ∷ [] → y.room + 1 ≡ x.room
+    → NotesAct (lock_act name rule) (lock_reply end) x y (seen_by refs a out err) (seen_by refs b out err)
+lock_notes refs name rule end x y a b out err h e r =
+    noted (lock_act name rule) (lock_reply end) x y (seen_by refs a out err) (seen_by refs b out err) (lock_accounts refs rule name end a b out err h) e r

@@ -1,5 +1,5 @@
 -- Acts whose reply the caller doesn't see whole.
-use Rattle.std.specs.Prelude.{◌≡◌, ℕ, List, Option, Some, None}
+use Rattle.std.specs.Prelude.{◌≡◌, ℕ, List, ◌∷◌, Option, Some, None}
 use Rattle.pm_host.specs.declared.calls.Logged.{Logged}
 use Rattle.pm_journal.specs.JournalState.{JournalState}
 use Rattle.pm_journal.specs.Entries.{View}
@@ -7,8 +7,10 @@ use Rattle.pm_journal.specs.Executed.{Executes, UnfinishedCalls, TakesCalls}
 use Rattle.pm_journal.specs.Noted.{NotesAct}
 use Rattle.pm_journal.specs.Plan.{ask}
 use Rattle.pm_journal.specs.declared.acts.Act.{Act}
-use Rattle.pm_journal.specs.declared.acts.Act.TheVariants.{ReadFile, Unlock, SayFile, SayErr}
+use Rattle.pm_journal.specs.declared.acts.Act.TheVariants.{ReadFile, SayFile, SayErr}
 use Rattle.pm_journal.specs.declared.acts.Reply.{Reply}
+use Rattle.pm_journal.specs.declared.locking.LockEnd.{LockEnd}
+use Rattle.pm_journal.specs.declared.locking.LockEnd.TheVariants.{Held}
 use Rattle.pm_append.specs.ReadsFile.{content_of}
 
 -- a text goes to a file, or to `err`
@@ -27,11 +29,6 @@ pub record NotesRead (name : List ℕ) (content : Option (List ℕ)) (old new : 
   pub content_is : content ≡ content_of reply
   pub notes : NotesAct (ReadFile name) reply old new before after
 
--- the lock file was removed, with some reply, and noted
-pub record NotesUnlock (name : List ℕ) (old new : JournalState) (before after : View) : Type 0 where
-  pub reply : Reply
-  pub notes : NotesAct (Unlock name) reply old new before after
-
 -- the text was said on `err`, with some reply
 pub record Says (text : List ℕ) (old new : JournalState) (before after : View) : Type 0 where
   pub reply : Reply
@@ -48,3 +45,8 @@ pub record LeavesRead (name : List ℕ) (before after : View) : Type 0 where
   pub calls : List Logged
   pub unfinished : UnfinishedCalls (ReadFile name) calls
   pub took : TakesCalls calls before after
+
+-- the held locks behind the taking of a lock
+abbrev pub after_taking : LockEnd → List ℕ → List (List ℕ) → List (List ℕ)
+after_taking (Held sleeps forced) name names = name ∷ names
+after_taking other name names = names

@@ -1,20 +1,23 @@
 //! Single acts, each a plan of its own: room is made for its entry beside those of the unlocks of the held locks, and
 //! it is done and noted. After want of memory nothing was noted.
-ghost use Rattle.std.specs.Prelude.{◌≡◌, [], IfOk, OnErr};
+ghost use Rattle.std.specs.Prelude.{◌≡◌, ◌≤◌, ◌<◌, ◌+◌, true, false, [], length, IfOk, OnErr};
 ghost use Rattle.pm_append.specs.ReadsFile.{FitsFile};
-ghost use Rattle.pm_journal.specs.declared.acts.Act.TheVariants.{ReadFile, Probe, Append, SayErr, Moment};
+ghost use Rattle.pm_journal.specs.declared.acts.Act.TheVariants.{ReadFile, Probe, Append, Unlock, SayErr, Moment};
 ghost use Rattle.pm_journal.specs.declared.acts.Reply.TheVariants.{Found, Now};
 ghost use Rattle.pm_journal.specs.Appending.{append_reply};
+ghost use Rattle.pm_journal.specs.Entries.{unlock_reply};
+ghost use Rattle.pm_journal.specs.Locking.{lock_act, lock_reply};
+ghost use Rattle.pm_journal.specs.Noted.{NotesAct};
 ghost use Rattle.pm_journal.specs.Executed.{Carries, OutOfMemory, GivesEach};
-ghost use Rattle.pm_journal.specs.Held.{Keeping};
+ghost use Rattle.pm_journal.specs.Held.{Keeping, holds_name, held_by, without};
 ghost use Rattle.pm_journal.specs.Plan.{ask};
-ghost use Rattle.pm_acts.specs.Acts.{Says, ReadsWhole};
+ghost use Rattle.pm_acts.specs.Acts.{Says, ReadsWhole, after_taking};
 
 use crate::Outside;
 use pm_append::AppendEnd;
 use pm_bytes::{Blob, Memory, Name};
-use pm_host::Looked;
-use pm_journal::{HeldLocks, Journal};
+use pm_host::{Looked, Removed};
+use pm_journal::{HeldLocks, Journal, LockEnd, LockRule};
 use std::alloc::Global;
 
 /// Says a line on `err`.
@@ -89,6 +92,62 @@ pub fn read<D: Outside>(
 {
     journal.reserve(held.len() + 1)?;
     outside.read(alloc, journal, name)
+}
+
+/// Takes a lock that isn't held yet. Its name is given twice: for the entry and for the held locks. It takes no memory.
+pub fn take<D: Outside>(
+    held: &mut HeldLocks,
+    name: Name,
+    again: Name,
+    rule: LockRule,
+    outside: &mut D,
+    journal: &mut Journal,
+) -> LockEnd
+    requires some { 1 ≤ rule.tries }
+    requires few { rule.tries ≤ 1000000 }
+    requires twice { again ≡ name }
+    requires free { holds_name held.old.names name ≡ false }
+    requires space { 0 < held.old.room }
+    requires room { length held.old.names + 2 ≤ journal.old.room }
+    requires keeping { Keeping journal.old held.old.names }
+    ensures notes { NotesAct (lock_act name rule) (lock_reply result)
+        journal.old journal.new (D.told outside.old) (D.told outside.new) }
+    ensures held { held.new.names ≡ held_by (lock_act name rule) (lock_reply result) held.old.names }
+    ensures keeping { Keeping journal.new held.new.names }
+{
+    let end = outside.lock(journal, name, rule);
+    hold(held, again, end);
+    end
+}
+
+// The lock is held where it was got.
+fn hold(held: &mut HeldLocks, name: Name, end: LockEnd)
+    requires { 0 < held.old.room }
+    ensures { held.new.names ≡ after_taking end name held.old.names }
+{
+    if let LockEnd::Held { .. } = end {
+        held.add(name);
+    }
+}
+
+/// Gives back the held lock of this name: its removal is tried once. It takes no memory.
+pub fn give<D: Outside>(
+    held: &mut HeldLocks,
+    name: &Name,
+    outside: &mut D,
+    journal: &mut Journal,
+) -> Removed
+    requires held { holds_name held.old.names name.now ≡ true }
+    requires keeping { Keeping journal.old held.old.names }
+    ensures notes { NotesAct (Unlock name.now) (unlock_reply result)
+        journal.old journal.new (D.told outside.old) (D.told outside.new) }
+    ensures names { held.new.names ≡ without held.old.names name.now }
+    ensures keeping { Keeping journal.new held.new.names }
+{
+    match held.give(name) {
+        Some(name) => outside.unlock(journal, name),
+        None => unreachable!(),
+    }
 }
 
 /// Gives each held lock back, the last taken first: its removal is tried once. It takes no memory.

@@ -2,6 +2,7 @@
 ghost use Rattle.std.specs.Prelude.{◌≡◌, IfOk};
 ghost use Rattle.pm_journal.specs.Appending.{append_reply};
 ghost use Rattle.pm_journal.specs.Entries.{counts_of, view_of, unlock_reply};
+ghost use Rattle.pm_journal.specs.Locking.{lock_reply};
 ghost use Rattle.pm_append.specs.ReadsFile.{read_reply, content_of};
 ghost use Rattle.pm_append.specs.Writing.{say_reply};
 
@@ -9,7 +10,8 @@ use crate::Outside;
 use pm_append::{AppendEnd, ReadEnd, WriteEnd, append_whole, read_file, write_text};
 use pm_bytes::{Blob, Memory, Name};
 use pm_host::{Host, Looked, Removed, Sink};
-use pm_journal::{Act, Counts, Entry, Journal, Reply};
+use pm_journal::{Act, Counts, Entry, Journal, LockEnd, LockRule, Reply};
+use pm_locks::take_lock;
 use std::alloc::Global;
 
 /// A host and the two sinks of a run.
@@ -56,7 +58,7 @@ impl<'a, H: Host, O: Sink, E: Sink> Outside for Objects<'a, H, O, E> {
 
     fn append(&mut self, journal: &mut Journal, name: Name, piece: Blob) -> AppendEnd {
         let before = self.counts();
-        let end = append_whole(&mut *self.host, &name, piece.as_slice());
+        let end = append_whole(&mut *self.host, &name, piece.as_slice(), true);
         let after = self.counts();
         journal.note(Entry {
             act: Act::Append { name, piece },
@@ -71,7 +73,7 @@ impl<'a, H: Host, O: Sink, E: Sink> Outside for Objects<'a, H, O, E> {
         let before = self.counts();
         match to {
             Some(name) => {
-                let end = append_whole(&mut *self.host, &name, text.as_slice());
+                let end = append_whole(&mut *self.host, &name, text.as_slice(), false);
                 let after = self.counts();
                 journal.note(Entry {
                     act: Act::SayFile { name, text },
@@ -138,7 +140,26 @@ impl<'a, H: Host, O: Sink, E: Sink> Outside for Objects<'a, H, O, E> {
         moment
     }
 
-    fn unlock(&mut self, journal: &mut Journal, name: Name) {
+    fn lock(&mut self, journal: &mut Journal, name: Name, rule: LockRule) -> LockEnd {
+        let before = self.counts();
+        let end = take_lock(&mut *self.host, &name, rule);
+        let after = self.counts();
+        journal.note(Entry {
+            act: Act::Lock {
+                name,
+                sleep: rule.sleep,
+                limit: rule.limit,
+                suspend: rule.suspend,
+                tries: rule.tries,
+            },
+            reply: lock_reply_of(end),
+            before,
+            after,
+        });
+        end
+    }
+
+    fn unlock(&mut self, journal: &mut Journal, name: Name) -> Removed {
         let before = self.counts();
         let removed = self.host.remove(name.as_str());
         let after = self.counts();
@@ -148,6 +169,7 @@ impl<'a, H: Host, O: Sink, E: Sink> Outside for Objects<'a, H, O, E> {
             before,
             after,
         });
+        removed
     }
 }
 
@@ -191,6 +213,16 @@ fn read_reply_of(end: ReadEnd) -> Reply
         ReadEnd::NotPlain => Reply::NotPlain,
         ReadEnd::TooLong(count) => Reply::TooLong(count),
         ReadEnd::Faulted => Reply::Faulted,
+    }
+}
+
+fn lock_reply_of(end: LockEnd) -> Reply
+    ensures { result ≡ lock_reply end }
+{
+    match end {
+        LockEnd::Held { sleeps, forced } => Reply::Held { sleeps, forced },
+        LockEnd::Busy => Reply::Busy,
+        LockEnd::Failed => Reply::Faulted,
     }
 }
 

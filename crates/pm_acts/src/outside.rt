@@ -1,15 +1,16 @@
 //! The outside of a run, by the acts that it can do.
-ghost use Rattle.std.specs.Prelude.{◌≡◌, ◌<◌, IfOk, OnErr};
+ghost use Rattle.std.specs.Prelude.{◌≡◌, ◌<◌, ◌≤◌, IfOk, OnErr};
 ghost use Rattle.pm_journal.specs.Appending.{append_reply};
-ghost use Rattle.pm_journal.specs.Entries.{View};
+ghost use Rattle.pm_journal.specs.Entries.{View, unlock_reply};
+ghost use Rattle.pm_journal.specs.Locking.{lock_act, lock_reply};
 ghost use Rattle.pm_journal.specs.Noted.{NotesAct};
 ghost use Rattle.pm_append.specs.ReadsFile.{FitsFile};
-ghost use Rattle.pm_acts.specs.Acts.{NotesSaid, NotesRead, NotesUnlock, LeavesRead};
+ghost use Rattle.pm_acts.specs.Acts.{NotesSaid, NotesRead, LeavesRead};
 
 use pm_append::AppendEnd;
 use pm_bytes::{Blob, Memory, Name};
-use pm_host::Looked;
-use pm_journal::{Act, Journal, Reply};
+use pm_host::{Looked, Removed};
+use pm_journal::{Act, Journal, LockEnd, LockRule, Reply};
 use std::alloc::Global;
 
 /// Does acts, and notes each in the journal as the one new entry. Only `read` takes memory.
@@ -17,7 +18,7 @@ pub trait Outside {
     /// What the host and the sinks tell.
     ghost told: { Self → View };
 
-    /// Appends the piece to the file, whole or cut back.
+    /// Appends the piece to the file, whole and brought to the store, or cut back.
     fn append(&mut self, journal: &mut Journal, name: Name, piece: Blob) -> AppendEnd
         requires { 0 < journal.old.room }
         ensures { NotesAct (Act.Append name piece) (append_reply result)
@@ -56,8 +57,17 @@ pub trait Outside {
         ensures { NotesAct Act.Moment (Reply.Now result)
             journal.old journal.new (told self.old) (told self.new) };
 
+    /// Takes a lock by the rule.
+    fn lock(&mut self, journal: &mut Journal, name: Name, rule: LockRule) -> LockEnd
+        requires room { 0 < journal.old.room }
+        requires some { 1 ≤ rule.tries }
+        requires few { rule.tries ≤ 1000000 }
+        ensures { NotesAct (lock_act name rule) (lock_reply result)
+            journal.old journal.new (told self.old) (told self.new) };
+
     /// Removes a lock file.
-    fn unlock(&mut self, journal: &mut Journal, name: Name)
+    fn unlock(&mut self, journal: &mut Journal, name: Name) -> Removed
         requires { 0 < journal.old.room }
-        ensures { NotesUnlock name journal.old journal.new (told self.old) (told self.new) };
+        ensures { NotesAct (Act.Unlock name) (unlock_reply result)
+            journal.old journal.new (told self.old) (told self.new) };
 }

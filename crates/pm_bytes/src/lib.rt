@@ -6,10 +6,9 @@ mod bytes;
 mod environment;
 mod error;
 mod letters;
+mod names;
 mod numbers;
 mod paths;
-#[cfg(test)]
-mod tests;
 mod text;
 
 pub use alphabet::{
@@ -21,6 +20,7 @@ pub use bytes::Blob;
 pub use environment::{Environ, Pair, Pairs};
 pub use error::{Memory, NameRefused};
 pub use letters::{begins_name, continues_name, fold, is_blank, is_digit, is_space};
+pub use names::Names;
 pub use numbers::{read_count, read_number};
 pub use paths::full;
 pub use text::Name;

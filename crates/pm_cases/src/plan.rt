@@ -11,14 +11,14 @@ pub struct Stands {
 }
 
 /// An `append` with this number takes at most so many bytes.
-#[derive(Clone, Copy, Debug)]
+#[derive(Clone, Copy)]
 pub struct Limit {
     pub call: u64,
     pub most: usize,
 }
 
 /// Which calls of the host fail besides those that are named one by one.
-#[derive(Clone, Copy, Debug, PartialEq, Eq)]
+#[derive(Clone, Copy)]
 pub enum Failing {
     None,
     /// Each call up to this number, one at a time, and none.
@@ -29,7 +29,7 @@ pub enum Failing {
 
 /// What fails in one try besides what the plan names: two calls of the host, of which the number 0 is none, and
 /// a write to `err`.
-#[derive(Clone, Copy, Debug)]
+#[derive(Clone, Copy)]
 pub struct Choice {
     pub failing: [u64; 2],
     pub lost: Option<u64>,

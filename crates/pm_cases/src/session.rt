@@ -35,11 +35,8 @@ impl Session {
     /// Reads a line, and tries what it ends.
     pub fn take<R: Print>(&mut self, rt: &R, line: &Line) -> Result<(), Refused> {
         match self.read(rt, line) {
-            Err(Refused::Misread(why)) => Err(Refused::File {
-                line: line.number,
-                why,
-            }),
-            other => other,
+            Err(refused) => Err(refused.at(line.number)),
+            Ok(()) => Ok(()),
         }
     }
 
@@ -94,11 +91,8 @@ impl Session {
             return Ok(());
         };
         match try_plan(rt, &plan, &mut self.tally) {
-            Err(Refused::Misread(why)) => Err(Refused::File {
-                line: self.begun,
-                why,
-            }),
-            other => other,
+            Err(refused) => Err(refused.at(self.begun)),
+            Ok(()) => Ok(()),
         }
     }
 

@@ -6,7 +6,7 @@ use case_file::{Refused, Told, Words, show_words};
 use std::alloc::Global;
 
 /// How many runs came as wanted, and how many didn't.
-#[derive(Clone, Copy, Debug, PartialEq, Eq)]
+#[derive(Clone, Copy)]
 pub struct Tally {
     pub passed: u64,
     pub failed: u64,

@@ -1,4 +1,5 @@
 //! What the calls of a host and of a stream answer.
+use pm_bytes::Names;
 
 /// What stands at a name: a file of so many bytes, a folder, or nothing.
 #[derive(Clone, Copy, Debug, PartialEq, Eq)]
@@ -31,6 +32,13 @@ pub enum Made {
     Failed,
 }
 
+/// Whether a file was brought to the store.
+#[derive(Clone, Copy, Debug, PartialEq, Eq)]
+pub enum Synced {
+    Synced,
+    Failed,
+}
+
 /// Whether a file was cut.
 #[derive(Clone, Copy, Debug, PartialEq, Eq)]
 pub enum Cut {
@@ -43,6 +51,53 @@ pub enum Cut {
 pub enum Removed {
     Removed,
     Absent,
+    Failed,
+}
+
+/// Whether a file was moved; `Taken` where something stands at its new name.
+#[derive(Clone, Copy, Debug, PartialEq, Eq)]
+pub enum Moved {
+    Moved,
+    Taken,
+    Failed,
+}
+
+/// The last parts of the names in a folder, in the order of their bytes.
+#[derive(Debug, Drop)]
+pub enum Listed {
+    Names(Names),
+    Failed,
+    Memory,
+}
+
+/// Seconds since a file was made; `Absent` where nothing stands there.
+#[derive(Clone, Copy, Debug, PartialEq, Eq)]
+pub enum Aged {
+    Age(u64),
+    Absent,
+    Failed,
+}
+
+/// Whether a child was started.
+#[derive(Clone, Copy, Debug, PartialEq, Eq)]
+pub enum Started {
+    Started,
+    Failed,
+}
+
+/// How many bytes the child took, from 1 to the piece's length; `Closed` where it takes no more.
+#[derive(Clone, Copy, Debug, PartialEq, Eq)]
+pub enum Fed {
+    Took(usize),
+    Closed,
+    Failed,
+}
+
+/// The code with which the child ended, or the signal that ended it.
+#[derive(Clone, Copy, Debug, PartialEq, Eq)]
+pub enum Finished {
+    Code(u8),
+    Signal(u8),
     Failed,
 }
 

@@ -4,12 +4,17 @@
 
 pub mod answers;
 pub mod calls;
+pub mod command;
 pub mod host;
 pub mod nodes;
 pub mod streams;
 
-pub use answers::{Child, Cut, Got, Looked, Made, Removed, Took};
+pub use answers::{
+    Aged, Child, Cut, Fed, Finished, Got, Listed, Looked, Made, Moved, Removed, Started, Synced,
+    Took,
+};
 pub use calls::{Answer, Call, Logged};
+pub use command::{ChildInput, Command, Script};
 pub use host::Host;
 pub use nodes::{Change, File, Node};
 pub use streams::{Sink, Source};

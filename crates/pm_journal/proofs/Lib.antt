@@ -1,10 +1,13 @@
 pub mod AppendEffect
+pub mod LockEffect
+pub mod LockLeaves
 pub mod AppendCause
 pub mod ReplyOf
 pub mod AccountsJoin
 pub mod OneAct
 pub mod ReadJoin
 pub mod KeepsJoin
+pub mod HoldsName
 pub mod LocksLeft
 pub mod DeliveriesHold
 pub mod Causes
@@ -17,4 +20,6 @@ pub mod FirstActs
 pub mod KeepingActs
 pub mod FilesGrow
 pub mod OneGrouping
+pub mod ChildrenStay
+pub mod SyncedDone
 pub mod Spans

@@ -1,5 +1,5 @@
 -- Calls are shared out to entries in one way only.
-use Rattle.std.proofs.Common.{◌≡◌, ◌≤◌, ◌<◌, ℕ, List, [], ◌∷◌, ◌++◌, ◌+◌, length, Option, Some, None, refl, sym, ap, ◌∙◌, subst, arith}
+use Rattle.std.proofs.Common.{◌≡◌, ◌≤◌, ◌<◌, ℕ, Bool, true, false, List, [], ◌∷◌, ◌++◌, ◌+◌, length, Option, Some, None, refl, sym, ap, ◌∙◌, subst, arith}
 use Rattle.pm_host.specs.Runs.{Transitions}
 use Rattle.pm_host.specs.Told.{Tells, Adds}
 use Rattle.pm_host.specs.declared.calls.Call.{Call}
@@ -13,6 +13,11 @@ use Rattle.pm_journal.specs.declared.appending.AppendState.{AppendState}
 use Rattle.pm_journal.specs.declared.appending.AppendState.TheVariants.{Looking}
 use Rattle.pm_journal.specs.declared.appending.AppendEnd.{AppendEnd}
 use Rattle.pm_journal.specs.declared.appending.AppendStep.TheVariants.{Finish}
+use Rattle.pm_journal.specs.Locking.{lock_rule, no_tally, lock_step, LockStepAsks, LockAsks, lock_heard}
+use Rattle.pm_journal.specs.declared.locking.LockState.{LockState}
+use Rattle.pm_journal.specs.declared.locking.LockState.TheVariants.{Trying}
+use Rattle.pm_journal.specs.declared.locking.LockEnd.{LockEnd}
+use Rattle.pm_journal.specs.declared.locking.LockStep.TheVariants.{Finish as LockFinish}
 use Rattle.pm_journal.specs.declared.acts.Act.{Act}
 use Rattle.pm_journal.specs.declared.acts.Act.TheVariants.{Append as AppendTo, ReadFile, Probe, Lock, Unlock, SayFile, SayErr, WriteOut, Moment}
 use Rattle.pm_journal.specs.declared.acts.Reply.{Reply}
@@ -47,8 +52,11 @@ one_run asks heard s t u (c ∷ cs) (d ∷ ds) r q x y x_done y_done e =
     let more = one_run asks heard (heard s d.answer) t u cs ds r q next y.2 x_done y_done (ap rest_of e) in
     record { group = ap (λ k. k ∷ cs) first ∙ ap (λ l. d ∷ l) more.group; rest = more.rest }
 
-append_done : (name piece : List ℕ) (at : AppendState) (end : AppendEnd) → append_step (length piece) at ≡ Finish end → IsDone (AppendAsks name piece) at
-append_done name piece at end e call asks = subst (λ step. StepAsks name piece step call) e asks
+append_done : (name piece : List ℕ) (sync : Bool) (at : AppendState) (end : AppendEnd) → append_step (length piece) sync at ≡ Finish end → IsDone (AppendAsks name piece sync) at
+append_done name piece sync at end e call asks = subst (λ step. StepAsks name piece step call) e asks
+
+lock_done : (name : List ℕ) (at : LockState) (end : LockEnd) → lock_step at ≡ LockFinish end → IsDone (LockAsks name) at
+lock_done name at end e call asks = subst (λ step. LockStepAsks name step call) e asks
 
 too_long : (n room : ℕ) → 1048576 < n → 1 ≤ room → n + room ≤ 1048577 → ⊥
 too_long n room long some bounded = omega (arith, long, some, bounded)
@@ -58,10 +66,10 @@ read_done name ReadLooking reply done call asks = absurd done
 read_done name (ReadOn so_far) reply done call asks = too_long (length so_far) asks.room done.0 asks.some asks.bounded
 read_done name (ReadEnded r) reply done call asks = asks
 
-same_file : (name piece : List ℕ) (reply : Reply) (g h r q : List Logged) → FileGroup name piece reply g → FileGroup name piece reply h → g ++ r ≡ h ++ q → Same g h r q
-same_file name piece reply g h r q x y e =
-    one_run (AppendAsks name piece) append_heard Looking x.group.last y.group.last g h r q x.group.walk y.group.walk
-    (append_done name piece x.group.last x.end x.group.ends) (append_done name piece y.group.last y.end y.group.ends) e
+same_file : (name piece : List ℕ) (sync : Bool) (reply : Reply) (g h r q : List Logged) → FileGroup name piece sync reply g → FileGroup name piece sync reply h → g ++ r ≡ h ++ q → Same g h r q
+same_file name piece sync reply g h r q x y e =
+    one_run (AppendAsks name piece sync) append_heard Looking x.group.last y.group.last g h r q x.group.walk y.group.walk
+    (append_done name piece sync x.group.last x.end x.group.ends) (append_done name piece sync y.group.last y.end y.group.ends) e
 
 -- groups of one call
 same_call : (c d : Logged) (g h r q : List Logged) → g ≡ c ∷ [] → h ≡ d ∷ [] → g ++ r ≡ h ++ q → Same g h r q
@@ -77,10 +85,12 @@ same_group : (act : Act) (reply : Reply) (g h r q : List Logged) → Protocol ac
 same_group (ReadFile name) reply g h r q x y e =
     one_run (ReadAsks name) read_heard ReadLooking x.at y.at g h r q x.prefix y.prefix (read_done name x.at reply x.done) (read_done name y.at reply y.done) e
 same_group (Probe name) reply g h r q x y e = same_call _ _ g h r q x.call y.call e
-same_group (AppendTo name piece) reply g h r q x y e = same_file name piece reply g h r q x y e
-same_group (Lock name sleep limit suspend tries) reply g h r q x y e = absurd x
+same_group (AppendTo name piece) reply g h r q x y e = same_file name piece true reply g h r q x y e
+same_group (Lock name sleep limit suspend tries) reply g h r q x y e =
+    one_run (LockAsks name) (lock_heard (lock_rule sleep limit suspend tries)) (Trying no_tally) x.group.last y.group.last g h r q x.group.walk y.group.walk
+    (lock_done name x.group.last x.end x.group.ends) (lock_done name y.group.last y.end y.group.ends) e
 same_group (Unlock name) reply g h r q x y e = same_call _ _ g h r q x.call y.call e
-same_group (SayFile name text) reply g h r q x y e = same_file name text reply g h r q x y e
+same_group (SayFile name text) reply g h r q x y e = same_file name text false reply g h r q x y e
 same_group (SayErr text) reply g h r q x y e = same_none g h r q x.none y.none e
 same_group (WriteOut piece) reply g h r q x y e = same_none g h r q x.none y.none e
 same_group Moment reply g h r q x y e = same_call _ _ g h r q x.call y.call e

@@ -1,7 +1,8 @@
 //! The locks that a process holds.
-ghost use Rattle.std.specs.Prelude.{◌≡◌, ◌≤◌, [], ◌∷◌, length, IfSome, IsNone};
+ghost use Rattle.std.specs.Prelude.{◌≡◌, ◌+◌, ◌<◌, ◌≤◌, [], ◌∷◌, length, OnOk, OnErr, IfSome, IsNone, is_some};
+ghost use Rattle.pm_journal.specs.Held.{holds_name, without};
 
-use pm_bytes::Name;
+use pm_bytes::{Memory, Name};
 use std::alloc::Global;
 use std::marker::Model;
 
@@ -36,6 +37,55 @@ impl HeldLocks {
         ensures few { result ≤ 9223372036854775807 }
     {
         self.names.len()
+    }
+
+    /// Whether this lock is held.
+    pub fn holds(&self, name: &Name) -> bool
+        ensures { result ≡ holds_name self.now.names name.now }
+    {
+        let mut index = 0;
+        while index < self.names.len() {
+            if self.names[index].as_str() == name.as_str() {
+                return true;
+            }
+            index += 1;
+        }
+        false
+    }
+
+    /// Makes room for one more name.
+    pub fn reserve(&mut self) -> Result<(), Memory>
+        ensures same { self.new.names ≡ self.old.names }
+        ensures ok { OnOk result (1 ≤ self.new.room) }
+        ensures err { OnErr result (self.new ≡ self.old) }
+    {
+        self.names.try_reserve_exact(1)?;
+        Ok(())
+    }
+
+    /// Adds the lock that was taken now. It takes no memory.
+    pub fn add(&mut self, name: Name)
+        requires { 0 < self.old.room }
+        ensures names { self.new.names ≡ name ∷ self.old.names }
+        ensures room { self.new.room + 1 ≡ self.old.room }
+    {
+        self.names.push_reserved(name);
+    }
+
+    /// Takes out the lock of this name, where it is held.
+    pub fn give(&mut self, name: &Name) -> Option<Name>
+        ensures some { IfSome result (λ given. given ≡ name.now) }
+        ensures held { is_some result ≡ holds_name self.old.names name.now }
+        ensures names { self.new.names ≡ without self.old.names name.now }
+    {
+        let mut left = self.names.len();
+        while left > 0 {
+            left -= 1;
+            if self.names[left].as_str() == name.as_str() {
+                return Some(self.names.remove(left));
+            }
+        }
+        None
     }
 
     /// Takes out the lock that was taken last.

@@ -8,7 +8,7 @@ use pm_regex::{Expr, Op};
 use std::alloc::Global;
 
 /// Where a match stands, as places in the searched area.
-#[derive(Clone, Copy, PartialEq, Eq, Debug, Drop)]
+#[derive(Clone, Copy, Drop)]
 pub struct Found {
     pub start: usize,
     /// Where the `\/` stands, if the expression has one: MATCH begins there.

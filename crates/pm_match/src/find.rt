@@ -1,9 +1,11 @@
 //! The search for the first match, in one pass.
-ghost use Rattle.std.specs.Prelude.{◌≡◌, ℕ, Bool, ◌+◌, ◌^◌, ◌*◌, IsTrue, IfSome, ◌<◌, ◌≤◌, ◌⊎◌, length, vec_len, slice_get, Some, None, Option};
+ghost use Rattle.std.specs.Prelude.{◌≡◌, ℕ, Bool, ◌+◌, ◌^◌, ◌*◌, IsTrue, IfSome, ◌<◌, ◌≤◌, ◌⊎◌, length, vec_len};
+ghost use Rattle.std.specs.Prelude.{slice_get, Some, None, Option};
 ghost use Rattle.pm_regex.specs.Re.{Re};
 ghost use Rattle.pm_match.specs.Automaton.{Built};
 ghost use Rattle.pm_match.specs.Labels.{rank, NoneBefore, Below, InRange, IsClosed};
-ghost use Rattle.pm_match.specs.Finding.{IsBestBefore, IsFirst, IsHeld, IsArrived, LeftSeed, RightSeed, Opens, right_seed};
+ghost use Rattle.pm_match.specs.Finding.{IsBestBefore, IsFirst, IsHeld, IsArrived, LeftSeed, RightSeed, Opens};
+ghost use Rattle.pm_match.specs.Finding.{right_seed};
 ghost use Rattle.pm_match.specs.Starts.{HaveAllBytes, IsExcluded, AreStarts};
 
 use crate::advancing::advance;
@@ -15,7 +17,7 @@ use crate::step::Step;
 use std::mem;
 
 /// Where a match stands.
-#[derive(Clone, Copy, PartialEq, Eq, Debug, Drop)]
+#[derive(Clone, Copy, Drop)]
 pub struct Match {
     pub start: usize,
     pub cut: usize,
@@ -26,10 +28,13 @@ pub struct Match {
 fn better(best: Option<Match>, label: Option<Label>, place: usize) -> Option<Match>
     ensures fits { (m : Label) → label ≡ Some m → m.cut < 2 ^ 64 }
     ensures none { label ≡ None → result ≡ best }
-    ensures first { (u : Label) → label ≡ Some u → best ≡ None → result ≡ Some (record { start = u.start; cut = u.cut; end = place }) }
-    ensures lower { (u : Label) (f : Match) → label ≡ Some u → best ≡ Some f → rank u ≤ rank (record { start = f.start; cut = f.cut })
+    ensures first { (u : Label) → label ≡ Some u → best ≡ None
         → result ≡ Some (record { start = u.start; cut = u.cut; end = place }) }
-    ensures other { (u : Label) (f : Match) → label ≡ Some u → best ≡ Some f → rank (record { start = f.start; cut = f.cut }) < rank u → result ≡ best }
+    ensures lower { (u : Label) (f : Match) → label ≡ Some u → best ≡ Some f
+        → rank u ≤ rank (record { start = f.start; cut = f.cut })
+        → result ≡ Some (record { start = u.start; cut = u.cut; end = place }) }
+    ensures other { (u : Label) (f : Match) → label ≡ Some u → best ≡ Some f
+        → rank (record { start = f.start; cut = f.cut }) < rank u → result ≡ best }
 {
     match label {
         None => best,
@@ -60,7 +65,8 @@ fn open(program: &Program, labels: &mut Labels, area: &[u8], place: usize, seed:
     requires entry { program.now.entry < vec_len labels.old.of }
     requires place { place ≤ length area.now }
     requires closed { IsClosed program.now.steps.items area.now place labels.old.of.items }
-    ensures opens { Opens program.now.steps.items area.now place program.now.entry seed labels.old.of.items labels.new.of.items }
+    ensures opens { Opens program.now.steps.items area.now place program.now.entry seed
+        labels.old.of.items labels.new.of.items }
     ensures len { vec_len labels.new.of ≡ vec_len labels.old.of }
 {
     match seed {
@@ -91,10 +97,12 @@ fn visit(
     requires right_exit { right.now.exit < vec_len right_labels.old.of }
     requires from { from ≤ place }
     requires place { place ≤ length area.now }
-    requires left_arrived { IsArrived left.now.steps.items area.now left.now.entry (LeftSeed left.now.steps.items area.now left.now.entry left.now.exit from) place left_labels.old.of.items }
+    requires left_arrived { IsArrived left.now.steps.items area.now left.now.entry
+        (LeftSeed left.now.steps.items area.now left.now.entry left.now.exit from) place left_labels.old.of.items }
     requires right_arrived { IsArrived right.now.steps.items area.now right.now.entry
         (RightSeed left.now.steps.items area.now left.now.entry left.now.exit from) place right_labels.old.of.items }
-    ensures left_held { IsHeld left.now.steps.items area.now left.now.entry (LeftSeed left.now.steps.items area.now left.now.entry left.now.exit from) place left_labels.new.of.items }
+    ensures left_held { IsHeld left.now.steps.items area.now left.now.entry
+        (LeftSeed left.now.steps.items area.now left.now.entry left.now.exit from) place left_labels.new.of.items }
     ensures right_held { IsHeld right.now.steps.items area.now right.now.entry
         (RightSeed left.now.steps.items area.now left.now.entry left.now.exit from) place right_labels.new.of.items }
     ensures left_kept { vec_len left_labels.new.of ≡ vec_len left_labels.old.of }
@@ -139,8 +147,8 @@ fn seed_of(met: Option<Label>, place: usize) -> Option<Label>
     }
 }
 
-/// Whether no match that ends later can be better: no run that is on its way began before the best match, or has a cut that
-/// isn't behind the best one's.
+/// Whether no match that ends later can be better: no run that is on its way began before the best match, or has a cut
+/// that isn't behind the best one's.
 fn is_final(best: Option<Match>, left_labels: &Labels, right_labels: &Labels) -> bool
     ensures { IsTrue result → (f : Match) × (best ≡ Some f) × NoneBefore left_labels.now.of.items (f.start * 2 ^ 64)
         × NoneBefore right_labels.now.of.items (rank (record { start = f.start; cut = f.cut }) + 1) }
@@ -189,8 +197,10 @@ pub fn find(
     ensures left_next { vec_len left_next.new.of ≡ length left.now.steps.items }
     ensures right_labels { vec_len right_labels.new.of ≡ length right.now.steps.items }
     ensures right_next { vec_len right_next.new.of ≡ length right.now.steps.items }
-    ensures first { (fold : Bool) (l r : Re) → Built fold left.now.steps.items l left.now.entry left.now.exit → slice_get left.now.steps.items left.now.exit ≡ Some Step.Stop
-        → Built fold right.now.steps.items r right.now.entry right.now.exit → slice_get right.now.steps.items right.now.exit ≡ Some Step.Stop
+    ensures first { (fold : Bool) (l r : Re) → Built fold left.now.steps.items l left.now.entry left.now.exit
+        → slice_get left.now.steps.items left.now.exit ≡ Some Step.Stop
+        → Built fold right.now.steps.items r right.now.entry right.now.exit
+        → slice_get right.now.steps.items right.now.exit ≡ Some Step.Stop
         → IsFirst fold l r area.now from result }
 {
     let mut best = None;

@@ -1,5 +1,6 @@
 //! Where the search goes past places at which no match begins.
-ghost use Rattle.std.specs.Prelude.{◌≡◌, ℕ, Some, slice_get, slice_index, ◌+◌, ◌<◌, ◌≤◌, ◌↔◌, IsTrue, IfSome, length, vec_len};
+ghost use Rattle.std.specs.Prelude.{◌≡◌, ℕ, Some, slice_get, slice_index, ◌+◌, ◌<◌, ◌≤◌, ◌↔◌, IsTrue, IfSome, length};
+ghost use Rattle.std.specs.Prelude.{vec_len};
 ghost use Rattle.pm_match.specs.Starts.{Lacks, RowLacks, HaveAllBytes, Excluded, IsExcluded, GoesOn};
 
 use crate::find::Match;
@@ -20,7 +21,7 @@ pub struct Starts {
 }
 
 /// Where the search is: no match begins before the base.
-#[derive(Clone, Copy, PartialEq, Eq, Debug, Drop)]
+#[derive(Clone, Copy, Drop)]
 pub struct Places {
     pub base: usize,
     pub place: usize,
@@ -47,7 +48,9 @@ fn row_lacks(row: &Row, area: &[u8], place: usize) -> bool
 /// Whether there is a row for the byte at a place, and it says no.
 fn own_row_lacks(starts: &Starts, area: &[u8], place: usize) -> bool
     requires { place + 3 < length area.now }
-    ensures { IsTrue result → (row : Row) × (slice_get starts.now.rows.items (slice_index area.now place) ≡ Some (Some row)) × RowLacks row area.now place }
+    ensures { IsTrue result → (row : Row)
+        × (slice_get starts.now.rows.items (slice_index area.now place) ≡ Some (Some row))
+        × RowLacks row area.now place }
 {
     let byte = area[place] as usize;
     if byte >= starts.rows.len() {
@@ -126,7 +129,8 @@ fn skip(starts: &Option<Starts>, area: &[u8], from: usize) -> usize
     }
 }
 
-/// Where the search goes on: where it is, or, with no run on its way and nothing found, at the next place where a match can begin.
+/// Where the search goes on: where it is, or, with no run on its way and nothing found, at the next place where a match
+/// can begin.
 pub fn go_on(
     starts: &Option<Starts>,
     best: Option<Match>,

@@ -1,5 +1,6 @@
 //! Which bytes a match of an automaton can begin with.
-ghost use Rattle.std.specs.Prelude.{◌≡◌, ℕ, ◌<◌, ◌≤◌, true, false, Some, IsFalse, IfOk, [], ◌∷◌, length, vec_len, slice_get};
+ghost use Rattle.std.specs.Prelude.{◌≡◌, ℕ, ◌<◌, ◌≤◌, true, false, Some, IsFalse, IfOk, [], ◌∷◌, length, vec_len};
+ghost use Rattle.std.specs.Prelude.{slice_get};
 ghost use Rattle.pm_match.specs.declared.step.Test.{Test};
 ghost use Rattle.pm_match.specs.declared.row.Row.{Row};
 ghost use Rattle.pm_regex.specs.declared.op.Atom.TheVariants.{Byte};
@@ -70,7 +71,8 @@ fn mark_from(steps: &[Step], table: &mut Vec<bool>, state: usize)
     requires state { state < length steps.now }
     requires len { vec_len table.old ≡ 256 }
     ensures kept { (b : ℕ) → Lacks table.new.items b → Lacks table.old.items b }
-    ensures marked { (b : ℕ) (t : Test) (x : ℕ) → slice_get steps.now state ≡ Some (Take t x) → Lacks table.new.items b → takes steps.now t b ≡ false }
+    ensures marked { (b : ℕ) (t : Test) (x : ℕ) → slice_get steps.now state ≡ Some (Take t x) → Lacks table.new.items b
+        → takes steps.now t b ≡ false }
     ensures len { vec_len table.new ≡ 256 }
 {
     match steps[state] {
@@ -166,7 +168,8 @@ fn read_on(
     requires closed { IsClosed steps.now area.now 1 next.old.of.items }
     ensures kept { KeepsBelow next.old.of.items next.new.of.items }
     ensures closed { IsClosed steps.now area.now 1 next.new.of.items }
-    ensures read { (v : ℕ) (t : Test) (x : ℕ) → slice_get steps.now state ≡ Some (Take t x) → MayTake steps.now t byte → Below labels.now.of.items state v → Below next.new.of.items x v }
+    ensures read { (v : ℕ) (t : Test) (x : ℕ) → slice_get steps.now state ≡ Some (Take t x) → MayTake steps.now t byte
+        → Below labels.now.of.items state v → Below next.new.of.items x v }
     ensures len { vec_len next.new.of ≡ vec_len next.old.of }
 {
     match steps[state] {
@@ -191,7 +194,8 @@ fn read_all(steps: &[Step], labels: &Labels, next: &mut Labels, area: &[u8], byt
     requires closed { IsClosed steps.now area.now 1 next.old.of.items }
     ensures closed { IsClosed steps.now area.now 1 next.new.of.items }
     ensures kept { KeepsBelow next.old.of.items next.new.of.items }
-    ensures read { (q v : ℕ) (t : Test) (x : ℕ) → slice_get steps.now q ≡ Some (Take t x) → MayTake steps.now t byte → Below labels.now.of.items q v → Below next.new.of.items x v }
+    ensures read { (q v : ℕ) (t : Test) (x : ℕ) → slice_get steps.now q ≡ Some (Take t x) → MayTake steps.now t byte
+        → Below labels.now.of.items q v → Below next.new.of.items x v }
     ensures len { vec_len next.new.of ≡ vec_len next.old.of }
 {
     for state in &labels.states {
@@ -199,7 +203,8 @@ fn read_all(steps: &[Step], labels: &Labels, next: &mut Labels, area: &[u8], byt
     }
 }
 
-/// The states that are reached with this byte, or with any where none is given, and the last state where it had a label before.
+/// The states that are reached with this byte, or with any where none is given, and the last state where it had a label
+/// before.
 fn reached_behind(
     alloc: Global,
     steps: &[Step],
@@ -214,7 +219,8 @@ fn reached_behind(
     requires area { 1 ≤ length area.now }
     ensures len { IfOk result (λ next. vec_len next.of ≡ length steps.now) }
     ensures exit { IfOk result (λ next. (v : ℕ) → Below labels.now.of.items exit v → Below next.of.items exit v) }
-    ensures read { IfOk result (λ next. (q v : ℕ) (t : Test) (x : ℕ) → slice_get steps.now q ≡ Some (Take t x) → MayTake steps.now t byte → Below labels.now.of.items q v → Below next.of.items x v) }
+    ensures read { IfOk result (λ next. (q v : ℕ) (t : Test) (x : ℕ) → slice_get steps.now q ≡ Some (Take t x)
+        → MayTake steps.now t byte → Below labels.now.of.items q v → Below next.of.items x v) }
     ensures closed { IfOk result (λ next. IsClosed steps.now area.now 1 next.of.items) }
 {
     let mut next = no_labels(alloc, steps.len())?;

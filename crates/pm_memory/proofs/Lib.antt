@@ -1,1 +1,3 @@
 mod Updates
+mod Children
+mod Moves

@@ -1,19 +1,20 @@
 -- What a host in memory has, what it tells, and what each of its calls does.
-use Rattle.std.specs.Prelude.{◌≡◌, ℕ, ℤ, ◌⊎◌, Bool, true, false, ◌&&◌, ◌==◌, leb, cond, List, [], length, Option, Some, None, IsSome}
-use Rattle.pm_host.specs.World.{World, Step, IsFailed, world_with}
+use Rattle.std.specs.Prelude.{◌≡◌, ℕ, ℤ, ◌⊎◌, Bool, true, false, ◌&&◌, ◌==◌, leb, cond, List, [], ◌∷◌, ◌++◌, length, Option, Some, None, IsSome}
+use Rattle.pm_host.specs.World.{World, IsFile, Step, IsFailed, world_with}
 use Rattle.pm_host.specs.Told.{HostView, Makes, Rose}
-use Rattle.pm_host.specs.declared.answers.Child.TheVariants.{NoChild}
 use Rattle.pm_host.specs.declared.answers.Took.TheVariants.{Took as TookSome}
 use Rattle.pm_host.specs.declared.calls.Call.{Call}
-use Rattle.pm_host.specs.declared.calls.Call.TheVariants.{Look, Read, Create, Append, Cut as CutTo, Remove, Now}
+use Rattle.pm_host.specs.declared.calls.Call.TheVariants.{Read, Create, Append, Sync, Cut as CutTo, Remove, Rename, MakeFolder, Age, Sleep, Now, Start, Feed, Finish}
 use Rattle.pm_host.specs.declared.calls.Answer.{Answer}
 use Rattle.pm_host.specs.declared.calls.Answer.TheVariants.{Read as AnswerRead, Append as AnswerAppend}
 use Rattle.pm_host.specs.declared.calls.Logged.{Logged}
+use Rattle.pm_host.specs.declared.command.Script.{Script}
+use Rattle.pm_host.specs.declared.nodes.Change.{Change}
 use Rattle.pm_host.specs.declared.nodes.Node.{Node}
 use Rattle.pm_memory.specs.Counts.{risen}
 use Rattle.pm_memory.specs.Node.{NoFile, IsFolder, part_of}
 use Rattle.pm_memory.specs.Plan.{failing_in, limits_in, is_among, least}
-use Rattle.pm_memory.specs.Tree.{world_in, no_files}
+use Rattle.pm_memory.specs.Tree.{world_in, with_others, no_files, child_at}
 use Rattle.pm_memory.specs.declared.calls.Calls.{Calls}
 use Rattle.pm_memory.specs.declared.host.MemoryHost.{MemoryHost}
 use Rattle.pm_memory.specs.declared.plan.Plan.{Plan}
@@ -76,7 +77,7 @@ host_view h = record {
   world = cond (is_telling h) (Some (world_of h)) None;
   calls = cond (is_telling h) (Some (calls_of h)) None;
   faults = faults_of h;
-  child = NoChild;
+  child = child_at h.tree;
 }
 
 -- of two things that are told at the same time, both are told where one is
@@ -96,19 +97,37 @@ pub record IsFresh (start : ℤ) (count : ℕ) (h : MemoryHost) : Type 0 where
   pub failing : failing_of h ≡ []
   pub limits : limits_of h ≡ []
 
+-- the world with one batch of changes by others more
+abbrev pub with_batch : List Change → World → World
+with_batch changes w = with_others (w.others ++ changes ∷ []) w
+
+-- the world with one script of a child more
+abbrev pub with_script : Script → World → World
+with_script script w = record { nodes = w.nodes; moment = w.moment; others = w.others; children = w.children ++ script ∷ []; inputs = w.inputs }
+
 -- the node was put at the name, whatever stood there
 abbrev pub IsPut : List ℕ → Option Node → MemoryHost → MemoryHost → Type 0
 IsPut name this old new = world_of new ≡ world_with (world_of old) name this
 
+-- the batch of changes is the last that others will make
+abbrev pub IsToCome : List Change → MemoryHost → MemoryHost → Type 0
+IsToCome changes old new = world_of new ≡ with_batch changes (world_of old)
+
+-- the script is the last that children will use
+abbrev pub IsScripted : Script → MemoryHost → MemoryHost → Type 0
+IsScripted script old new = world_of new ≡ with_script script (world_of old)
+
 -- no node of the kind that the call works on stands at its name
 abbrev pub IsWrongKind : Call → World → Type 0
-IsWrongKind (Look name) w = ⊥
 IsWrongKind (Read name at room) w = NoFile (w.nodes name)
-IsWrongKind (Create name) w = ⊥
 IsWrongKind (Append name piece) w = NoFile (w.nodes name)
+IsWrongKind (Sync name) w = NoFile (w.nodes name)
 IsWrongKind (CutTo name len) w = NoFile (w.nodes name)
 IsWrongKind (Remove name) w = IsFolder (w.nodes name)
-IsWrongKind Now w = ⊥
+IsWrongKind (Rename from to) w = NoFile (w.nodes from)
+IsWrongKind (MakeFolder name) w = IsFile (w.nodes name)
+IsWrongKind (Age name) w = IsFolder (w.nodes name)
+IsWrongKind call w = ⊥
 
 -- the answer gives as much as room and content allow, or takes as much as piece and limit allow
 abbrev pub IsMost : Call → Answer → MemoryHost → Type 0
@@ -116,10 +135,14 @@ IsMost (Read name at room) (AnswerRead bytes) h = bytes ≡ part_of ((world_of h
 IsMost (Append name piece) (AnswerAppend (TookSome count)) h = count ≡ least (number_of h) (limits_of h) (length piece)
 IsMost call answer h = Unit {0}
 
--- the call takes memory for the file that it makes or adds to
+-- the call takes memory for the node that it makes or adds to, or for what a child takes
 abbrev pub TakesMemory : Call → Type 0
 TakesMemory (Create name) = Unit {0}
 TakesMemory (Append name piece) = Unit {0}
+TakesMemory (Rename from to) = Unit {0}
+TakesMemory (MakeFolder name) = Unit {0}
+TakesMemory (Start command want) = Unit {0}
+TakesMemory (Feed piece) = Unit {0}
 TakesMemory call = ⊥
 
 -- why a call may fail: its number was given to fail, no node of its kind stands there, or memory was wanting
@@ -128,8 +151,9 @@ MayFail call old new =
     (is_to_fail old ≡ true)
     ⊎ (IsWrongKind call (world_of old) ⊎ (TakesMemory call × Rose (starved_of old) (starved_of new)))
 
--- the call fails where its number was given to fail; asking the moment never fails
+-- the call fails where its number was given to fail; asking the moment and sleeping never fail
 abbrev pub FailsAsTold : Call → Answer → MemoryHost → Type 0
+FailsAsTold (Sleep seconds) answer h = Unit {0}
 FailsAsTold Now answer h = Unit {0}
 FailsAsTold call answer h = is_to_fail h ≡ true → IsFailed answer
 
@@ -140,10 +164,16 @@ pub record Counted (answer : Answer) (old new : MemoryHost) : Type 0 where
   pub steady : (IsFailed answer → ⊥) → faults_of new ≡ faults_of old
   pub starved : (starved_of new ≡ starved_of old) ⊎ (starved_of new ≡ risen (starved_of old))
 
+-- the world goes as the call and its answer say; but where others act, memory may be wanting for what they do
+abbrev pub StepsUnlessStarved : Call → Answer → MemoryHost → MemoryHost → Type 0
+StepsUnlessStarved (Sleep seconds) answer old new = Step (Sleep seconds) answer (world_of old) (world_of new) ⊎ Rose (starved_of old) (starved_of new)
+StepsUnlessStarved Finish answer old new = Step Finish answer (world_of old) (world_of new) ⊎ Rose (starved_of old) (starved_of new)
+StepsUnlessStarved call answer old new = Step call answer (world_of old) (world_of new)
+
 -- one call of a host in memory: what every host does, and more, which holds where it tells no more, too
 pub record Serves (call : Call) (answer : Answer) (old new : MemoryHost) : Type 0 where
   pub makes : Makes call answer (host_view old) (host_view new)
-  pub step : Step call answer (world_of old) (world_of new)
+  pub step : StepsUnlessStarved call answer old new
   pub most : IsMost call answer old
   pub to_fail : FailsAsTold call answer old
   pub cause : IsFailed answer → MayFail call old new

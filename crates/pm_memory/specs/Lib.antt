@@ -4,6 +4,8 @@ pub mod Host
 pub mod Hosting
 pub mod Node
 pub mod Plan
+pub mod Programs
+pub mod Scripts
 pub mod Sink
 pub mod Source
 pub mod Tree

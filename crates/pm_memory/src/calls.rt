@@ -1,5 +1,5 @@
 //! The calls that came, in a list that was reserved for so many, and the counts of them.
-ghost use Rattle.std.specs.Prelude.{◌≡◌, ◌≤◌, ◌<◌, ◌+◌, ◌^◌, ◌-◌, vec_len, vec_capacity, IfOk, cond, [], true};
+ghost use Rattle.std.specs.Prelude.{◌≡◌, ◌≤◌, ◌<◌, ◌+◌, ◌^◌, ◌-◌, vec_len, vec_capacity, IfOk, cond, [], ◌∷◌, ◌++◌, true};
 ghost use Rattle.pm_memory.specs.Counts.{risen};
 
 use crate::tree::Denied;
@@ -69,9 +69,24 @@ impl Calls {
         let has_room = self.came < self.reserved;
         let lacked = logged.is_err() || refused == Some(Denied::Memory);
         self.count(refused.is_some(), lacked);
-        match logged {
-            Ok(logged) if has_room && self.starved == 0 => self.list.push_reserved(logged),
-            _ => {}
+        if let Ok(logged) = logged {
+            let fits = has_room && self.starved == 0;
+            self.add(fits, logged);
+        }
+    }
+
+    // The call goes to the end of the list where it fits.
+    fn add(&mut self, fits: bool, logged: Logged)
+        requires room { fits ≡ true → vec_len self.old.list < vec_capacity self.old.list }
+        requires came { fits ≡ true → vec_len self.old.list < self.old.came }
+        ensures list { self.new.list.items ≡ cond fits (self.old.list.items ++ logged ∷ []) self.old.list.items }
+        ensures reserved { self.new.reserved ≡ self.old.reserved }
+        ensures came { self.new.came ≡ self.old.came }
+        ensures faults { self.new.faults ≡ self.old.faults }
+        ensures starved { self.new.starved ≡ self.old.starved }
+    {
+        if fits {
+            self.list.push_reserved(logged);
         }
     }
 

@@ -1,10 +1,13 @@
 //! The calls of a host with their answers, as its list holds them.
 ghost use Rattle.std.specs.Prelude.{◌≡◌, IfOk, length};
-ghost use Rattle.pm_host.specs.Answers.{read_answer, IsWithin};
+ghost use Rattle.pm_host.specs.Answers.{read_answer, take_answer, IsWithin};
 ghost use Rattle.pm_host.specs.Runs.{logged};
 
 use pm_bytes::{Blob, Memory};
-use pm_host::{Answer, Call, Cut, Got, Logged, Looked, Made, Removed, Took};
+use pm_host::{
+    Aged, Answer, Call, Command, Cut, Fed, Finished, Got, Logged, Looked, Made, Moved, Removed,
+    Started, Synced, Took,
+};
 use std::alloc::Global;
 
 pub(crate) fn looked_entry(alloc: Global, name: &str, looked: Looked) -> Result<Logged, Memory>
@@ -95,5 +98,121 @@ pub(crate) fn moment_entry(moment: i64) -> Logged
     Logged {
         call: Call::Now,
         answer: Answer::Now(moment),
+    }
+}
+
+pub(crate) fn synced_entry(alloc: Global, name: &str, synced: Synced) -> Result<Logged, Memory>
+    ensures { IfOk result (λ entry. entry ≡ logged (Call.Sync name.now) (Answer.Sync synced)) }
+{
+    let name = Blob::from_slice(alloc, name.as_bytes())?;
+    Ok(Logged {
+        call: Call::Sync { name },
+        answer: Answer::Sync(synced),
+    })
+}
+
+pub(crate) fn renamed_entry(
+    alloc: Global,
+    from: &str,
+    to: &str,
+    moved: Moved,
+) -> Result<Logged, Memory>
+    ensures { IfOk result (λ entry. entry ≡ logged (Call.Rename from.now to.now) (Answer.Rename moved)) }
+{
+    let from = Blob::from_slice(alloc, from.as_bytes())?;
+    let to = Blob::from_slice(alloc, to.as_bytes())?;
+    Ok(Logged {
+        call: Call::Rename { from, to },
+        answer: Answer::Rename(moved),
+    })
+}
+
+pub(crate) fn folder_entry(alloc: Global, name: &str, made: Made) -> Result<Logged, Memory>
+    ensures { IfOk result (λ entry. entry ≡ logged (Call.MakeFolder name.now) (Answer.MakeFolder made)) }
+{
+    let name = Blob::from_slice(alloc, name.as_bytes())?;
+    Ok(Logged {
+        call: Call::MakeFolder { name },
+        answer: Answer::MakeFolder(made),
+    })
+}
+
+pub(crate) fn unlisted_entry(alloc: Global, folder: &str) -> Result<Logged, Memory>
+    ensures { IfOk result (λ entry. entry ≡ logged (Call.Names folder.now) Answer.Failed) }
+{
+    let folder = Blob::from_slice(alloc, folder.as_bytes())?;
+    Ok(Logged {
+        call: Call::Names { folder },
+        answer: Answer::Failed,
+    })
+}
+
+pub(crate) fn aged_entry(alloc: Global, name: &str, aged: Aged) -> Result<Logged, Memory>
+    ensures { IfOk result (λ entry. entry ≡ logged (Call.Age name.now) (Answer.Age aged)) }
+{
+    let name = Blob::from_slice(alloc, name.as_bytes())?;
+    Ok(Logged {
+        call: Call::Age { name },
+        answer: Answer::Age(aged),
+    })
+}
+
+pub(crate) fn slept_entry(seconds: u64) -> Logged
+    ensures { result ≡ logged (Call.Sleep seconds) Answer.Slept }
+{
+    Logged {
+        call: Call::Sleep { seconds },
+        answer: Answer::Slept,
+    }
+}
+
+pub(crate) fn started_entry(
+    alloc: Global,
+    command: &Command,
+    want: bool,
+    started: Started,
+) -> Result<Logged, Memory>
+    ensures { IfOk result (λ entry. entry ≡ logged (Call.Start command.now want) (Answer.Start started)) }
+{
+    let command = command.copy(alloc)?;
+    Ok(Logged {
+        call: Call::Start { command, want },
+        answer: Answer::Start(started),
+    })
+}
+
+pub(crate) fn fed_entry(alloc: Global, piece: &[u8], fed: Fed) -> Result<Logged, Memory>
+    ensures { IfOk result (λ entry. entry ≡ logged (Call.Feed piece.now) (Answer.Feed fed)) }
+{
+    let piece = Blob::from_slice(alloc, piece)?;
+    Ok(Logged {
+        call: Call::Feed { piece },
+        answer: Answer::Feed(fed),
+    })
+}
+
+/// The bytes that came stand at the front of the room.
+pub(crate) fn taken_entry(alloc: Global, room: &[u8], got: Got) -> Result<Logged, Memory>
+    requires { IsWithin got (length room.now) }
+    ensures { IfOk result (λ entry. entry ≡ logged (Call.Take (length room.now)) (take_answer got room.now)) }
+{
+    let answer = match got {
+        Got::Got(count) => Answer::Take(Blob::from_slice(alloc, &room[..count])?),
+        Got::Failed => Answer::Failed,
+    };
+    Ok(Logged {
+        call: Call::Take {
+            room: room.len() as u64,
+        },
+        answer,
+    })
+}
+
+pub(crate) fn finished_entry(finished: Finished) -> Logged
+    ensures { result ≡ logged Call.Finish (Answer.Finish finished) }
+{
+    Logged {
+        call: Call::Finish,
+        answer: Answer::Finish(finished),
     }
 }

@@ -7,10 +7,11 @@ use crate::calls::Calls;
 use crate::plan::Plan;
 use crate::tree::Tree;
 use pm_bytes::{Blob, Memory};
-use pm_host::{File, Logged, Node};
+use pm_host::{Change, ChildInput, File, Logged, Node, Script};
 use std::alloc::Global;
 
-/// A tree of files in memory. A name's parents aren't looked at. Its calls are numbered from 1.
+/// A tree of files in memory. A name's parents aren't looked at. Its calls are numbered from 1. Where memory lacks
+/// for what others change, they change no more then.
 #[derive(Drop)]
 pub struct MemoryHost {
     pub(crate) alloc: Global,
@@ -22,6 +23,7 @@ pub struct MemoryHost {
 impl MemoryHost {
     ghost use Rattle.pm_memory.specs.Host.{IsFresh, IsPut, world_of, plan_of, record_of};
     ghost use Rattle.pm_memory.specs.Host.{failing_of, limits_of, calls_of, starved_of};
+    ghost use Rattle.pm_memory.specs.Host.{IsToCome, IsScripted};
 
     /// No files, at a moment in seconds since 1970, with a list that is reserved for so many calls: past them the
     /// host tells nothing.
@@ -57,7 +59,7 @@ impl MemoryHost {
         self.tree.put(name, Node::Folder)
     }
 
-    /// The call with this number is to fail, unless it asks the moment.
+    /// The call with this number is to fail, unless it asks the moment or sleeps.
     pub fn fail(&mut self, call: u64) -> Result<(), Memory>
         ensures ok { OnOk result (failing_of self.new ≡ failing_of self.old ++ call ∷ []) }
         ensures err { OnErr result (failing_of self.new ≡ failing_of self.old) }
@@ -68,7 +70,7 @@ impl MemoryHost {
         self.plan.fail(call)
     }
 
-    /// An `append` with this number takes at most so many bytes; of several limits the least holds.
+    /// An `append` or a `feed` with this number takes at most so many bytes; of several limits the least holds.
     pub fn limit(&mut self, call: u64, most: usize) -> Result<(), Memory>
         requires { 1 ≤ most }
         ensures ok { OnOk result (limits_of self.new ≡ limits_of self.old ++ (call, most) ∷ []) }
@@ -78,6 +80,27 @@ impl MemoryHost {
         ensures calls { record_of self.new ≡ record_of self.old }
     {
         self.plan.limit(call, most)
+    }
+
+    /// Others will make these changes, one after the other, in the first `sleep` or `finish` behind those that are
+    /// for the batches given before. In a sleep a file is made at the moment after it.
+    pub fn batch(&mut self, changes: Vec<Change>) -> Result<(), Memory>
+        ensures ok { OnOk result (IsToCome changes.items self.old self.new) }
+        ensures err { OnErr result (world_of self.new ≡ world_of self.old) }
+        ensures plan { plan_of self.new ≡ plan_of self.old }
+        ensures calls { record_of self.new ≡ record_of self.old }
+    {
+        self.tree.add_batch(changes)
+    }
+
+    /// A child behind those that were given before will do this. A code that says `Failed` stands for 0.
+    pub fn child(&mut self, script: Script) -> Result<(), Memory>
+        ensures ok { OnOk result (IsScripted script self.old self.new) }
+        ensures err { OnErr result (world_of self.new ≡ world_of self.old) }
+        ensures plan { plan_of self.new ≡ plan_of self.old }
+        ensures calls { record_of self.new ≡ record_of self.old }
+    {
+        self.tree.programs.add(script)
     }
 
     /// The bytes of the file at the name; `None` where a folder or nothing stands there.
@@ -92,6 +115,13 @@ impl MemoryHost {
         ensures { result.now ≡ calls_of self.now }
     {
         self.calls.list()
+    }
+
+    /// Each child that was started, with the bytes that it took.
+    pub fn inputs(&self) -> &[ChildInput]
+        ensures { result.now ≡ (world_of self.now).inputs }
+    {
+        self.tree.programs.inputs()
     }
 
     /// How many calls lacked memory.

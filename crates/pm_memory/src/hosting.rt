@@ -1,13 +1,14 @@
-//! The calls of a host in memory: each is done or refused in the tree, and then counted and listed.
+//! The calls of a host in memory before they are counted and listed: each is done in the tree or refused.
 ghost use Rattle.std.specs.Prelude.{◌≡◌, ◌≤◌, ◌<◌, IfOk, IfErr, length};
-ghost use Rattle.pm_host.specs.Answers.{read_answer, IsWithin};
+ghost use Rattle.pm_host.specs.World.{FedAtMost};
+ghost use Rattle.pm_memory.specs.Tree.{child_at};
 
 use crate::MemoryHost;
-use crate::entries::{
-    appended_entry, created_entry, cut_entry, looked_entry, moment_entry, read_entry, removed_entry,
-};
 use crate::tree::Denied;
-use pm_host::{Answer, Call, Cut, Got, Host, Looked, Made, Removed, Took};
+use pm_host::{
+    Aged, Answer, Call, Child, Command, Cut, Fed, Finished, Looked, Made, Moved, Removed, Started,
+    Synced,
+};
 
 impl MemoryHost {
     ghost use Rattle.pm_memory.specs.Host.{is_to_fail};
@@ -19,7 +20,7 @@ impl MemoryHost {
         self.plan.fails(self.calls.next())
     }
 
-    fn look_now(&self, name: &str) -> Result<Looked, Denied>
+    pub(crate) fn look_now(&self, name: &str) -> Result<Looked, Denied>
         ensures ok { IfOk result (λ looked. Does (Call.Look name.now) (Answer.Look looked) self.now self.now) }
         ensures err { IfErr result (Denies (Call.Look name.now) self.now self.now) }
     {
@@ -29,7 +30,7 @@ impl MemoryHost {
         Ok(self.tree.look(name))
     }
 
-    fn read_now(&self, name: &str, at: u64, room: &mut [u8]) -> Result<usize, Denied>
+    pub(crate) fn read_now(&self, name: &str, at: u64, room: &mut [u8]) -> Result<usize, Denied>
         requires { 0 < length room.old }
         ensures ok { IfOk result (DoesRead name.now at room.old room.new self.now) }
         ensures within { IfOk result (λ count. count ≤ length room.old) }
@@ -41,7 +42,7 @@ impl MemoryHost {
         self.tree.read(name, at, room)
     }
 
-    fn create_now(&mut self, name: &str) -> Result<Made, Denied>
+    pub(crate) fn create_now(&mut self, name: &str) -> Result<Made, Denied>
         ensures ok { IfOk result (λ made. Does (Call.Create name.now) (Answer.Create made) self.old self.new) }
         ensures err { IfErr result (Denies (Call.Create name.now) self.old self.new) }
     {
@@ -51,7 +52,7 @@ impl MemoryHost {
         self.tree.create(name)
     }
 
-    fn append_now(&mut self, name: &str, piece: &[u8]) -> Result<usize, Denied>
+    pub(crate) fn append_now(&mut self, name: &str, piece: &[u8]) -> Result<usize, Denied>
         requires { 0 < length piece.now }
         ensures ok { IfOk result (DoesAppend name.now piece.now self.old self.new) }
         ensures some { IfOk result (λ count. (1 ≤ count) × (count ≤ length piece.now)) }
@@ -67,7 +68,7 @@ impl MemoryHost {
         }
     }
 
-    fn cut_now(&mut self, name: &str, len: u64) -> Result<(), Denied>
+    pub(crate) fn cut_now(&mut self, name: &str, len: u64) -> Result<(), Denied>
         ensures ok { IfOk result (λ _. Does (Call.Cut name.now len) (Answer.Cut Cut.Cut) self.old self.new) }
         ensures err { IfErr result (Denies (Call.Cut name.now len) self.old self.new) }
     {
@@ -77,7 +78,7 @@ impl MemoryHost {
         self.tree.cut(name, len)
     }
 
-    fn remove_now(&mut self, name: &str) -> Result<Removed, Denied>
+    pub(crate) fn remove_now(&mut self, name: &str) -> Result<Removed, Denied>
         ensures ok { IfOk result (λ removed. Does (Call.Remove name.now) (Answer.Remove removed) self.old self.new) }
         ensures err { IfErr result (Denies (Call.Remove name.now) self.old self.new) }
     {
@@ -88,127 +89,95 @@ impl MemoryHost {
     }
 }
 
-impl Host for MemoryHost {
-    ghost use Rattle.pm_memory.specs.Host.{host_view, is_telling, world_of, calls_of, both_told, Serves};
+impl MemoryHost {
+    ghost use Rattle.pm_memory.specs.Hosting.{Does, Denies, DoesFeed, DoesTake, Ends};
 
-    ghost told = { host_view };
-
-    ghost tells_calls = { λ h. both_told (is_telling h) (world_of h) (calls_of h) };
-
-    fn faults(&self) -> u64 {
-        self.calls.faults()
-    }
-
-    fn look(&mut self, name: &str) -> Looked
-        ensures { Serves (Call.Look name.now) (Answer.Look result) self.old self.new }
+    pub(crate) fn make_folder_now(&mut self, name: &str) -> Result<Made, Denied>
+        ensures ok { IfOk result (λ made. Does (Call.MakeFolder name.now) (Answer.MakeFolder made) self.old self.new) }
+        ensures err { IfErr result (Denies (Call.MakeFolder name.now) self.old self.new) }
     {
-        match self.look_now(name) {
-            Ok(looked) => {
-                let entry = looked_entry(self.alloc, name, looked);
-                self.calls.settle(None, entry);
-                looked
-            }
-            Err(refused) => {
-                let entry = looked_entry(self.alloc, name, Looked::Failed);
-                self.calls.settle(Some(refused), entry);
-                Looked::Failed
-            }
+        if self.fails_now() {
+            return Err(Denied::ToFail);
         }
+        self.tree.make_folder(name)
     }
 
-    fn read(&mut self, name: &str, at: u64, room: &mut [u8]) -> Got
-        requires { 0 < length room.old }
-        ensures within { IsWithin result (length room.old) }
-        ensures serves { Serves (Call.Read name.now at (length room.old)) (read_answer result room.new) self.old self.new }
+    pub(crate) fn sync_now(&self, name: &str) -> Result<(), Denied>
+        ensures ok { IfOk result (λ _. Does (Call.Sync name.now) (Answer.Sync Synced.Synced) self.now self.now) }
+        ensures err { IfErr result (Denies (Call.Sync name.now) self.now self.now) }
     {
-        match self.read_now(name, at, room) {
-            Ok(count) => {
-                let entry = read_entry(self.alloc, name, at, room, Got::Got(count));
-                self.calls.settle(None, entry);
-                Got::Got(count)
-            }
-            Err(refused) => {
-                let entry = read_entry(self.alloc, name, at, room, Got::Failed);
-                self.calls.settle(Some(refused), entry);
-                Got::Failed
-            }
+        if self.fails_now() {
+            return Err(Denied::ToFail);
         }
+        self.tree.sync(name)
     }
 
-    fn create(&mut self, name: &str) -> Made
-        ensures { Serves (Call.Create name.now) (Answer.Create result) self.old self.new }
+    pub(crate) fn rename_now(&mut self, from: &str, to: &str) -> Result<Moved, Denied>
+        ensures ok { IfOk result (λ moved. Does (Call.Rename from.now to.now) (Answer.Rename moved) self.old self.new) }
+        ensures err { IfErr result (Denies (Call.Rename from.now to.now) self.old self.new) }
     {
-        match self.create_now(name) {
-            Ok(made) => {
-                let entry = created_entry(self.alloc, name, made);
-                self.calls.settle(None, entry);
-                made
-            }
-            Err(refused) => {
-                let entry = created_entry(self.alloc, name, Made::Failed);
-                self.calls.settle(Some(refused), entry);
-                Made::Failed
-            }
+        if self.fails_now() {
+            return Err(Denied::ToFail);
         }
+        self.tree.rename(from, to)
     }
 
-    fn append(&mut self, name: &str, piece: &[u8]) -> Took
+    pub(crate) fn age_now(&self, name: &str) -> Result<Aged, Denied>
+        ensures ok { IfOk result (λ aged. Does (Call.Age name.now) (Answer.Age aged) self.now self.now) }
+        ensures err { IfErr result (Denies (Call.Age name.now) self.now self.now) }
+    {
+        if self.fails_now() {
+            return Err(Denied::ToFail);
+        }
+        self.tree.age(name)
+    }
+
+    pub(crate) fn start_now(&mut self, command: &Command, want: bool) -> Result<(), Denied>
+        requires { child_at self.old.tree ≡ Child.NoChild }
+        ensures ok { IfOk result (λ _. Does (Call.Start command.now want) (Answer.Start Started.Started) self.old self.new) }
+        ensures err { IfErr result (Denies (Call.Start command.now want) self.old self.new) }
+    {
+        if self.fails_now() {
+            return Err(Denied::ToFail);
+        }
+        self.tree.start(command, want)
+    }
+
+    pub(crate) fn feed_now(&mut self, piece: &[u8]) -> Result<Fed, Denied>
         requires { 0 < length piece.now }
-        ensures { Serves (Call.Append name.now piece.now) (Answer.Append result) self.old self.new }
+        ensures ok { IfOk result (DoesFeed piece.now self.old self.new) }
+        ensures fits { IfOk result (λ fed. FedAtMost (length piece.now) fed) }
+        ensures err { IfErr result (Denies (Call.Feed piece.now) self.old self.new) }
     {
-        match self.append_now(name, piece) {
-            Ok(count) => {
-                let entry = appended_entry(self.alloc, name, piece, Took::Took(count));
-                self.calls.settle(None, entry);
-                Took::Took(count)
-            }
-            Err(refused) => {
-                let entry = appended_entry(self.alloc, name, piece, Took::Failed);
-                self.calls.settle(Some(refused), entry);
-                Took::Failed
-            }
+        if self.fails_now() {
+            return Err(Denied::ToFail);
         }
+        let most = self.plan.most(self.calls.next(), piece.len());
+        self.tree.feed(piece, most)
     }
 
-    fn cut(&mut self, name: &str, len: u64) -> Cut
-        ensures { Serves (Call.Cut name.now len) (Answer.Cut result) self.old self.new }
+    pub(crate) fn take_now(&mut self, room: &mut [u8]) -> Result<usize, Denied>
+        requires { 0 < length room.old }
+        ensures ok { IfOk result (DoesTake room.old room.new self.old self.new) }
+        ensures within { IfOk result (λ count. count ≤ length room.old) }
+        ensures err { IfErr result (Denies (Call.Take (length room.old)) self.old self.new) }
     {
-        match self.cut_now(name, len) {
-            Ok(()) => {
-                let entry = cut_entry(self.alloc, name, len, Cut::Cut);
-                self.calls.settle(None, entry);
-                Cut::Cut
-            }
-            Err(refused) => {
-                let entry = cut_entry(self.alloc, name, len, Cut::Failed);
-                self.calls.settle(Some(refused), entry);
-                Cut::Failed
-            }
+        if self.fails_now() {
+            self.tree.programs.ask();
+            return Err(Denied::ToFail);
         }
+        Ok(self.tree.programs.take(room))
     }
 
-    fn remove(&mut self, name: &str) -> Removed
-        ensures { Serves (Call.Remove name.now) (Answer.Remove result) self.old self.new }
+    // Others don't act yet.
+    pub(crate) fn finish_now(&mut self) -> Result<Finished, Denied>
+        ensures ok { IfOk result (λ finished. Ends (Answer.Finish finished) self.old self.new) }
+        ensures err { IfErr result (Denies Call.Finish self.old self.new) }
     {
-        match self.remove_now(name) {
-            Ok(removed) => {
-                let entry = removed_entry(self.alloc, name, removed);
-                self.calls.settle(None, entry);
-                removed
-            }
-            Err(refused) => {
-                let entry = removed_entry(self.alloc, name, Removed::Failed);
-                self.calls.settle(Some(refused), entry);
-                Removed::Failed
-            }
+        let finished = self.tree.programs.finish();
+        if self.fails_now() {
+            return Err(Denied::ToFail);
         }
-    }
-
-    fn now(&mut self) -> i64
-        ensures { Serves Call.Now (Answer.Now result) self.old self.new }
-    {
-        let moment = self.tree.moment();
-        self.calls.settle(None, Ok(moment_entry(moment)));
-        moment
+        Ok(finished)
     }
 }

@@ -17,7 +17,7 @@ const LAST_MOMENT: i64 = 253_370_764_799;
 const DAY: u64 = 86_400;
 
 /// A day of the calendar: its year, its month from 1, and its day of the month from 1.
-#[derive(Clone, Copy, Debug)]
+#[derive(Clone, Copy)]
 struct Day {
     year: u16,
     month: u8,

@@ -7,7 +7,7 @@ use pm_bytes::{Blob, Memory};
 use std::alloc::Global;
 
 /// A mail in two parts: the head with the empty line that ends it, and the body.
-#[derive(Debug, Drop)]
+#[derive(Drop)]
 pub struct Message {
     pub head: Blob,
     pub body: Blob,

@@ -10,7 +10,7 @@ use pm_bytes::{Blob, Memory};
 use std::alloc::Global;
 
 /// Which parts of the mail are wanted.
-#[derive(Clone, Copy, Debug, PartialEq, Eq)]
+#[derive(Clone, Copy)]
 pub enum Feed {
     Both,
     Head,
@@ -19,7 +19,7 @@ pub enum Feed {
 
 /// What the piece is for: a file that holds many mails, in which a line `From ` begins each, or
 /// anything else.
-#[derive(Clone, Copy, Debug, PartialEq, Eq)]
+#[derive(Clone, Copy)]
 pub enum Kind {
     MailboxFile,
     Other,

@@ -9,7 +9,7 @@ use pm_bytes::{Blob, Memory, is_blank};
 use std::alloc::Global;
 
 /// What happens to the line `From ` that begins a mail.
-#[derive(Debug, Drop)]
+#[derive(Drop)]
 pub enum Renew {
     /// Nothing.
     Keep,

@@ -1,4 +1,4 @@
--- What the objects of a machine tell: their counts of faults, and that no child runs.
+-- What the objects of a machine tell: their counts of faults, and whether a child runs.
 use Rattle.std.specs.Prelude.{◌≡◌, ℕ, List, take, Option, None}
 use Rattle.std.specs.Io.KnownBytes.{Consumes, Appends, Keeps, IsAtEnd}
 use Rattle.pm_host.specs.declared.answers.Got.{Got}
@@ -7,11 +7,11 @@ use Rattle.pm_host.specs.declared.answers.Took.{Took}
 use Rattle.pm_host.specs.declared.answers.Took.TheVariants.{Took as TookSome, Failed as TookFailed}
 use Rattle.pm_host.specs.Told.{HostView}
 use Rattle.pm_host.specs.Streams.{StreamView}
-use Rattle.pm_host.specs.declared.answers.Child.TheVariants.{NoChild}
+use Rattle.pm_host.specs.declared.answers.Child.{Child}
 
--- a host that tells its count of faults alone, and that no child runs
-abbrev pub quiet_host : ℕ → HostView
-quiet_host faults = record { world = None; calls = None; faults = faults; child = NoChild }
+-- a host that tells its count of faults and whether a child runs, and nothing of its files and calls
+abbrev pub quiet_host : ℕ → Child → HostView
+quiet_host faults child = record { world = None; calls = None; faults = faults; child = child }
 
 -- a stream that tells its count of faults alone
 abbrev pub quiet_stream : ℕ → StreamView

@@ -1,86 +1,83 @@
-//! The files and the clock of the machine.
-ghost use Rattle.std.specs.Prelude.{◌≡◌, ◌≤◌, ◌<◌, length, IfOk, IfSome};
+//! The files, the clock and the children of the machine.
+ghost use Rattle.std.specs.Prelude.{◌≡◌, ◌≤◌, IfOk};
+ghost use Rattle.pm_host.specs.Told.{Rose};
+ghost use Rattle.pm_host.specs.declared.answers.Child.TheVariants.{NoChild};
 ghost use Rattle.pm_real.specs.Quiet.{quiet_host};
 
-use crate::again;
+use crate::child::Running;
+use crate::kept_file::KeptFile;
+use crate::{child, folders};
 use pm_bytes::Memory;
-use pm_host::{Cut, Got, Host, Looked, Made, Removed, Took};
-use std::alloc::Global;
-use std::fs::{OpenFile, OpenOptions};
-use std::io::{ErrorKind, Seek, SeekFrom};
-use std::os::unix::fs::OpenOptionsExt;
+use pm_host::{
+    Aged, Child, Command, Cut, Fed, Finished, Got, Host, Listed, Looked, Made, Moved, Removed,
+    Started, Synced, Took,
+};
+use std::alloc::{Alloc, Global};
+use std::fs::OpenFile;
+use std::io::ErrorKind;
+use std::os::unix::fs::FileExt;
+use std::process::{Processes, Stdio};
 use std::rt::{Clock, Files};
-use std::time::{SystemTime, UNIX_EPOCH};
-use std::{fs, io};
+use std::time::{Duration, SystemTime, UNIX_EPOCH};
+use std::{io, thread};
 
-/// A made file is read and written by its owner only, as with procmail's UMASK of 077 (procmailrc(5), Environment
-/// variable defaults).
-const OWNER_ONLY: u32 = 0o600;
-
-/// The files and the clock of the machine. Each call opens and closes its file.
+/// The files, the clock and the children of the machine. The file that was made, read or appended to last is kept open
+/// for the calls that follow on its name. It is closed when another one is opened, at a look, a remove or a rename,
+/// before a child starts, and when the host is dropped.
 #[derive(Drop)]
-pub struct RealHost<R: Files + Clock + Clone + Drop> {
+pub struct RealHost<R: Files + Clock + Processes + Alloc<A = Global> + Clone + Drop>
+where
+    R::File: FileExt + Into<Stdio>,
+{
     rt: R,
+    alloc: Global,
+    pid: u32,
     faults: u64,
+    kept: KeptFile<R::File>,
+    running: Option<Running<R::Started, R::File>>,
+    child: Child,
 }
 
-impl<R: Files + Clock + Clone + Drop> RealHost<R> {
-    /// The allocator and the process number are for the names of files that children will write to. Neither is used yet.
-    pub fn new(rt: &R, _alloc: Global, _pid: u32) -> Result<RealHost<R>, Memory>
-        ensures { IfOk result (λ host. host.faults ≡ 0) }
+impl<R: Files + Clock + Processes + Alloc<A = Global> + Clone + Drop> RealHost<R>
+where
+    R::File: FileExt + Into<Stdio>,
+{
+    /// The allocator and the process number serve the names of the files that children write to.
+    pub fn new(rt: &R, alloc: Global, pid: u32) -> Result<RealHost<R>, Memory>
+        ensures fresh { IfOk result (λ host. host.faults ≡ 0) }
+        ensures none { IfOk result (λ host. host.child ≡ NoChild) }
     {
         Ok(RealHost {
             rt: rt.clone()?,
+            alloc,
+            pid,
             faults: 0,
+            kept: KeptFile::new(),
+            running: None,
+            child: Child::NoChild,
         })
     }
-}
 
-fn read_at<R: Files>(rt: &R, name: &str, at: u64, room: &mut [u8]) -> Option<usize>
-    ensures { IfSome result (λ count. count ≤ length room.new) }
-{
-    let mut how = OpenOptions::new();
-    how.read(true);
-    let Ok(mut file) = again::open(rt, &how, name) else {
-        return None;
-    };
-    let Ok(_) = file.seek(SeekFrom::Start(at)) else {
-        return None;
-    };
-    again::read(&mut file, room)
-}
-
-// The file isn't made where it isn't there.
-fn append_to<R: Files>(rt: &R, name: &str, piece: &[u8]) -> Option<usize>
-    ensures some { IfSome result (λ count. 0 < count) }
-    ensures within { IfSome result (λ count. count ≤ length piece.now) }
-{
-    let mut how = OpenOptions::new();
-    how.append(true);
-    let Ok(mut file) = again::open(rt, &how, name) else {
-        return None;
-    };
-    again::write(&mut file, piece)
-}
-
-fn create_new<R: Files>(rt: &R, name: &str) -> io::Result<()> {
-    let mut how = OpenOptions::new();
-    how.write(true);
-    how.create_new(true);
-    how.mode(OWNER_ONLY);
-    let _file = again::open(rt, &how, name)?;
-    Ok(())
-}
-
-// A file that has fewer bytes isn't filled up with zeros: that is an error.
-fn cut_to<R: Files>(rt: &R, name: &str, len: u64) -> io::Result<()> {
-    let mut how = OpenOptions::new();
-    how.write(true);
-    let file = again::open(rt, &how, name)?;
-    if file.metadata()?.len() < len {
-        return Err(io::Error::from(ErrorKind::InvalidInput));
+    fn count_fault(&mut self)
+        ensures rose { Rose self.old.faults self.new.faults }
+        ensures later { self.old.faults ≤ self.new.faults }
+        ensures child { self.new.child ≡ self.old.child }
+    {
+        self.faults = self.faults.saturating_add(1);
     }
-    file.set_len(len)
+
+    fn start_child(
+        &self,
+        command: &Command,
+        want: bool,
+    ) -> io::Result<Running<R::Started, R::File>> {
+        if !want {
+            return child::start(&self.rt, self.alloc, command, Stdio::null(), None);
+        }
+        let output = child::open_output(&self.rt, self.alloc, self.pid)?;
+        let stdout = output.try_clone()?;
+        child::start(&self.rt, self.alloc, command, stdout.into(), Some(output))
+    }
 }
 
 // Seconds since 1970 in UTC; 0 where the clock can't be read or stands before 1970.
@@ -94,8 +91,11 @@ fn seconds<R: Clock>(rt: &R) -> i64 {
     }
 }
 
-impl<R: Files + Clock + Clone + Drop> Host for RealHost<R> {
-    ghost told = { λ host. quiet_host host.faults };
+impl<R: Files + Clock + Processes + Alloc<A = Global> + Clone + Drop> Host for RealHost<R>
+where
+    R::File: FileExt + Into<Stdio>,
+{
+    ghost told = { λ host. quiet_host host.faults host.child };
 
     ghost tells_calls = { λ _ told. told };
 
@@ -104,70 +104,166 @@ impl<R: Files + Clock + Clone + Drop> Host for RealHost<R> {
     }
 
     fn look(&mut self, name: &str) -> Looked {
-        match fs::metadata(&self.rt, name) {
-            Ok(found) if found.is_dir() => Looked::Folder,
-            Ok(found) => Looked::File(found.len()),
-            Err(error) if error.kind() == ErrorKind::NotFound => Looked::Nothing,
-            Err(_) => {
-                self.faults = self.faults.saturating_add(1);
-                Looked::Failed
-            }
+        self.kept.close();
+        let looked = folders::look(&self.rt, name);
+        if looked == Looked::Failed {
+            self.count_fault();
         }
+        looked
     }
 
     fn read(&mut self, name: &str, at: u64, room: &mut [u8]) -> Got {
-        match read_at(&self.rt, name, at, room) {
+        match self.kept.read(&self.rt, self.alloc, name, at, room) {
             Some(count) => Got::Got(count),
             None => {
-                self.faults = self.faults.saturating_add(1);
+                self.count_fault();
                 Got::Failed
             }
         }
     }
 
     fn create(&mut self, name: &str) -> Made {
-        match create_new(&self.rt, name) {
+        match self.kept.create(&self.rt, self.alloc, name) {
             Ok(()) => Made::Made,
             Err(error) if error.kind() == ErrorKind::AlreadyExists => Made::Exists,
             Err(_) => {
-                self.faults = self.faults.saturating_add(1);
+                self.count_fault();
                 Made::Failed
             }
         }
     }
 
     fn append(&mut self, name: &str, piece: &[u8]) -> Took {
-        match append_to(&self.rt, name, piece) {
+        match self.kept.append(&self.rt, self.alloc, name, piece) {
             Some(count) => Took::Took(count),
             None => {
-                self.faults = self.faults.saturating_add(1);
+                self.count_fault();
                 Took::Failed
             }
         }
     }
 
+    fn sync(&mut self, name: &str) -> Synced {
+        match self.kept.sync(&self.rt, self.alloc, name) {
+            Ok(()) => Synced::Synced,
+            Err(_) => {
+                self.count_fault();
+                Synced::Failed
+            }
+        }
+    }
+
     fn cut(&mut self, name: &str, len: u64) -> Cut {
-        match cut_to(&self.rt, name, len) {
+        match self.kept.cut(&self.rt, self.alloc, name, len) {
             Ok(()) => Cut::Cut,
             Err(_) => {
-                self.faults = self.faults.saturating_add(1);
+                self.count_fault();
                 Cut::Failed
             }
         }
     }
 
     fn remove(&mut self, name: &str) -> Removed {
-        match fs::remove_file(&self.rt, name) {
-            Ok(()) => Removed::Removed,
-            Err(error) if error.kind() == ErrorKind::NotFound => Removed::Absent,
-            Err(_) => {
-                self.faults = self.faults.saturating_add(1);
-                Removed::Failed
-            }
+        self.kept.close();
+        let removed = folders::remove(&self.rt, name);
+        if removed == Removed::Failed {
+            self.count_fault();
         }
+        removed
+    }
+
+    fn rename(&mut self, from: &str, to: &str) -> Moved {
+        self.kept.close();
+        let moved = folders::rename(&self.rt, from, to);
+        if moved == Moved::Failed {
+            self.count_fault();
+        }
+        moved
+    }
+
+    fn make_folder(&mut self, name: &str) -> Made {
+        let made = folders::make_folder(&self.rt, name);
+        if made == Made::Failed {
+            self.count_fault();
+        }
+        made
+    }
+
+    fn names(&mut self, alloc: Global, folder: &str) -> Listed {
+        let listed = folders::names(&self.rt, alloc, folder);
+        if let Listed::Failed = listed {
+            self.count_fault();
+        }
+        listed
+    }
+
+    fn age(&mut self, name: &str) -> Aged {
+        let aged = folders::age(&self.rt, name);
+        if aged == Aged::Failed {
+            self.count_fault();
+        }
+        aged
+    }
+
+    fn sleep(&mut self, seconds: u64) {
+        thread::sleep(&self.rt, Duration::from_secs(seconds));
     }
 
     fn now(&mut self) -> i64 {
         seconds(&self.rt)
+    }
+
+    fn start(&mut self, command: &Command, want: bool) -> Started {
+        self.kept.close();
+        match self.start_child(command, want) {
+            Ok(running) => {
+                self.running = Some(running);
+                self.child = Child::Feeding;
+                Started::Started
+            }
+            Err(_) => {
+                self.count_fault();
+                self.child = Child::NoChild;
+                Started::Failed
+            }
+        }
+    }
+
+    fn feed(&mut self, piece: &[u8]) -> Fed {
+        let fed = match &mut self.running {
+            Some(running) => running.feed(piece),
+            None => Fed::Failed,
+        };
+        if fed == Fed::Failed {
+            self.count_fault();
+        }
+        fed
+    }
+
+    fn take(&mut self, room: &mut [u8]) -> Got {
+        self.child = Child::Taking;
+        let taken = match &mut self.running {
+            Some(running) => running.take(room),
+            None => None,
+        };
+        match taken {
+            Some(count) => Got::Got(count),
+            None => {
+                self.count_fault();
+                Got::Failed
+            }
+        }
+    }
+
+    fn finish(&mut self) -> Finished {
+        self.child = Child::NoChild;
+        let finished = match self.running.take() {
+            Some(mut running) => running.finish(),
+            None => Finished::Failed,
+        };
+        if finished == Finished::Failed {
+            self.count_fault();
+        }
+        finished
     }
 }

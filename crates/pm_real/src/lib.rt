@@ -1,9 +1,13 @@
-//! The outside on a machine: standard input, standard output and standard error, the files, and the clock. What is
-//! here calls the operating system, which is trusted to do what the traits say of contents; the counts are proved.
+//! The outside on a machine: standard input, standard output and standard error, the files, the clock, and children.
+//! What is here calls the operating system, which is trusted to do what the traits say of contents; the counts, and
+//! whether a child runs, are proved.
 #![tactic(auto)]
 
 mod again;
+mod child;
+mod folders;
 mod host;
+mod kept_file;
 mod sink;
 mod source;
 #[cfg(test)]

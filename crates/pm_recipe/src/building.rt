@@ -1,11 +1,13 @@
 //! The statements of an rcfile, built from its spans.
-ghost use Rattle.std.specs.Prelude.{◌≡◌, ◌<◌, ℕ, List, IfOk, [], None, Some, length, IsSome, is_some, ◌∷◌, ◌+◌, ◌++◌, true};
+ghost use Rattle.std.specs.Prelude.{◌≡◌, ◌<◌, ℕ, List, IfOk, [], None, Some, length, IsSome, is_some, ◌∷◌, ◌+◌, ◌++◌};
+ghost use Rattle.std.specs.Prelude.{true};
 ghost use Rattle.pm_recipe.specs.Tree as Act;
 ghost use Rattle.pm_recipe.specs.Tree.{Trees, nil};
 ghost use Rattle.pm_recipe.specs.View.{tree_of, act_of};
 ghost use Rattle.pm_recipe.specs.Joins.{unjoined};
 ghost use Rattle.pm_recipe.specs.Weights.{condition_of};
-ghost use Rattle.pm_recipe.specs.Build.{Ahead, put, recipe_of, ended, top_of, head_of, missing, with_condition, with_junk, first, others, program_line, acts, fails, plain};
+ghost use Rattle.pm_recipe.specs.Build.{Ahead, put, recipe_of, ended, top_of, head_of, missing, with_condition};
+ghost use Rattle.pm_recipe.specs.Build.{with_junk, first, others, program_line, acts, fails, plain};
 ghost use Rattle.pm_recipe.specs.Build.Ending.{Acts};
 ghost use Rattle.pm_recipe.specs.Builder.{built_of, begun_of, joins, joined, level_of, settled, whole, Suits};
 ghost use Rattle.pm_recipe.specs.Spans.{Span, situation_after};
@@ -100,7 +102,8 @@ impl Builder {
     fn put(&mut self, statement: Statement) -> Result<(), Memory>
         ensures begun { self.new.begun ≡ self.old.begun }
         ensures levels { self.new.levels.items ≡ self.old.levels.items }
-        ensures joins { IfOk result (λ _. (lists : List Trees) → joins self.new lists ≡ joins self.old (put (tree_of statement) lists)) }
+        ensures joins { IfOk result (λ _. (lists : List Trees)
+            → joins self.new lists ≡ joins self.old (put (tree_of statement) lists)) }
     {
         self.done.push(statement)?;
         Ok(())
@@ -136,7 +139,8 @@ impl Builder {
         ensures levels { self.new.levels.items ≡ self.old.levels.items }
         ensures begun { is_some self.new.begun ≡ is_some self.old.begun }
         ensures joins { IfOk result (λ _. (ahead : Ahead) → joins self.new (settled (begun_of self.new.begun) ahead)
-            ≡ joins self.old (settled (begun_of self.old.begun) (record { recipe = with_condition (condition_of text.now) ahead.recipe; lists = ahead.lists }))) }
+            ≡ joins self.old (settled (begun_of self.old.begun)
+            (record { recipe = with_condition (condition_of text.now) ahead.recipe; lists = ahead.lists }))) }
     {
         if let Some(begun) = &mut self.begun {
             let condition = read_condition(self.alloc, text)?;
@@ -196,7 +200,8 @@ impl Builder {
         ensures levels { IfOk result (λ _. length self.new.levels.items ≡ length self.old.levels.items + 1) }
         ensures begun { self.new.begun ≡ self.old.begun }
         ensures joins { IfOk result (λ _. (lists : List Trees) → joins self.new lists
-            ≡ joins self.old (put (ended begun.head (begun.conditions.items ++ []) (Acts (Act.Block (first lists)))) (others lists))) }
+            ≡ joins self.old (put
+            (ended begun.head (begun.conditions.items ++ []) (Acts (Act.Block (first lists)))) (others lists))) }
     {
         let done = mem::replace(&mut self.done, Statements::new(self.alloc));
         let Begun { head, conditions } = begun;
@@ -235,7 +240,8 @@ impl Builder {
     fn tell_junk(&mut self, line: u64, text: &[u8]) -> Result<(), Memory>
         ensures levels { self.new.levels.items ≡ self.old.levels.items }
         ensures begun { self.new.begun ≡ self.old.begun }
-        ensures joins { IfOk result (λ _. (lists : List Trees) → joins self.new lists ≡ joins self.old (with_junk line text.now lists)) }
+        ensures joins { IfOk result (λ _. (lists : List Trees)
+            → joins self.new lists ≡ joins self.old (with_junk line text.now lists)) }
     {
         if is_junked(text) {
             let text = Blob::from_slice(self.alloc, text)?;
@@ -250,7 +256,8 @@ impl Builder {
         ensures levels { self.new.levels.items ≡ self.old.levels.items }
         ensures begun { IfOk result (λ _. is_some self.new.begun ≡ true) }
         ensures joins { IfOk result (λ _. (ahead : Ahead) → joins self.new (settled (begun_of self.new.begun) ahead)
-            ≡ joins self.old (with_junk line text.now (put (recipe_of (head_of line text.now) [] ahead.recipe) ahead.lists))) }
+            ≡ joins self.old (with_junk line text.now
+            (put (recipe_of (head_of line text.now) [] ahead.recipe) ahead.lists))) }
     {
         self.tell_junk(line, text)?;
         let head = read_head(self.alloc, line, text)?;
@@ -343,7 +350,8 @@ impl Builder {
         ensures levels { self.new.levels.items ≡ self.old.levels.items }
         ensures begun { IfOk result (λ _. self.new.begun ≡ None) }
         ensures joins { IfOk result (λ _. (lists : List Trees) → joins self.new lists
-            ≡ joins self.old (settled (begun_of self.old.begun) (acts (Act.Capture (unjoined name.now) (program_line text.now)) lists))) }
+            ≡ joins self.old (settled (begun_of self.old.begun)
+            (acts (Act.Capture (unjoined name.now) (program_line text.now)) lists))) }
     {
         let name = without_joins(self.alloc, name)?;
         let line = read_program(self.alloc, text)?;
@@ -397,9 +405,11 @@ impl Builder {
     pub fn take(&mut self, kind: Kind, line: u64, name: &[u8], text: &[u8]) -> Result<(), Memory>
         requires begun { kind ≡ Kind.Open → IsSome self.old.begun }
         requires block { kind ≡ Kind.Close → 0 < length self.old.levels.items }
-        ensures suits { IfOk result (λ _. (situation : Situation) → Suits self.old situation → Suits self.new (situation_after kind line situation)) }
+        ensures suits { IfOk result (λ _. (situation : Situation) → Suits self.old situation
+            → Suits self.new (situation_after kind line situation)) }
         ensures whole { IfOk result (λ _. (spans : List Span) → whole (built_of self.new) spans
-            ≡ whole (built_of self.old) (record { kind = kind; line = line; name = name.now; text = text.now } ∷ spans)) }
+            ≡ whole (built_of self.old) (record { kind = kind; line = line; name = name.now; text = text.now }
+            ∷ spans)) }
     {
         match kind {
             Kind::Gap => Ok(()),

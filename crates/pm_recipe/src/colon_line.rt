@@ -2,7 +2,9 @@
 ghost use Rattle.std.specs.Prelude.{◌≡◌, ◌≤◌, ◌<◌, ◌+◌, ◌-◌, length, IfOk, nat_lt, drop, [], ◌∷◌};
 ghost use Rattle.pm_recipe.specs.Places.{far};
 ghost use Rattle.pm_recipe.specs.declared.places.Place.TheVariants.{Letters};
-ghost use Rattle.pm_recipe.specs.Colon.{word_length, is_unclosed, ends_statement, begins_recipe, behind_zero, flags_part, behind_flags, has_lock, lock_part, behind_lock, behind_colon, lock_of, has_junk, has_letter, flags_of};
+ghost use Rattle.pm_recipe.specs.Colon.{word_length, is_unclosed, ends_statement, begins_recipe, behind_zero};
+ghost use Rattle.pm_recipe.specs.Colon.{flags_part, behind_flags, has_lock, lock_part, behind_lock, behind_colon};
+ghost use Rattle.pm_recipe.specs.Colon.{lock_of, has_junk, has_letter, flags_of};
 
 use crate::bytes::starts_with;
 use crate::places::{Place, in_quote, past, past_first, reach};

@@ -1,6 +1,9 @@
 //! A condition's weight and text.
 ghost use Rattle.std.specs.Prelude.{◌≡◌, ◌≤◌, ◌<◌, ◌^◌, IfOk, IfSome, None, Some, if◌then◌else◌, nat_lt, neg_ℤ, pos};
-ghost use Rattle.pm_recipe.specs.Weights.{most_weight, digits_value, number_within, digits_of, weight_of, numeral, has_digit, exponent, ends_word, has_weight, exponent_value, weight_at, behind_weight, is_expanded, condition_line, condition_of, is_at_dollar, dollar_line};
+ghost use Rattle.pm_recipe.specs.Weights.{most_weight, digits_value, number_within, digits_of, weight_of, numeral};
+ghost use Rattle.pm_recipe.specs.Weights.{has_digit, exponent, ends_word, has_weight, exponent_value, weight_at};
+ghost use Rattle.pm_recipe.specs.Weights.{behind_weight, is_expanded, condition_line, condition_of, is_at_dollar};
+ghost use Rattle.pm_recipe.specs.Weights.{dollar_line};
 
 use crate::bytes::starts_with;
 use crate::joins::{trim, without_indents, without_joins};

@@ -10,7 +10,7 @@ use crate::places::{Place, reach};
 use pm_bytes::{BACKSLASH, CLOSE_BRACE, COLON, HASH, NEWLINE, is_space};
 
 /// What a span is. `Missing` stands where the text ends inside blocks.
-#[derive(Clone, Copy, PartialEq, Eq)]
+#[derive(Clone, Copy)]
 pub enum Kind {
     Gap,
     Colon,
@@ -30,7 +30,7 @@ pub enum Kind {
 }
 
 /// The front of a text: a name of `mid` bytes, and a text from `from` to `to`. It takes `taken` bytes.
-#[derive(Clone, Copy, PartialEq, Eq)]
+#[derive(Clone, Copy)]
 pub struct Front {
     pub kind: Kind,
     pub mid: usize,
@@ -41,7 +41,7 @@ pub struct Front {
 
 /// How many blocks are open, whether a recipe has begun, the lines of its colon line and of the outermost block's,
 /// and whether the reading has stopped.
-#[derive(Clone, Copy, PartialEq, Eq)]
+#[derive(Clone, Copy)]
 pub struct Situation {
     pub depth: usize,
     pub in_recipe: bool,

@@ -1,14 +1,15 @@
 //! Texts without the joins of their lines, and without the blanks at their ends.
 ghost use Rattle.std.specs.Prelude.{◌≡◌, ◌+◌, ◌<◌, IfOk, length, drop, if◌then◌else◌, List, ℕ, ◌++◌, ◌∷◌};
 ghost use Rattle.pm_recipe.specs.declared.joins.Side.TheVariants as Side;
-ghost use Rattle.pm_recipe.specs.Joins.{is_join, is_dropped, side_after, kept, unjoined, unindented, before_blanks, trimmed};
+ghost use Rattle.pm_recipe.specs.Joins.{is_join, is_dropped, side_after, kept, unjoined, unindented, before_blanks};
+ghost use Rattle.pm_recipe.specs.Joins.{trimmed};
 
 use crate::places::{Place, newline_behind, reach};
 use pm_bytes::{BACKSLASH, Blob, Memory, is_blank};
 use std::alloc::Global;
 
 /// Where a byte stands: in the text, at a join's newline, or among the blanks behind one.
-#[derive(Clone, Copy, PartialEq, Eq)]
+#[derive(Clone, Copy)]
 pub enum Side {
     Text,
     Newline,

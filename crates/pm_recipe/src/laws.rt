@@ -12,5 +12,6 @@ pub fn spans_cut()
 /// A text has no other cut, and its statements are those that its cut spells.
 pub fn one_cut()
     ensures cut { (text : List ℕ) (pieces : List Piece) → IsCut 1 start pieces text → pieces ≡ pieces_of text }
-    ensures tree { (text : List ℕ) (pieces : List Piece) → IsCut 1 start pieces text → rc_of text ≡ tree_of_pieces pieces }
+    ensures tree { (text : List ℕ) (pieces : List Piece) → IsCut 1 start pieces text
+        → rc_of text ≡ tree_of_pieces pieces }
 {}

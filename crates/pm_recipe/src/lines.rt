@@ -2,7 +2,8 @@
 ghost use Rattle.std.specs.Prelude.{◌≡◌, ◌≤◌, ◌<◌, ◌^◌, ◌+◌, ◌-◌, length, drop, true};
 ghost use Rattle.pm_recipe.specs.Places.{far};
 ghost use Rattle.pm_recipe.specs.declared.places.Place.TheVariants.{Line, Blanks};
-ghost use Rattle.pm_recipe.specs.Front.{opens, ends_line, behind_equals, captures, capture, other_action, recipe_line, line_front, name_width, behind_name, brace, Within};
+ghost use Rattle.pm_recipe.specs.Front.{opens, ends_line, behind_equals, captures, capture, other_action, recipe_line};
+ghost use Rattle.pm_recipe.specs.Front.{line_front, name_width, behind_name, brace, Within};
 
 use crate::bytes::starts_with;
 use crate::fronts::{Front, Kind, line_of};
@@ -51,7 +52,8 @@ fn line_from(kind: Kind, from: usize, text: &[u8]) -> Front
 fn capture_at(text: &[u8]) -> Front
     requires room { length text.now < 2 ^ 63 }
     requires captures { captures text.now ≡ true }
-    ensures front { result ≡ capture text.now (name_width text.now + 1 + far Blanks (drop 1 (behind_name text.now)) + 1) }
+    ensures front { result ≡ capture text.now (name_width text.now + 1 + far Blanks
+        (drop 1 (behind_name text.now)) + 1) }
     ensures within { Within result (length text.now) }
 {
     let mid = reach(Place::Name, text).length;

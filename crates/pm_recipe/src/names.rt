@@ -2,7 +2,8 @@
 ghost use Rattle.std.specs.Prelude.{◌≡◌, ◌≤◌, ◌<◌, ◌^◌, ◌+◌, length, true};
 ghost use Rattle.pm_recipe.specs.Places.{far};
 ghost use Rattle.pm_recipe.specs.declared.places.Place.TheVariants.{Name};
-ghost use Rattle.pm_recipe.specs.Front.{skipped, unclosed, assignment, ends_name, behind_name, name_width, named, colon_front, statement_of, Within};
+ghost use Rattle.pm_recipe.specs.Front.{skipped, unclosed, assignment, ends_name, behind_name, name_width, named};
+ghost use Rattle.pm_recipe.specs.Front.{colon_front, statement_of, Within};
 
 use crate::bytes::starts_with;
 use crate::colon_line::{from_lock, is_locked, is_recipe, leaves_quote, past_colon_line, word_in};

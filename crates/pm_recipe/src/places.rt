@@ -1,5 +1,7 @@
-//! How far a name, a word, a line or a number reaches: the places in which a reader can stand, and what each byte does there.
-ghost use Rattle.std.specs.Prelude.{◌≡◌, ◌≤◌, ◌<◌, length, drop, ◌+◌, false, not, ◌&&◌, ◌||◌, nat_eq, if◌then◌else◌, ◌-◌};
+//! How far a name, a word, a line or a number reaches: the places in which a reader can stand, and what each byte
+//! does there.
+ghost use Rattle.std.specs.Prelude.{◌≡◌, ◌≤◌, ◌<◌, length, drop, ◌+◌, false, not, ◌&&◌, ◌||◌, nat_eq, if◌then◌else◌};
+ghost use Rattle.std.specs.Prelude.{◌-◌};
 ghost use Rattle.pm_bytes.specs.Alphabet as alphabet;
 ghost use Rattle.pm_recipe.specs.Bytes.{begins_with};
 ghost use Rattle.pm_recipe.specs.declared.places.Place.TheVariants as Place;
@@ -12,7 +14,7 @@ use pm_bytes::{
 };
 
 /// Where a reader stands.
-#[derive(Clone, Copy, PartialEq, Eq)]
+#[derive(Clone, Copy)]
 pub enum Place {
     /// Only joins of two lines are passed.
     Joins,
@@ -52,7 +54,7 @@ pub enum Place {
 }
 
 /// How many bytes were read, and where the reader stands then.
-#[derive(Clone, Copy, PartialEq, Eq)]
+#[derive(Clone, Copy)]
 pub struct Extent {
     pub length: usize,
     pub place: Place,

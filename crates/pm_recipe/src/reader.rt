@@ -15,7 +15,7 @@ use std::alloc::Global;
 const MOST_LENGTH: usize = 1_048_576;
 
 /// Why an rcfile isn't read: it is of `length` bytes and thereby too long, or memory was wanting.
-#[derive(Clone, Copy, PartialEq, Eq, Debug)]
+#[derive(Clone, Copy)]
 pub enum RcRefused {
     TooLong { length: u64 },
     Memory,
@@ -98,7 +98,8 @@ fn finish(builder: Builder, situation: Situation) -> Result<Statements, Memory>
 fn miss(builder: &mut Builder, situation: Situation) -> Result<(), Memory>
     requires { length builder.old.levels.items ≡ 0 }
     ensures levels { IfOk result (λ _. length builder.new.levels.items ≡ 0) }
-    ensures whole { IfOk result (λ _. whole (built_of builder.new) [] ≡ whole (built_of builder.old) (missed situation)) }
+    ensures whole { IfOk result (λ _. whole (built_of builder.new) []
+        ≡ whole (built_of builder.old) (missed situation)) }
 {
     if situation.depth > 0 && !situation.stopped {
         builder.take(Kind::Missing, situation.outermost, b"", b"")?;

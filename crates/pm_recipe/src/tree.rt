@@ -8,7 +8,7 @@ use std::alloc::Global;
 use std::marker::Model;
 
 /// The flags of a recipe, one for each letter of its colon line (procmailrc(5), "Recipe format").
-#[derive(Clone, Copy, PartialEq, Eq, Debug)]
+#[derive(Clone, Copy)]
 pub struct Flags {
     /// `H`: conditions search the head.
     pub search_head: bool,
@@ -44,7 +44,7 @@ pub struct Flags {
 
 /// The weight `w^x` of a condition. A weight that is written with numbers out of its range is `Bad`
 /// (procmailsc(5)).
-#[derive(Clone, Copy, PartialEq, Eq, Debug)]
+#[derive(Clone, Copy)]
 pub enum Weight {
     None,
     Some { w: i32, x: i32 },

@@ -3,7 +3,7 @@ use pm_bytes::Memory;
 use std::alloc::{AllocError, AllocFailed};
 
 /// Why there is no expression: the text is none by the grammar, or memory was wanting.
-#[derive(Clone, Copy, Debug, PartialEq, Eq)]
+#[derive(Clone, Copy)]
 pub enum ReadRefused {
     Defect,
     Memory,

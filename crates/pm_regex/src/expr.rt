@@ -22,7 +22,8 @@ impl Model for Expr {
 
     ghost view = { λ e. whole_of (option_map (λ v. v.items) e.left) e.right.items };
 
-    ghost invariant = { λ e. (is_left_spelling (option_map (λ v. v.items) e.left) ≡ true) × (is_spelling e.right.items ≡ true) };
+    ghost invariant = { λ e. (is_left_spelling (option_map (λ v. v.items) e.left) ≡ true)
+        × (is_spelling e.right.items ≡ true) };
 }
 
 impl Expr {
@@ -48,7 +49,8 @@ impl Expr {
 
     /// The operators of what stands left of the `\/`, where the expression has one.
     pub fn left(&self) -> Option<&[Op]>
-        ensures { MatchOption result (self.now.left ≡ None) (λ ops. (e : Re) × (self.now.left ≡ Some e) × Spells ops.now e) }
+        ensures { MatchOption result (self.now.left ≡ None) (λ ops. (e : Re) × (self.now.left ≡ Some e)
+            × Spells ops.now e) }
     {
         match &self.left {
             None => None,

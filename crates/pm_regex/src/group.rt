@@ -10,7 +10,7 @@ use pm_bytes::Memory;
 
 /// What is open of a group: whether it has finished branches, whether this branch has a piece, and whether the group
 /// is directly behind the cut.
-#[derive(Clone, Copy, PartialEq, Eq, Debug, Drop)]
+#[derive(Clone, Copy, Drop)]
 pub struct Group {
     pub has_bars: bool,
     pub has_last: bool,
@@ -87,7 +87,8 @@ pub fn repeat(ops: &mut Vec<Op>, group: Group, times: Times) -> Result<Group, Me
 
 /// Ends the last branch.
 pub fn end_branch(ops: &mut Vec<Op>, group: Group) -> Result<(), Memory>
-    ensures { OnOk result ((f : Frame) (fs : List Frame) → Shows ops.old.items group f fs → Ends ops.new.items (expr_of f) fs) }
+    ensures { OnOk result ((f : Frame) (fs : List Frame) → Shows ops.old.items group f fs
+        → Ends ops.new.items (expr_of f) fs) }
 {
     join_last(ops, group)?;
     if !group.has_bars {

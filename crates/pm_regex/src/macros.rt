@@ -1,6 +1,7 @@
 //! The macros of an expression, which are replaced before it is read.
 ghost use Rattle.std.specs.Prelude.{◌≡◌, ℕ, ◌<◌, ◌≤◌, ◌++◌, List, length, take, OnOk, IfOk};
-ghost use Rattle.pm_regex.specs.Macros.{macro_name, macro_text, macro_at, members_text, bracket_text, plain_span, put_for, Expands};
+ghost use Rattle.pm_regex.specs.Macros.{macro_name, macro_text, macro_at, members_text, bracket_text, plain_span};
+ghost use Rattle.pm_regex.specs.Macros.{put_for, Expands};
 ghost use Rattle.pm_regex.specs.Expansion.{Puts, PutsPart};
 
 use crate::error::ReadRefused;
@@ -10,7 +11,7 @@ use std::alloc::Global;
 const MAX_LENGTH: usize = 65_536;
 
 /// An abbreviation of an expression.
-#[derive(Clone, Copy, PartialEq, Eq, Debug, Drop)]
+#[derive(Clone, Copy, Drop)]
 pub enum Macro {
     ToAddress,
     ToWord,
@@ -154,7 +155,8 @@ fn put_part(after: &mut Vec<u8>, text: &[u8]) -> Result<usize, ReadRefused>
 /// The text after its macros are replaced. `Defect` means that it is longer than the limit.
 pub fn expand(alloc: Global, text: &[u8]) -> Result<Vec<u8>, ReadRefused>
     ensures ok { IfOk result (λ after. Expands text.now after.items × (length after.items ≤ 65536)) }
-    ensures defect { result ≡ Err ReadRefused.Defect → (after : List ℕ) → Expands text.now after → 65536 < length after }
+    ensures defect { result ≡ Err ReadRefused.Defect → (after : List ℕ) → Expands text.now after
+        → 65536 < length after }
 {
     let mut after = Vec::new(alloc);
     let mut place = 0;

@@ -1,7 +1,8 @@
-//! What an expression is made of: its atoms, how often a piece stands, and the operators that spell it in postfix order.
+//! What an expression is made of: its atoms, how often a piece stands, and the operators that spell it in postfix
+//! order.
 
 /// What one place of the searched text has to be, but for bracket expressions.
-#[derive(Clone, Copy, PartialEq, Eq, Debug, Drop)]
+#[derive(Clone, Copy, Drop)]
 pub enum Atom {
     Byte(u8),
     /// `.`
@@ -21,7 +22,7 @@ pub enum Atom {
 }
 
 /// How often a piece may stand.
-#[derive(Clone, Copy, PartialEq, Eq, Debug, Drop)]
+#[derive(Clone, Copy, Drop)]
 pub enum Times {
     /// `*`
     Star,
@@ -32,7 +33,7 @@ pub enum Times {
 }
 
 /// An operator of an expression in postfix order: each stands behind its operands.
-#[derive(Clone, Copy, PartialEq, Eq, Debug, Drop)]
+#[derive(Clone, Copy, Drop)]
 pub enum Op {
     /// The expression of no bytes.
     Nothing,

@@ -160,7 +160,8 @@ impl Reader {
     pub fn finish(self) -> Result<Expr, ReadRefused>
         requires { (st : State) × ReaderIs self st }
         ensures ok { IfOk result (λ e. (st : State) → ReaderIs self st → finished st st.outer ≡ Some e) }
-        ensures defect { result ≡ Err ReadRefused.Defect → (st : State) → ReaderIs self st → finished st st.outer ≡ None }
+        ensures defect { result ≡ Err ReadRefused.Defect → (st : State) → ReaderIs self st
+            → finished st st.outer ≡ None }
     {
         if !self.around.is_empty() {
             return Err(ReadRefused::Defect);

@@ -24,9 +24,9 @@ fn read_tokens(alloc: Global, text: &[u8]) -> Result<Expr, ReadRefused>
 
 /// Reads the text of an expression, after its macros are replaced (procmailrc(5), "Extended regular expressions").
 ///
-/// `Defect` says that it is none by the grammar: an unclosed bracket or parenthesis, a stray `)`, a `\` at the end, a range
-/// from a greater byte to a lesser, a second `\/` or one in parentheses, more than 200 open parentheses, or more than 65,536
-/// bytes after the macros.
+/// `Defect` says that it is none by the grammar: an unclosed bracket or parenthesis, a stray `)`, a `\` at the end, a
+/// range from a greater byte to a lesser, a second `\/` or one in parentheses, more than 200 open parentheses, or more
+/// than 65,536 bytes after the macros.
 pub fn read(alloc: Global, text: &[u8]) -> Result<Expr, ReadRefused>
     ensures ok { IfOk result (Reads text.now) }
     ensures only { IfOk result (IsOnlyReading text.now) }

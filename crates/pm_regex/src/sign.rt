@@ -6,7 +6,7 @@ ghost use Rattle.pm_regex.specs.Signs.{IsSpelled, HasNoToken};
 use crate::op::{Atom, Times};
 
 /// A part of an expression's text, other than a bracket expression.
-#[derive(Clone, Copy, PartialEq, Eq, Debug, Drop)]
+#[derive(Clone, Copy, Drop)]
 pub enum Sign {
     Open,
     Close,
@@ -20,7 +20,7 @@ pub enum Sign {
 }
 
 /// A sign at the front of a text, and how many bytes it has there.
-#[derive(Clone, Copy, PartialEq, Eq, Debug, Drop)]
+#[derive(Clone, Copy, Drop)]
 pub struct Spelling {
     pub sign: Sign,
     pub length: usize,

@@ -2,7 +2,7 @@
 //! for no bytes, a byte behind `'`, `A` and `Z` for the area's start and end, `&` for two expressions one
 //! behind the other, `[]` and `[^]` behind their ranges.
 use crate::searching::read_expr;
-use case_file::{Refused, Words, one_word};
+use case_file::{Refused, Words, one_word, only_word};
 use pm_regex::{Atom, Expr, Op, Times};
 use std::alloc::{AllocError, Global};
 
@@ -11,9 +11,7 @@ pub fn expression(alloc: Global, text: &[u8]) -> Result<Words, Refused> {
     let Some(expr) = read_expr(alloc, text)? else {
         return Ok(one_word(alloc, "defect")?);
     };
-    let mut words = Vec::new(alloc);
-    words.push(written(alloc, &expr)?)?;
-    Ok(words)
+    Ok(only_word(alloc, written(alloc, &expr)?)?)
 }
 
 /// Whether two texts are read as the same expression.

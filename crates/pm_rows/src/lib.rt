@@ -4,8 +4,10 @@
 
 mod expressions;
 mod mails;
+mod names;
 mod rows;
 mod searching;
+mod starting;
 mod statements;
 mod substituting;
 mod variables;

@@ -1,5 +1,5 @@
 //! Rows of mails: their parts, what of them goes to a mailbox, and their From line.
-use case_file::{Refused, Words, one_word, text_of};
+use case_file::{Refused, Words, one_word, only_word, text_of};
 use pm_bytes::{Blob, Memory};
 use pm_message::{Feed, Kind, Renew, from_line, needs_line, piece, prepare, split, whole};
 use std::alloc::Global;
@@ -28,7 +28,7 @@ pub fn piece_of(
     let message = split(alloc, mail)?;
     let raw = raw_of(raw)?;
     let text = piece(alloc, &message, feed_of(feed)?, kind_of(kind)?, raw)?;
-    Ok(one_blob(alloc, text)?)
+    Ok(only_word(alloc, text.into_vec())?)
 }
 
 /// Whether a From line is made.
@@ -44,7 +44,7 @@ pub fn line_needed(alloc: Global, renew: &[u8], mail: &[u8]) -> Result<Words, Re
 
 /// The From line of a sender at a moment.
 pub fn line_of(alloc: Global, who: &[u8], moment: i64) -> Result<Words, Memory> {
-    one_blob(alloc, from_line(alloc, who, moment)?)
+    only_word(alloc, from_line(alloc, who, moment)?.into_vec())
 }
 
 /// The head and the body of a mail with its From line as it is asked for.
@@ -73,13 +73,7 @@ pub fn prepared_whole(
 ) -> Result<Words, Refused> {
     let renew = renew_of(alloc, renew)?;
     let message = prepare(alloc, mail, &renew, logname, moment)?;
-    Ok(one_blob(alloc, whole(alloc, &message)?)?)
-}
-
-fn one_blob(alloc: Global, blob: Blob) -> Result<Words, Memory> {
-    let mut words = Vec::new(alloc);
-    words.push(blob.into_vec())?;
-    Ok(words)
+    Ok(only_word(alloc, whole(alloc, &message)?.into_vec())?)
 }
 
 fn feed_of(word: &[u8]) -> Result<Feed, Refused> {

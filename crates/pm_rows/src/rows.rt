@@ -1,6 +1,6 @@
 //! Rows: a line that asks one question, with the answer that is wanted behind an arrow.
 use crate::variables::State;
-use crate::{expressions, mails, searching, statements, substituting};
+use crate::{expressions, mails, names, searching, starting, statements, substituting};
 use case_file::{Refused, Words, read_i64, read_u64, read_usize, text_of};
 use std::alloc::Global;
 
@@ -68,6 +68,22 @@ fn mail_answer(alloc: Global, key: &str, words: &[Vec<u8>]) -> Result<Words, Ref
         ("prepare-whole", [renew, logname, moment, mail]) => {
             mails::prepared_whole(alloc, renew, logname, read_i64(moment)?, mail)
         }
+        _ => name_answer(alloc, key, words),
+    }
+}
+
+fn name_answer(alloc: Global, key: &str, words: &[Vec<u8>]) -> Result<Words, Refused> {
+    match (key, words) {
+        ("grown", [text, more]) => Ok(names::grown(alloc, text, more)?),
+        ("name", [text]) => names::name(alloc, text),
+        ("seen-from", [base, name]) => names::seen(alloc, base, name),
+        ("number", [text]) => Ok(names::number(alloc, text)?),
+        ("digits", [text]) => Ok(names::count(alloc, text)?),
+        ("blank", [text]) => Ok(names::blank(alloc, text)?),
+        ("folded", [text]) => Ok(names::folded(alloc, text)?),
+        ("environment", entries) => Ok(starting::environment(alloc, entries)?),
+        ("started", words) => starting::started(alloc, words),
+        ("machine", [text]) => Ok(starting::machine(alloc, text)?),
         _ => Err(NO_ROW),
     }
 }

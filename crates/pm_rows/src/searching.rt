@@ -1,5 +1,5 @@
 //! Rows of expressions and the areas in which they are searched for.
-use case_file::{Refused, Words, number_word, one_word};
+use case_file::{Refused, Words, number_word, one_number, one_word};
 use pm_match::{Engine, Found};
 use pm_regex::{Expr, ReadRefused, read};
 use std::alloc::Global;
@@ -48,9 +48,7 @@ pub fn count(alloc: Global, text: &[u8], area: &[u8], fold: bool) -> Result<Word
     };
     let mut engine = Engine::build(alloc, &expr, fold)?;
     let count = engine.count(area);
-    let mut words = Vec::new(alloc);
-    words.push(number_word(alloc, count)?)?;
-    Ok(words)
+    Ok(one_number(alloc, count)?)
 }
 
 /// The expression that a text writes; none where it is a defect.

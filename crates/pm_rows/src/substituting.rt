@@ -1,5 +1,5 @@
 //! Rows of texts with their words and their commands.
-use case_file::{Refused, Words, number_word, one_word, text_of};
+use case_file::{Refused, Words, number_word, one_number, one_word, text_of};
 use pm_bytes::{Blob, Memory};
 use pm_subst::{ExpandRefused, Mode, commands, expand};
 use pm_vars::Vars;
@@ -29,9 +29,7 @@ pub fn length(alloc: Global, vars: &Vars, mode: Mode, text: &[u8]) -> Result<Wor
     for word in &words {
         sum = sum.saturating_add(word.len() as u64);
     }
-    let mut told = Vec::new(alloc);
-    told.push(number_word(alloc, sum)?)?;
-    Ok(told)
+    Ok(one_number(alloc, sum)?)
 }
 
 /// The commands of a text.

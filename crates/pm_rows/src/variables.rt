@@ -1,6 +1,6 @@
 //! The variables of the rows: the lines that set them, and rows that ask for them.
 use case_file::{
-    Line, Refused, Words, number_word, one_word, read_i64, read_u64, text_of, word_of,
+    Line, Refused, Words, number_word, one_number, only_word, read_i64, read_u64, word_of,
 };
 use pm_bytes::{Blob, Memory, Name};
 use pm_vars::Vars;
@@ -106,9 +106,7 @@ impl State {
 
     /// How many arguments there are.
     pub fn arguments(&self) -> Result<Words, Memory> {
-        let mut words = Vec::new(self.alloc);
-        words.push(number_word(self.alloc, self.vars.arguments() as u64)?)?;
-        Ok(words)
+        one_number(self.alloc, self.vars.arguments() as u64)
     }
 
     /// The number of the process, the exit status, the score and the rcfile's name.
@@ -138,19 +136,13 @@ impl State {
     /// How many variables programs get.
     pub fn export_count(&self) -> Result<Words, Memory> {
         let count = self.vars.export(self.alloc)?.len();
-        let mut words = Vec::new(self.alloc);
-        words.push(number_word(self.alloc, count as u64)?)?;
-        Ok(words)
+        one_number(self.alloc, count as u64)
     }
 }
 
 fn value_words(alloc: Global, value: Option<&Blob>) -> Result<Words, Memory> {
     match value {
-        Some(value) => {
-            let mut words = Vec::new(alloc);
-            words.push(value.as_slice().to_vec(alloc)?)?;
-            Ok(words)
-        }
+        Some(value) => only_word(alloc, value.as_slice().to_vec(alloc)?),
         None => Ok(Vec::new(alloc)),
     }
 }

@@ -3,8 +3,6 @@
 
 mod environment;
 mod first;
-#[cfg(test)]
-mod tests;
 mod words;
 
 pub use environment::{machine_name, read_environment, read_pair};

@@ -41,7 +41,7 @@ fn push_command(
 ) -> Result<(), Memory>
     ensures { IfOk result (λ _. commands.new.items ≡ commands.old.items ++ command_of kind text.now) }
 {
-    if kind == Kind::Command {
+    if matches!(kind, Kind::Command) {
         commands.push(Blob::from_vec(command(alloc, text)?))?;
     }
     Ok(())

@@ -63,7 +63,8 @@ impl Buffer {
     // A blank or a newline outside quotes.
     fn space(&mut self, byte: u8) -> Result<(), Memory>
         ensures splits { self.new.splits ≡ self.old.splits }
-        ensures holds { IfOk result (λ _. Changes self.old self.new (λ fields. with_element self.old.splits fields (Blank byte))) }
+        ensures holds { IfOk result (λ _. Changes self.old self.new
+            (λ fields. with_element self.old.splits fields (Blank byte))) }
     {
         if self.splits {
             self.end_word()
@@ -122,7 +123,8 @@ impl Buffer {
 
     fn push_of_value(&mut self, quoted: bool, byte: u8) -> Result<(), Memory>
         ensures splits { self.new.splits ≡ self.old.splits }
-        ensures holds { IfOk result (λ _. Changes self.old self.new (λ fields. with_element self.old.splits fields (value_element quoted byte))) }
+        ensures holds { IfOk result (λ _. Changes self.old self.new
+            (λ fields. with_element self.old.splits fields (value_element quoted byte))) }
     {
         if !quoted && is_space(byte) {
             self.space(byte)
@@ -134,7 +136,8 @@ impl Buffer {
     /// Adds a value with a backslash before each operator of expressions.
     pub fn push_escaped(&mut self, quoted: bool, bytes: &[u8]) -> Result<(), Memory>
         ensures splits { self.new.splits ≡ self.old.splits }
-        ensures holds { IfOk result (λ _. Gathers self.old self.new (value_elements quoted (flat_map escaped_operator bytes.now))) }
+        ensures holds { IfOk result (λ _. Gathers self.old self.new
+            (value_elements quoted (flat_map escaped_operator bytes.now))) }
     {
         for byte in bytes {
             self.push_operator(quoted, *byte)?;

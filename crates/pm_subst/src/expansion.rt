@@ -6,7 +6,8 @@ ghost use Rattle.pm_subst.specs.Fields.{Fields, size, most_length, all_words};
 ghost use Rattle.pm_subst.specs.Refusals.{IsRefusal};
 ghost use Rattle.pm_subst.specs.Tokens.{is_many, token};
 ghost use Rattle.pm_subst.specs.Values.{elements_of};
-ghost use Rattle.pm_subst.specs.Words.{words_in, size_in, fields_in, first_fields, used_elements, unused_after, first_output, outputs_after};
+ghost use Rattle.pm_subst.specs.Words.{words_in, size_in, fields_in, first_fields, used_elements, unused_after};
+ghost use Rattle.pm_subst.specs.Words.{first_output, outputs_after};
 
 use crate::buffer::{Buffer, MOST_LENGTH};
 use crate::frames::{Frames, fresh_behind};
@@ -21,7 +22,7 @@ use std::alloc::Global;
 
 /// Why a text has no expansion: its length is over 1,048,576, or memory was wanting. The length is the sum of the
 /// words' lengths in bytes and, where words are split, their number.
-#[derive(Clone, Copy, Debug, PartialEq, Eq)]
+#[derive(Clone, Copy)]
 pub enum ExpandRefused {
     Overflow { length: u64 },
     Memory,
@@ -57,7 +58,8 @@ pub fn expand(
 fn finish(buffer: Buffer) -> Result<Vec<Blob>, ExpandRefused>
     ensures words { (fields : Fields) → Holds buffer fields → IfOk result (λ words. words.items ≡ all_words fields) }
     ensures fits { (fields : Fields) → Holds buffer fields → OnOk result (size buffer.splits fields ≤ most_length) }
-    ensures refused { (fields : Fields) → Holds buffer fields → IfErr result (λ refused. IsRefusal (size buffer.splits fields) refused) }
+    ensures refused { (fields : Fields) → Holds buffer fields
+        → IfErr result (λ refused. IsRefusal (size buffer.splits fields) refused) }
 {
     if buffer.length > MOST_LENGTH {
         return Err(ExpandRefused::Overflow {
@@ -147,7 +149,8 @@ fn push_used(
     output: &[u8],
 ) -> Result<(), Memory>
     ensures splits { buffer.new.splits ≡ buffer.old.splits }
-    ensures holds { IfOk result (λ _. Gathers buffer.old buffer.new (used_elements unused vars.now output.now (token kind quoted part.now))) }
+    ensures holds { IfOk result (λ _. Gathers buffer.old buffer.new
+        (used_elements unused vars.now output.now (token kind quoted part.now))) }
 {
     if unused == 0 {
         push_part(buffer, kind, quoted, part, vars, output)
@@ -165,7 +168,8 @@ fn push_part(
     output: &[u8],
 ) -> Result<(), Memory>
     ensures splits { buffer.new.splits ≡ buffer.old.splits }
-    ensures holds { IfOk result (λ _. Gathers buffer.old buffer.new (elements_of vars.now output.now (token kind quoted part.now) kind)) }
+    ensures holds { IfOk result (λ _. Gathers buffer.old buffer.new
+        (elements_of vars.now output.now (token kind quoted part.now) kind)) }
 {
     match kind {
         Kind::Text => buffer.push_text(part),

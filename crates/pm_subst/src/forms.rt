@@ -1,6 +1,7 @@
 //! The forms that begin with a `$`.
 ghost use Rattle.std.specs.Prelude.{◌≡◌, ◌≤◌, ◌<◌, ◌+◌, ◌^◌, length};
-ghost use Rattle.pm_subst.specs.Front.{form_of, literal_of, braced, tail_of, colon_tail_of, piece, parameter_of, parameter_front, Within};
+ghost use Rattle.pm_subst.specs.Front.{form_of, literal_of, braced, tail_of, colon_tail_of, piece, parameter_of};
+ghost use Rattle.pm_subst.specs.Front.{parameter_front, Within};
 
 use crate::bytes::rest_of_name;
 use crate::kinds::{Front, Kind, Parameter, Rule, Test};

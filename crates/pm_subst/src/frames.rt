@@ -52,19 +52,19 @@ impl Frames {
             .iter()
             .filter(|frame| is_form_frame(**frame))
             .count();
-        let may_end = fresh && mode == Mode::Many;
+        let may_end = fresh && matches!(mode, Mode::Many);
         let may_open = forms < MOST_FORMS;
         match self.items.front() {
             None => Rule {
-                quoted: mode == Mode::Quoted,
+                quoted: matches!(mode, Mode::Quoted),
                 ends_quotes: false,
                 ends_form: false,
                 may_end,
                 may_open,
             },
             Some(frame) => Rule {
-                quoted: *frame != Frame::Form,
-                ends_quotes: *frame == Frame::Quotes,
+                quoted: !matches!(frame, Frame::Form),
+                ends_quotes: matches!(frame, Frame::Quotes),
                 ends_form: is_form_frame(*frame),
                 may_end,
                 may_open,

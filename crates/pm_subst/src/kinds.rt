@@ -1,7 +1,7 @@
 //! What can stand at the front of a text, and what the reading of it depends on.
 
 /// How a text is read: as one word, as if inside double quotes, or as words.
-#[derive(Clone, Copy, Debug, PartialEq, Eq)]
+#[derive(Clone, Copy)]
 pub enum Mode {
     One,
     Quoted,
@@ -9,7 +9,7 @@ pub enum Mode {
 }
 
 /// What is open around a place: double quotes, or a `${}` form outside or inside of them.
-#[derive(Clone, Copy, PartialEq, Eq)]
+#[derive(Clone, Copy)]
 pub enum Frame {
     Quotes,
     Form,
@@ -17,7 +17,7 @@ pub enum Frame {
 }
 
 /// When the text of a `${}` form is used: `-`, `:-`, `+` or `:+`.
-#[derive(Clone, Copy, PartialEq, Eq)]
+#[derive(Clone, Copy)]
 pub enum Test {
     Unset,
     UnsetOrEmpty,
@@ -26,7 +26,7 @@ pub enum Test {
 }
 
 /// What a `$` and one byte stand for: `$0`, `$1` to `$9`, `$#`, `$$`, `$?`, `$=`, `$_` or `$-`.
-#[derive(Clone, Copy, PartialEq, Eq)]
+#[derive(Clone, Copy)]
 pub enum Parameter {
     Program,
     Argument(u8),
@@ -39,7 +39,7 @@ pub enum Parameter {
 }
 
 /// What stands at the front.
-#[derive(Clone, Copy, PartialEq, Eq)]
+#[derive(Clone, Copy)]
 pub enum Kind {
     /// bytes that stand for themselves
     Text,
@@ -66,7 +66,7 @@ pub enum Kind {
 }
 
 /// The rules in force at a place.
-#[derive(Clone, Copy, PartialEq, Eq)]
+#[derive(Clone, Copy)]
 pub struct Rule {
     /// inside double quotes
     pub quoted: bool,
@@ -81,7 +81,7 @@ pub struct Rule {
 }
 
 /// What stands at the front: its bytes lie from `from` to `to`, and it takes `taken` bytes.
-#[derive(Clone, Copy, PartialEq, Eq)]
+#[derive(Clone, Copy)]
 pub struct Front {
     pub kind: Kind,
     pub from: usize,

@@ -1,6 +1,7 @@
 //! What stands at the front of a text.
 ghost use Rattle.std.specs.Prelude.{◌≡◌, ◌<◌, ◌+◌, ◌^◌, length};
-ghost use Rattle.pm_subst.specs.Front.{front_of, unquoted_front, itself, quotes_of, escaped, is_escaped_in_quotes, Within};
+ghost use Rattle.pm_subst.specs.Front.{front_of, unquoted_front, itself, quotes_of, escaped, is_escaped_in_quotes};
+ghost use Rattle.pm_subst.specs.Front.{Within};
 
 use crate::bytes::{until_backquote, until_single};
 use crate::forms::behind_dollar;

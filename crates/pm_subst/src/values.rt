@@ -1,7 +1,8 @@
 //! What variables, parameters, commands and forms give.
 ghost use Rattle.std.specs.Prelude.{◌≡◌, IfOk, codes};
 ghost use Rattle.pm_subst.specs.Buffer.{Gathers};
-ghost use Rattle.pm_subst.specs.Values.{uses_text, gives_value, form_value, is_unset, is_unset_or_empty, or_empty, variable_value, parameter_value, literal, trimmed, value_elements};
+ghost use Rattle.pm_subst.specs.Values.{uses_text, gives_value, form_value, is_unset, is_unset_or_empty, or_empty};
+ghost use Rattle.pm_subst.specs.Values.{variable_value, parameter_value, literal, trimmed, value_elements};
 ghost use Rattle.pm_vars.specs.Variables.{value_of, argument_of};
 
 use crate::buffer::Buffer;
@@ -79,7 +80,8 @@ pub fn push_variable(
     vars: &Vars,
 ) -> Result<(), Memory>
     ensures splits { buffer.new.splits ≡ buffer.old.splits }
-    ensures holds { IfOk result (λ _. Gathers buffer.old buffer.new (value_elements quoted (variable_value vars.now name.now))) }
+    ensures holds { IfOk result (λ _. Gathers buffer.old buffer.new
+        (value_elements quoted (variable_value vars.now name.now))) }
 {
     buffer.push_value(quoted, value(name, vars))
 }
@@ -94,7 +96,8 @@ pub fn push_form_value(
     vars: &Vars,
 ) -> Result<(), Memory>
     ensures splits { buffer.new.splits ≡ buffer.old.splits }
-    ensures holds { IfOk result (λ _. Gathers buffer.old buffer.new (value_elements quoted (form_value test (value_of name.now vars.now.variables)))) }
+    ensures holds { IfOk result (λ _. Gathers buffer.old buffer.new
+        (value_elements quoted (form_value test (value_of name.now vars.now.variables)))) }
 {
     if is_value_given(test) && !is_text_used(test, name, vars) {
         push_variable(buffer, quoted, name, vars)
@@ -111,7 +114,8 @@ pub fn push_literal(
     vars: &Vars,
 ) -> Result<(), Memory>
     ensures splits { buffer.new.splits ≡ buffer.old.splits }
-    ensures holds { IfOk result (λ _. Gathers buffer.old buffer.new (value_elements quoted (literal (variable_value vars.now name.now)))) }
+    ensures holds { IfOk result (λ _. Gathers buffer.old buffer.new
+        (value_elements quoted (literal (variable_value vars.now name.now)))) }
 {
     buffer.push_value(quoted, b"()")?;
     buffer.push_escaped(quoted, value(name, vars))
@@ -132,7 +136,8 @@ pub fn push_parameter(
     vars: &Vars,
 ) -> Result<(), Memory>
     ensures splits { buffer.new.splits ≡ buffer.old.splits }
-    ensures holds { IfOk result (λ _. Gathers buffer.old buffer.new (value_elements quoted (parameter_value vars.now parameter))) }
+    ensures holds { IfOk result (λ _. Gathers buffer.old buffer.new
+        (value_elements quoted (parameter_value vars.now parameter))) }
 {
     match parameter {
         Parameter::Program => buffer.push_value(quoted, b"procmail"),

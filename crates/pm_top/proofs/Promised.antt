@@ -2,10 +2,8 @@
 use Rattle.std.proofs.Common.{◌≡◌, List, ℕ, [], ◌∷◌, ◌++◌, refl, sym, ap, ◌∙◌, subst, append_assoc}
 use Rattle.pm_host.specs.Told.{HostView, Tells, Adds}
 use Rattle.pm_host.specs.Runs.{Ran, Steps, after_calls, child_after}
-use Rattle.pm_host.specs.declared.answers.Child.{Child}
 use Rattle.pm_host.specs.declared.answers.Child.TheVariants.{NoChild}
-use Rattle.pm_host.specs.declared.calls.Logged.{Logged}
-use Rattle.pm_host.proofs.RunsJoin.{tells_then, ran_join}
+use Rattle.pm_host.proofs.RunsJoin.{tells_then, ran_join, child_after-append}
 use Rattle.pm_journal.specs.JournalState.{JournalState}
 use Rattle.pm_journal.specs.Entries.{View, counts_of, view_of, Honest, joined, after_entries, said_by, all_said, written_by, all_written, Frame, AllCovered}
 use Rattle.pm_journal.specs.Held.{Keeping, AllGivenBack}
@@ -18,7 +16,8 @@ use Rattle.pm_top.specs.Outcome.{Outcome, bad_words, read_fault, too_long, not_b
 use Rattle.pm_top.specs.Account.{done_in, calls_in, given_in, Account}
 use Rattle.pm_top.specs.Promise.{IsFramed, Promise}
 use Rattle.pm_top.specs.Traced.{Traced}
-use Rattle.pm_top.proofs.Grown.{grown_in}
+use Rattle.pm_journal.proofs.ChildrenStay.{no_child_left}
+use Rattle.pm_top.proofs.Grown.{grown_in, calls_child}
 use Rattle.pm_top.proofs.Refusals.{meaning_of, starved_of, refuses_of}
 
 -- what the run did with its host, in one
@@ -70,10 +69,15 @@ framed_in run (not_begun h) a = frame_at run.entries run.before a.middle a.last 
 framed_in run (left_off h) a = (a.accounts.framed, frame_at h.given a.later a.last a.last a.last.host run a.back.framed refl a.host_same a.out_same)
 framed_in run (meant h) a = frame_at run.entries run.before a.middle a.last a.last.host run a.accounts.framed a.stops a.host_same a.out_same
 
--- no call leaves a child behind
-child_same : (cs : List Logged) (child : Child) → child_after cs child ≡ child
-child_same [] child = refl
-child_same (c ∷ cs) child = child_same cs child
+-- no child runs behind the calls of a run
+none_runs : (run : Run) (how : Outcome run) (a : Account run how) → child_after (joined a.accounts.groups ++ calls_in run how ++ joined a.back.groups) NoChild ≡ NoChild
+none_runs run how a =
+    child_after-append (joined a.accounts.groups ++ calls_in run how) (joined a.back.groups) NoChild
+    ∙ ap (child_after (joined a.back.groups))
+    (child_after-append (joined a.accounts.groups) (calls_in run how) NoChild
+    ∙ ap (child_after (calls_in run how)) (no_child_left (done_in run how) a.accounts.groups a.accounts.honest)
+    ∙ calls_child run how)
+    ∙ no_child_left (given_in run how) a.back.groups a.back.honest
 
 promised : (run : Run) → Traced run → AllGivenBack run.entries → run.before.host.child ≡ NoChild → Promise run
 promised run t locks child = let a = t.account in record {
@@ -92,7 +96,7 @@ promised run t locks child = let a = t.account in record {
   };
   refusals = refuses_of run t.how;
   memory = starved_of run t.how;
-  children = (ran_in run t.how a).child ∙ (child_same (joined a.accounts.groups ++ calls_in run t.how ++ joined a.back.groups) run.before.host.child ∙ child);
+  children = (ran_in run t.how a).child ∙ (ap (child_after (joined a.accounts.groups ++ calls_in run t.how ++ joined a.back.groups)) child ∙ none_runs run t.how a);
 }
 
 -- a run that keeps no lock

@@ -5,7 +5,7 @@ use pm_bytes::{Blob, Memory};
 use std::alloc::Global;
 
 /// The process number `$$`, the last exit code `$?`, the last score `$=` and the name of the rcfile `$_`.
-#[derive(Debug, Drop)]
+#[derive(Drop)]
 pub struct Marks {
     pub pid: u32,
     pub code: u8,

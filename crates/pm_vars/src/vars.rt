@@ -1,5 +1,6 @@
 //! The variables of a process, in the order in which their names came.
-ghost use Rattle.std.specs.Prelude.{◌≡◌, [], ◌∷◌, ◌++◌, IfOk, OnOk, OnErr, drop, length, option_copied, pos, filter, map, Some, None, if◌then◌else◌};
+ghost use Rattle.std.specs.Prelude.{◌≡◌, [], ◌∷◌, ◌++◌, IfOk, OnOk, OnErr, drop, length, option_copied, pos, filter};
+ghost use Rattle.std.specs.Prelude.{map, Some, None, if◌then◌else◌};
 ghost use Rattle.pm_bytes.specs.Name.{is_usable};
 ghost use Rattle.pm_vars.specs.Held.{variable_of_held};
 ghost use Rattle.pm_vars.specs.Variables.{value_of, with_value, without, argument_of, is_exported, variable_of};
@@ -33,7 +34,12 @@ impl Model for Vars {
 impl Vars {
     /// No variable and no argument; the code and the score are 0 and the rcfile's name is empty.
     pub fn new(alloc: Global, pid: u32) -> Vars
-        ensures { result ≡ record { variables = []; arguments = []; marks = record { pid = pid; code = 0; score = pos 0; rcfile = [] } } }
+        ensures { result
+            ≡ record {
+              variables = [];
+              arguments = [];
+              marks = record { pid = pid; code = 0; score = pos 0; rcfile = [] };
+            } }
     {
         Vars {
             alloc,
@@ -58,7 +64,8 @@ impl Vars {
     }
 
     pub fn set(&mut self, name: &[u8], value: Blob) -> Result<(), Memory>
-        ensures ok { OnOk result (self.new ≡ record self.old { variables = with_value name.now value self.old.variables }) }
+        ensures ok { OnOk result
+            (self.new ≡ record self.old { variables = with_value name.now value self.old.variables }) }
         ensures err { OnErr result (self.new ≡ self.old) }
     {
         let owned = owned_name(self.alloc, name)?;

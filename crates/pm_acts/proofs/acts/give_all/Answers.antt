@@ -11,8 +11,8 @@ pub loop-name-preserved : goal.loop-name-preserved
 loop-name-preserved g c =
     let was = c.in-Some.ensures.some in
     record {
-      giving = giving_goes_on _ _ _ _ _ _ _ _ _ _ c.loop-name.invariant.giving was c.unlock.ensures;
-      keeping = keeping_first _ _ _ _ _ _ _ c.loop-name.invariant.keeping was c.unlock.ensures;
+      giving = giving_goes_on _ _ _ _ _ _ _ _ _ _ _ c.loop-name.invariant.giving was c.unlock.ensures;
+      keeping = keeping_first _ _ _ _ _ _ _ _ c.loop-name.invariant.keeping was c.unlock.ensures;
     }
 
 pub returns-clause-gives : goal.returns-clause-gives

@@ -1,12 +1,8 @@
-use Rattle.std.specs.Prelude.{[]}
 use Rattle.pm_acts.proofs.Notes.{unlock_notes}
 use Rattle.pm_acts.proofs.objects.ObjectsOutside.unlock.Goals as goal
 
 pub returns : goal.returns
-returns g c = record {
-  reply = _;
-  notes =
-      let e = rw (c.unlock_reply_of.ensures, c.counts-before.ensures, c.counts-after.ensures) at c.note.ensures.entries in
-      let h = rw c.as_str.ensures.same at c.remove-removed.ensures in
-      unlock_notes _ _ _ _ _ _ _ _ _ h e c.note.ensures.room;
-}
+returns g c =
+    let e = rw (c.unlock_reply_of.ensures, c.counts-before.ensures, c.counts-after.ensures) at c.note.ensures.entries in
+    let h = rw c.as_str.ensures.same at c.remove-removed.ensures in
+    unlock_notes _ _ _ _ _ _ _ _ _ h e c.note.ensures.room

@@ -1,0 +1,45 @@
+//! A lock is taken through a host.
+ghost use Rattle.std.specs.Prelude.{◌≡◌, ◌≤◌};
+ghost use Rattle.pm_journal.specs.Locking.{TakesLock};
+ghost use Rattle.pm_locks.specs.Steps.{as_answer, IsAnswerToLock, MakesLockStep, IsOpenStep};
+
+use crate::{LockAnswer, LockCore};
+use pm_bytes::Name;
+use pm_host::Host;
+use pm_journal::{LockEnd, LockRule, LockStep};
+
+/// Takes the lock by the rule, or gives up once so many tries were lost or a call failed; then no lock file of its own
+/// is left. It takes no memory.
+pub fn take_lock<H: Host>(host: &mut H, name: &Name, rule: LockRule) -> LockEnd
+    requires some { 1 ≤ rule.tries }
+    requires few { rule.tries ≤ 1000000 }
+    ensures { TakesLock rule name.now result (H.told host.old) (H.told host.new) }
+{
+    let mut core = LockCore::new(rule);
+    loop {
+        let step = core.next();
+        if let LockStep::Finish(end) = step {
+            return end;
+        }
+        core.heard(ask(host, name.as_str(), step));
+    }
+}
+
+// Asks one step of the host.
+fn ask<H: Host>(host: &mut H, name: &str, step: LockStep) -> LockAnswer
+    requires { IsOpenStep step }
+    ensures fits { IsAnswerToLock step result }
+    ensures makes { MakesLockStep name.now step (as_answer result) (H.told host.old) (H.told host.new) }
+{
+    match step {
+        LockStep::Create => LockAnswer::Create(host.create(name)),
+        LockStep::Age => LockAnswer::Age(host.age(name)),
+        LockStep::Look => LockAnswer::Look(host.look(name)),
+        LockStep::Remove => LockAnswer::Remove(host.remove(name)),
+        LockStep::Sleep(seconds) => {
+            host.sleep(seconds);
+            LockAnswer::Slept
+        }
+        LockStep::Finish(_) => unreachable!(),
+    }
+}
