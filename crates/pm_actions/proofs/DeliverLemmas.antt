@@ -1,166 +1,214 @@
--- Recipes that deliver, in plans.
-use Rattle.std.proofs.Common.{◌≡◌, ◌≢◌, true, false, not, List, ℕ, [], refl, sym, ap, ◌∙◌, subst}
-use Rattle.std.specs.Prelude.{if◌then◌else◌}
+-- The choices of a delivery: what the plan is in each case.
+use Rattle.std.proofs.Common.{◌≡◌, ◌≢◌, Bool, true, false, not, List, ℕ, Option, Some, None, [], ◌∷◌, map, length, refl, sym, ap, ◌∙◌, subst}
+use Rattle.std.specs.Prelude.{if◌then◌else◌, ◌||◌, Result}
 use Rattle.std.specs.List.{list_any}
+use Rattle.pm_bytes.specs.Path.{full_name}
+use Rattle.pm_bytes.specs.declared.error.Memory.{Memory}
 use Rattle.pm_journal.specs.JournalState.{JournalState}
 use Rattle.pm_journal.specs.Entries.{View}
-use Rattle.pm_journal.specs.LogText.{unusable_name_line, couldnt_write_line, bytes_left_line}
-use Rattle.pm_journal.specs.declared.acts.Act.TheVariants.{SayErr}
+use Rattle.pm_journal.specs.Held.{holds_name}
+use Rattle.pm_journal.specs.Plan.{Plan}
+use Rattle.pm_journal.specs.Executed.{Executes, OutOfMemory, Carries}
+use Rattle.pm_journal.proofs.ActPlans.{executes_then}
+use Rattle.pm_journal.proofs.WantsMemory.{executes_nothing, out_then, out_anywhere}
 use Rattle.pm_recipe.specs.Tree.{Top}
 use Rattle.pm_recipe.specs.View.{act_of}
 use Rattle.pm_recipe.specs.declared.tree.Flags.{Flags}
 use Rattle.pm_recipe.specs.declared.tree.Action.{Action}
 use Rattle.pm_recipe.specs.declared.tree.Action.TheVariants.{Mailbox, Pipe, Capture, Forward, WriteOut, Block}
 use Rattle.pm_subst.specs.Words.{words_in}
-use Rattle.pm_subst.specs.declared.kinds.Mode.TheVariants.{Many}
-use Rattle.pm_journal.specs.Plan.{Plan, Ends, and_then, ask}
-use Rattle.pm_journal.specs.Executed.{Executes, OutOfMemory}
-use Rattle.pm_meaning.specs.Turns.{Turn, GoesOn, Halts, say_then, not_built, is_too_long, has_command, skip_value}
-use Rattle.pm_meaning.specs.Delivering.{is_plain, is_folder_name, are_file_texts, Filing, file_all, all_stored, say_filed, deliver_to, deliver, act_on, run_recipe}
+use Rattle.pm_subst.specs.declared.kinds.Mode.TheVariants.{One, Many}
+use Rattle.pm_meaning.specs.Assigning.{value_in}
+use Rattle.pm_meaning.specs.Locks.{text_or, lock_word, blamed_text, is_lock_word, full_lock, is_taken, any_held}
+use Rattle.pm_meaning.specs.Turns.{Turn, Halts, not_built, is_too_long, has_command, skip_value}
+use Rattle.pm_meaning.specs.Delivering.{is_plain, is_folder_name, are_file_texts, Attempted, attempt, attempt_lines, attempt_turn, say_each, after_attempt, file_and_say, refuse_name, deliver_at, deliver_named, is_without, deliver_to, deliver_text, deliver, act_on, run_recipe}
 use Rattle.pm_meaning.specs.Minds.{Mind}
+use Rattle.pm_meaning.specs.Running.{no_flags, deliver_default}
 use Rattle.pm_meaning.specs.declared.process.End.TheVariants.{NotBuilt}
-use Rattle.pm_journal.proofs.ActPlans.{executes_then}
-use Rattle.pm_journal.proofs.WantsMemory.{executes_nothing, out_then, out_front}
-use Rattle.pm_meaning.specs.declared.process.Filed.{Filed}
-use Rattle.pm_meaning.specs.declared.process.Filed.TheVariants.{Stored, Unwritten, Left, Folder}
-use Rattle.pm_acts.specs.Acts.{Says}
-use Rattle.pm_actions.proofs.Choices.{choose_then, choose_else, then_out, else_out, line_told, line_out}
+use Rattle.pm_meaning.specs.declared.process.Attempt.{Attempt}
+use Rattle.pm_actions.specs.Copies.{IsFreeLock, attempted_of}
 
--- the destinations in order, and what is told behind them
-abbrev pub filed_and_told : Flags → List (List ℕ) → Mind → Plan Turn
-filed_and_told flags words p = and_then (file_all flags words p) (λ filing. say_filed flags filing.filed filing.mind)
+if_yes : {A : Type 0} (b : Bool) (p q : A) → b ≡ true → p ≡ (if b then p else q)
+if_yes b p q e = ap (λ v. if v then p else q) (sym e)
 
-abbrev after_usable : Flags → List (List ℕ) → Mind → Plan Turn
-after_usable flags words p = if list_any is_folder_name words then (not_built p) else filed_and_told flags words p
+if_no : {A : Type 0} (b : Bool) (p q : A) → b ≡ false → q ≡ (if b then p else q)
+if_no b p q e = ap (λ v. if v then p else q) (sym e)
 
--- some destination can't be a file's name
-pub texts_unusable : (flags : Flags) (text line : List ℕ) (words : List (List ℕ)) (p : Mind) (x y : JournalState) (a b : View) → are_file_texts words ≡ false → line ≡ unusable_name_line text → Says line x y a b
-    → Executes (deliver_to flags text words p) (GoesOn p) x y a b
-texts_unusable flags text line words p x y a b e is h =
-    choose_then (not (are_file_texts words)) (say_then p (unusable_name_line text) (GoesOn p)) (after_usable flags words p) (GoesOn p) x y a b (ap not e) (line_told p (unusable_name_line text) line (GoesOn p) x y a b is h)
+-- a list that has words, or has none
+pub some_words : (words : List (List ℕ)) → (length words ≡ 0 → ⊥) → is_without words ≡ false
+some_words [] h = absurd (h refl)
+some_words (word ∷ words) h = refl
 
-pub texts_unusable_out : (flags : Flags) (text line : List ℕ) (words : List (List ℕ)) (p : Mind) (x y : JournalState) (a b : View) → are_file_texts words ≡ false → line ≡ unusable_name_line text → OutOfMemory (ask (SayErr line)) x y a b
-    → OutOfMemory (deliver_to flags text words p) x y a b
-texts_unusable_out flags text line words p x y a b e is h =
-    then_out (not (are_file_texts words)) (say_then p (unusable_name_line text) (GoesOn p)) (after_usable flags words p) x y a b (ap not e) (line_out p (unusable_name_line text) line (GoesOn p) x y a b is h)
+pub no_words : (words : List (List ℕ)) → length words ≡ 0 → is_without words ≡ true
+no_words [] h = refl
+no_words (word ∷ words) h = absurd (cc)
 
--- some destination is a folder by its ending
-pub folder_among : (flags : Flags) (text : List ℕ) (words names : List (List ℕ)) (p : Mind) (x : JournalState) (s : View) → are_file_texts words ≡ true → names ≡ words → list_any is_folder_name names ≡ true
-    → Executes (deliver_to flags text words p) (Halts NotBuilt p) x x s s
-folder_among flags text words names p x s e same f =
-    choose_else (not (are_file_texts words)) (say_then p (unusable_name_line text) (GoesOn p)) (after_usable flags words p) (Halts NotBuilt p) x x s s (ap not e)
-    (choose_then (list_any is_folder_name words) (not_built p) (filed_and_told flags words p) (Halts NotBuilt p) x x s s (ap (λ l. list_any is_folder_name l) (sym same) ∙ f) (executes_nothing (Halts NotBuilt p) x x s refl))
+-- one of two holds, or neither
+pub left_true : (b c : Bool) → b ≡ true → (b || c) ≡ true
+left_true true c e = refl
+left_true false c e = let f : false ≡ true = e in absurd (cc)
 
--- the destinations are files
-pub filed_to_all : (flags : Flags) (text : List ℕ) (words names : List (List ℕ)) (p : Mind) (turn : Turn) (x y : JournalState) (a b : View) → are_file_texts words ≡ true → names ≡ words → list_any is_folder_name names ≡ false
-    → Executes (filed_and_told flags names p) turn x y a b → Executes (deliver_to flags text words p) turn x y a b
-filed_to_all flags text words names p turn x y a b e same f h =
-    choose_else (not (are_file_texts words)) (say_then p (unusable_name_line text) (GoesOn p)) (after_usable flags words p) turn x y a b (ap not e)
-    (choose_else (list_any is_folder_name words) (not_built p) (filed_and_told flags words p) turn x y a b (ap (λ l. list_any is_folder_name l) (sym same) ∙ f) (subst (λ l. Executes (filed_and_told flags l p) turn x y a b) same h))
+pub right_true : (b c : Bool) → c ≡ true → (b || c) ≡ true
+right_true true c e = refl
+right_true false c e = e
 
-pub filed_to_all_out : (flags : Flags) (text : List ℕ) (words names : List (List ℕ)) (p : Mind) (x y : JournalState) (a b : View) → are_file_texts words ≡ true → names ≡ words → list_any is_folder_name names ≡ false
-    → OutOfMemory (filed_and_told flags names p) x y a b → OutOfMemory (deliver_to flags text words p) x y a b
-filed_to_all_out flags text words names p x y a b e same f h =
-    else_out (not (are_file_texts words)) (say_then p (unusable_name_line text) (GoesOn p)) (after_usable flags words p) x y a b (ap not e)
-    (else_out (list_any is_folder_name words) (not_built p) (filed_and_told flags words p) x y a b (ap (λ l. list_any is_folder_name l) (sym same) ∙ f) (subst (λ l. OutOfMemory (filed_and_told flags l p) x y a b) same h))
+pub both_false : (b c : Bool) → b ≡ false → c ≡ false → (b || c) ≡ false
+both_false true c e f = let g : true ≡ false = e in absurd (cc)
+both_false false c e f = f
 
-abbrev after_commands : Flags → List ℕ → Mind → Plan Turn
-after_commands flags text p = if is_too_long Many text p.vars then skip_value Many text p else deliver_to flags text (words_in Many p.vars [] text) p
+-- the same plan under another form
+pub carried : {R A : Type 0} (p q : Plan R) (end : A → R) (answer : Result A Memory) (x y : JournalState) (a b : View) → p ≡ q → Carries p end answer x y a b → Carries q end answer x y a b
+carried p q end answer x y a b e h = subst (λ plan. Carries plan end answer x y a b) e h
 
--- the text has a command
-pub delivery_waits : (flags : Flags) (text : List ℕ) (p : Mind) (x : JournalState) (s : View) → has_command Many text ≡ true → Executes (deliver flags text p) (Halts NotBuilt p) x x s s
-delivery_waits flags text p x s e = choose_then (has_command Many text) (not_built p) (after_commands flags text p) (Halts NotBuilt p) x x s s e (executes_nothing (Halts NotBuilt p) x x s refl)
+-- a form that isn't built yet ends at once
+pub ends_unbuilt : (p : Mind) (plan : Plan Turn) (x : JournalState) (s : View) → not_built p ≡ plan → Executes plan (Halts NotBuilt p) x x s s
+ends_unbuilt p plan x s e = subst (λ q. Executes q (Halts NotBuilt p) x x s s) e (executes_nothing (Halts NotBuilt p) x x s refl)
 
-pub words_delivered : (flags : Flags) (text : List ℕ) (words : List (List ℕ)) (p : Mind) (turn : Turn) (x y : JournalState) (a b : View) → has_command Many text ≡ false → is_too_long Many text p.vars ≡ false
-    → words ≡ words_in Many p.vars [] text → Executes (deliver_to flags text words p) turn x y a b → Executes (deliver flags text p) turn x y a b
-words_delivered flags text words p turn x y a b e fits is h =
-    choose_else (has_command Many text) (not_built p) (after_commands flags text p) turn x y a b e
-    (choose_else (is_too_long Many text p.vars) (skip_value Many text p) (deliver_to flags text (words_in Many p.vars [] text) p) turn x y a b fits (subst (λ l. Executes (deliver_to flags text l p) turn x y a b) is h))
+-- a recipe that is tied to others or has conditions
+pub tied : (top : Top) (action : Action) (p : Mind) → is_plain top ≡ false → not_built p ≡ run_recipe top (act_of action) p
+tied top action p e = if_no (is_plain top) (act_on top (act_of action) p) (not_built p) e
 
-pub words_delivered_out : (flags : Flags) (text : List ℕ) (words : List (List ℕ)) (p : Mind) (x y : JournalState) (a b : View) → has_command Many text ≡ false → is_too_long Many text p.vars ≡ false
-    → words ≡ words_in Many p.vars [] text → OutOfMemory (deliver_to flags text words p) x y a b → OutOfMemory (deliver flags text p) x y a b
-words_delivered_out flags text words p x y a b e fits is h =
-    else_out (has_command Many text) (not_built p) (after_commands flags text p) x y a b e
-    (else_out (is_too_long Many text p.vars) (skip_value Many text p) (deliver_to flags text (words_in Many p.vars [] text) p) x y a b fits (subst (λ l. OutOfMemory (deliver_to flags text l p) x y a b) is h))
+other_act : (top : Top) (action : Action) (p : Mind) → ((text : List ℕ) → action ≢ Mailbox text) → not_built p ≡ act_on top (act_of action) p
+other_act top (Mailbox text) p other = absurd (other text refl)
+other_act top (Pipe line) p other = refl
+other_act top (Capture name line) p other = refl
+other_act top (Forward text) p other = refl
+other_act top WriteOut p other = refl
+other_act top (Block statements) p other = refl
 
-pub delivery_skipped : (flags : Flags) (text : List ℕ) (p : Mind) (turn : Turn) (x y : JournalState) (a b : View) → has_command Many text ≡ false → is_too_long Many text p.vars ≡ true
-    → Executes (skip_value Many text p) turn x y a b → Executes (deliver flags text p) turn x y a b
-delivery_skipped flags text p turn x y a b e long h =
-    choose_else (has_command Many text) (not_built p) (after_commands flags text p) turn x y a b e
-    (choose_then (is_too_long Many text p.vars) (skip_value Many text p) (deliver_to flags text (words_in Many p.vars [] text) p) turn x y a b long h)
+pub acts_otherwise : (top : Top) (action : Action) (p : Mind) → is_plain top ≡ true → ((text : List ℕ) → action ≢ Mailbox text) → not_built p ≡ run_recipe top (act_of action) p
+acts_otherwise top action p e other = other_act top action p other ∙ if_yes (is_plain top) (act_on top (act_of action) p) (not_built p) e
 
-pub delivery_skipped_out : (flags : Flags) (text : List ℕ) (p : Mind) (x y : JournalState) (a b : View) → has_command Many text ≡ false → is_too_long Many text p.vars ≡ true
-    → OutOfMemory (skip_value Many text p) x y a b → OutOfMemory (deliver flags text p) x y a b
-delivery_skipped_out flags text p x y a b e long h =
-    else_out (has_command Many text) (not_built p) (after_commands flags text p) x y a b e
-    (then_out (is_too_long Many text p.vars) (skip_value Many text p) (deliver_to flags text (words_in Many p.vars [] text) p) x y a b long h)
+pub stores : (top : Top) (action : Action) (text shown : List ℕ) (p : Mind) → is_plain top ≡ true → action ≡ Mailbox text → shown ≡ text → deliver top.flags top.lock shown p ≡ run_recipe top (act_of action) p
+stores top action text shown p e is same =
+    ap (λ t. deliver top.flags top.lock t p) same ∙ (ap (λ act. act_on top (act_of act) p) (sym is) ∙ if_yes (is_plain top) (act_on top (act_of action) p) (not_built p) e)
 
--- a recipe that is tied to others, or has a lock or conditions
-pub tied : (top : Top) (action : Action) (p : Mind) (x : JournalState) (s : View) → is_plain top ≡ false → Executes (run_recipe top (act_of action) p) (Halts NotBuilt p) x x s s
-tied top action p x s e = choose_else (is_plain top) (act_on top.flags (act_of action) p) (not_built p) (Halts NotBuilt p) x x s s e (executes_nothing (Halts NotBuilt p) x x s refl)
+-- the texts have commands, or the lock file's expands to too much, or it has this value
+abbrev after_commands : Flags → Option (List ℕ) → List ℕ → Mind → Plan Turn
+after_commands flags lock text p = if is_too_long One (text_or [] lock) p.vars then skip_value One (text_or [] lock) p else deliver_text flags lock (value_in p.vars (text_or [] lock)) text p
 
-other_act : (flags : Flags) (action : Action) (p : Mind) → ((text : List ℕ) → action ≢ Mailbox text) → (not_built p) ≡ act_on flags (act_of action) p
-other_act flags (Mailbox text) p other = absurd (other text refl)
-other_act flags (Pipe line) p other = refl
-other_act flags (Capture name line) p other = refl
-other_act flags (Forward text) p other = refl
-other_act flags WriteOut p other = refl
-other_act flags (Block statements) p other = refl
+abbrev pub either_runs : Option (List ℕ) → List ℕ → Bool
+either_runs lock text = has_command One (text_or [] lock) || has_command Many text
 
-pub acts_otherwise : (top : Top) (action : Action) (p : Mind) (x : JournalState) (s : View) → is_plain top ≡ true → ((text : List ℕ) → action ≢ Mailbox text)
-    → Executes (run_recipe top (act_of action) p) (Halts NotBuilt p) x x s s
-acts_otherwise top action p x s e other =
-    choose_then (is_plain top) (act_on top.flags (act_of action) p) (not_built p) (Halts NotBuilt p) x x s s e
-    (subst (λ q. Executes q (Halts NotBuilt p) x x s s) (other_act top.flags action p other) (executes_nothing (Halts NotBuilt p) x x s refl))
+pub runs_first : (flags : Flags) (lock : Option (List ℕ)) (text : List ℕ) (p : Mind) → either_runs lock text ≡ true → not_built p ≡ deliver flags lock text p
+runs_first flags lock text p e = if_yes (either_runs lock text) (not_built p) (after_commands flags lock text p) e
 
-pub mailbox_carried : (top : Top) (action : Action) (text shown : List ℕ) (p : Mind) (turn : Turn) (x y : JournalState) (a b : View) → is_plain top ≡ true → action ≡ Mailbox text → shown ≡ text
-    → Executes (deliver top.flags shown p) turn x y a b → Executes (run_recipe top (act_of action) p) turn x y a b
-mailbox_carried top action text shown p turn x y a b e is same h =
-    choose_then (is_plain top) (act_on top.flags (act_of action) p) (not_built p) turn x y a b e
-    (subst (λ q. Executes (act_on top.flags (act_of q) p) turn x y a b) (sym is) (subst (λ t. Executes (deliver top.flags t p) turn x y a b) same h))
+pub lock_too_long : (flags : Flags) (lock : Option (List ℕ)) (text : List ℕ) (p : Mind) → either_runs lock text ≡ false → is_too_long One (text_or [] lock) p.vars ≡ true
+    → skip_value One (text_or [] lock) p ≡ deliver flags lock text p
+lock_too_long flags lock text p e long =
+    if_yes (is_too_long One (text_or [] lock) p.vars) (skip_value One (text_or [] lock) p) (deliver_text flags lock (value_in p.vars (text_or [] lock)) text p) long
+    ∙ if_no (either_runs lock text) (not_built p) (after_commands flags lock text p) e
 
-pub mailbox_carried_out : (top : Top) (action : Action) (text shown : List ℕ) (p : Mind) (x y : JournalState) (a b : View) → is_plain top ≡ true → action ≡ Mailbox text → shown ≡ text
-    → OutOfMemory (deliver top.flags shown p) x y a b → OutOfMemory (run_recipe top (act_of action) p) x y a b
-mailbox_carried_out top action text shown p x y a b e is same h =
-    then_out (is_plain top) (act_on top.flags (act_of action) p) (not_built p) x y a b e
-    (subst (λ q. OutOfMemory (act_on top.flags (act_of q) p) x y a b) (sym is) (subst (λ t. OutOfMemory (deliver top.flags t p) x y a b) same h))
+pub lock_expands : (flags : Flags) (lock : Option (List ℕ)) (value text : List ℕ) (p : Mind) → either_runs lock text ≡ false → is_too_long One (text_or [] lock) p.vars ≡ false
+    → value ≡ value_in p.vars (text_or [] lock) → deliver_text flags lock value text p ≡ deliver flags lock text p
+lock_expands flags lock value text p e short is =
+    ap (λ v. deliver_text flags lock v text p) is
+    ∙ (if_no (is_too_long One (text_or [] lock) p.vars) (skip_value One (text_or [] lock) p) (deliver_text flags lock (value_in p.vars (text_or [] lock)) text p) short
+    ∙ if_no (either_runs lock text) (not_built p) (after_commands flags lock text p) e)
 
--- what is told behind deliveries
-pub stored_told : (flags : Flags) (filed : Filed) (p : Mind) (turn : Turn) (x : JournalState) (s : View) → filed ≡ Stored → all_stored flags p ≡ turn → Executes (say_filed flags filed p) turn x x s s
-stored_told flags filed p turn x s e is =
-    subst (λ f. Executes (say_filed flags f p) turn x x s s) (sym e) (subst (λ t. Executes (Ends (all_stored flags p)) t x x s s) is (executes_nothing (all_stored flags p) x x s refl))
+-- the action's text expands to too much, or to these words
+pub text_too_long : (flags : Flags) (lock : Option (List ℕ)) (value text : List ℕ) (p : Mind) → is_too_long Many text p.vars ≡ true → skip_value Many text p ≡ deliver_text flags lock value text p
+text_too_long flags lock value text p long =
+    if_yes (is_too_long Many text p.vars) (skip_value Many text p) (deliver_to flags lock value text (words_in Many p.vars [] text) p) long
 
-pub folder_told : (flags : Flags) (filed : Filed) (p : Mind) (x : JournalState) (s : View) → filed ≡ Folder → Executes (say_filed flags filed p) (Halts NotBuilt p) x x s s
-folder_told flags filed p x s e = subst (λ f. Executes (say_filed flags f p) (Halts NotBuilt p) x x s s) (sym e) (executes_nothing (Halts NotBuilt p) x x s refl)
+pub text_expands : (flags : Flags) (lock : Option (List ℕ)) (value text : List ℕ) (words : List (List ℕ)) (p : Mind) → is_too_long Many text p.vars ≡ false → words ≡ words_in Many p.vars [] text
+    → deliver_to flags lock value text words p ≡ deliver_text flags lock value text p
+text_expands flags lock value text words p short is =
+    ap (λ l. deliver_to flags lock value text l p) is ∙ if_no (is_too_long Many text p.vars) (skip_value Many text p) (deliver_to flags lock value text (words_in Many p.vars [] text) p) short
 
-pub unwritten_told : (flags : Flags) (filed : Filed) (name line : List ℕ) (p : Mind) (x y : JournalState) (a b : View) → filed ≡ Unwritten name → line ≡ couldnt_write_line name → Says line x y a b
-    → Executes (say_filed flags filed p) (GoesOn p) x y a b
-unwritten_told flags filed name line p x y a b e is h =
-    subst (λ f. Executes (say_filed flags f p) (GoesOn p) x y a b) (sym e) (line_told p (couldnt_write_line name) line (GoesOn p) x y a b is h)
+-- there is no destination, or the lock file's name can't be used, or can
+abbrev after_some : Flags → Option (List ℕ) → List ℕ → List ℕ → List (List ℕ) → Mind → Plan Turn
+after_some flags lock value text words p =
+    if not (is_lock_word (lock_word lock value words p)) then refuse_name (blamed_text lock text) p
+    else deliver_named flags (lock_word lock value words p) (blamed_text lock text) text words p
 
-pub unwritten_out : (flags : Flags) (filed : Filed) (name line : List ℕ) (p : Mind) (x y : JournalState) (a b : View) → filed ≡ Unwritten name → line ≡ couldnt_write_line name → OutOfMemory (ask (SayErr line)) x y a b
-    → OutOfMemory (say_filed flags filed p) x y a b
-unwritten_out flags filed name line p x y a b e is h =
-    subst (λ f. OutOfMemory (say_filed flags f p) x y a b) (sym e) (line_out p (couldnt_write_line name) line (GoesOn p) x y a b is h)
+pub no_destination : (flags : Flags) (lock : Option (List ℕ)) (value text : List ℕ) (words : List (List ℕ)) (p : Mind) → is_without words ≡ true → refuse_name text p ≡ deliver_to flags lock value text words p
+no_destination flags lock value text words p e = if_yes (is_without words) (refuse_name text p) (after_some flags lock value text words p) e
 
-pub left_told : (flags : Flags) (filed : Filed) (name : List ℕ) (count : ℕ) (line : List ℕ) (p : Mind) (x y : JournalState) (a b : View) → filed ≡ Left name count → line ≡ bytes_left_line count name → Says line x y a b
-    → Executes (say_filed flags filed p) (GoesOn p) x y a b
-left_told flags filed name count line p x y a b e is h =
-    subst (λ f. Executes (say_filed flags f p) (GoesOn p) x y a b) (sym e) (line_told p (bytes_left_line count name) line (GoesOn p) x y a b is h)
+pub lock_unusable : (flags : Flags) (lock : Option (List ℕ)) (value text shown : List ℕ) (word : Option (List ℕ)) (words : List (List ℕ)) (p : Mind) → is_without words ≡ false → word ≡ lock_word lock value words p
+    → is_lock_word word ≡ false → shown ≡ blamed_text lock text → refuse_name shown p ≡ deliver_to flags lock value text words p
+lock_unusable flags lock value text shown word words p e is bad same =
+    ap (λ t. refuse_name t p) same
+    ∙ (if_yes (not (is_lock_word (lock_word lock value words p))) (refuse_name (blamed_text lock text) p) (deliver_named flags (lock_word lock value words p) (blamed_text lock text) text words p)
+    (ap (λ w. not (is_lock_word w)) (sym is) ∙ ap not bad) ∙ if_no (is_without words) (refuse_name text p) (after_some flags lock value text words p) e)
 
-pub left_out : (flags : Flags) (filed : Filed) (name : List ℕ) (count : ℕ) (line : List ℕ) (p : Mind) (x y : JournalState) (a b : View) → filed ≡ Left name count → line ≡ bytes_left_line count name → OutOfMemory (ask (SayErr line)) x y a b
-    → OutOfMemory (say_filed flags filed p) x y a b
-left_out flags filed name count line p x y a b e is h =
-    subst (λ f. OutOfMemory (say_filed flags f p) x y a b) (sym e) (line_out p (bytes_left_line count name) line (GoesOn p) x y a b is h)
+pub lock_usable : (flags : Flags) (lock : Option (List ℕ)) (value text : List ℕ) (word name : Option (List ℕ)) (words : List (List ℕ)) (p : Mind) → is_without words ≡ false → word ≡ lock_word lock value words p
+    → is_lock_word word ≡ true → name ≡ word → deliver_named flags name (blamed_text lock text) text words p ≡ deliver_to flags lock value text words p
+lock_usable flags lock value text word name words p e is good same =
+    ap (λ w. deliver_named flags w (blamed_text lock text) text words p) (same ∙ is)
+    ∙ (if_no (not (is_lock_word (lock_word lock value words p))) (refuse_name (blamed_text lock text) p) (deliver_named flags (lock_word lock value words p) (blamed_text lock text) text words p)
+    (ap (λ w. not (is_lock_word w)) (sym is) ∙ ap not good) ∙ if_no (is_without words) (refuse_name text p) (after_some flags lock value text words p) e)
 
--- the destinations in order, and then what is told
-pub filed_then : (flags : Flags) (words : List (List ℕ)) (p : Mind) (filing : Filing) (turn : Turn) (x y z : JournalState) (a b c : View) → Executes (file_all flags words p) filing x y a b
-    → Executes (say_filed flags filing.filed filing.mind) turn y z b c → Executes (filed_and_told flags words p) turn x z a c
-filed_then flags words p filing turn x y z a b c h k = executes_then (file_all flags words p) (λ f. say_filed flags f.filed f.mind) filing turn x y z a b c h k
+-- the destinations' names can't be used, or can
+pub texts_unusable : (flags : Flags) (word : Option (List ℕ)) (blamed text : List ℕ) (words : List (List ℕ)) (p : Mind) → are_file_texts words ≡ false → refuse_name text p ≡ deliver_named flags word blamed text words p
+texts_unusable flags word blamed text words p e = if_yes (not (are_file_texts words)) (refuse_name text p) (deliver_at flags (full_lock p.base word) blamed text words p) (ap not e)
 
-pub filed_then_out : (flags : Flags) (words : List (List ℕ)) (p : Mind) (filing : Filing) (x y z : JournalState) (a b c : View) → Executes (file_all flags words p) filing x y a b
-    → OutOfMemory (say_filed flags filing.filed filing.mind) y z b c → OutOfMemory (filed_and_told flags words p) x z a c
-filed_then_out flags words p filing x y z a b c h k = out_then (file_all flags words p) (λ f. say_filed flags f.filed f.mind) filing x y z a b c h k
+pub texts_usable : (flags : Flags) (word lock : Option (List ℕ)) (blamed text : List ℕ) (words names : List (List ℕ)) (p : Mind) → are_file_texts words ≡ true → names ≡ words → lock ≡ full_lock p.base word
+    → deliver_at flags lock blamed text names p ≡ deliver_named flags word blamed text words p
+texts_usable flags word lock blamed text words names p e same is =
+    ap (λ l. deliver_at flags l blamed text names p) is
+    ∙ (ap (λ l. deliver_at flags (full_lock p.base word) blamed text l p) same ∙ if_no (not (are_file_texts words)) (refuse_name text p) (deliver_at flags (full_lock p.base word) blamed text words p) (ap not e))
 
-pub filed_out : (flags : Flags) (words : List (List ℕ)) (p : Mind) (x y : JournalState) (a b : View) → OutOfMemory (file_all flags words p) x y a b → OutOfMemory (filed_and_told flags words p) x y a b
-filed_out flags words p x y a b h = out_front (file_all flags words p) (λ f. say_filed flags f.filed f.mind) x y a b h
+-- the lock file is taken, a destination is a held lock file, or a folder, or the mail is filed
+abbrev after_free : Flags → Option (List ℕ) → List (List ℕ) → Mind → Plan Turn
+after_free flags lock words p = if list_any is_folder_name words then not_built p else file_and_say flags lock words p
+
+abbrev after_taken : Flags → Option (List ℕ) → List ℕ → List (List ℕ) → Mind → Plan Turn
+after_taken flags lock text words p = if any_held (map (full_name p.base) words) p.locks then refuse_name text p else after_free flags lock words p
+
+pub lock_taken : (flags : Flags) (lock : Option (List ℕ)) (blamed shown text : List ℕ) (words files : List (List ℕ)) (p : Mind) → files ≡ map (full_name p.base) words → is_taken lock files p.locks ≡ true → shown ≡ blamed
+    → refuse_name shown p ≡ deliver_at flags lock blamed text words p
+lock_taken flags lock blamed shown text words files p is e same =
+    ap (λ t. refuse_name t p) same
+    ∙ if_yes (is_taken lock (map (full_name p.base) words) p.locks) (refuse_name blamed p) (after_taken flags lock text words p) (ap (λ l. is_taken lock l p.locks) (sym is) ∙ e)
+
+pub destination_held : (flags : Flags) (lock : Option (List ℕ)) (blamed text : List ℕ) (words files : List (List ℕ)) (p : Mind) → files ≡ map (full_name p.base) words → is_taken lock files p.locks ≡ false
+    → any_held files p.locks ≡ true → refuse_name text p ≡ deliver_at flags lock blamed text words p
+destination_held flags lock blamed text words files p is e held =
+    if_yes (any_held (map (full_name p.base) words) p.locks) (refuse_name text p) (after_free flags lock words p) (ap (λ l. any_held l p.locks) (sym is) ∙ held)
+    ∙ if_no (is_taken lock (map (full_name p.base) words) p.locks) (refuse_name blamed p) (after_taken flags lock text words p) (ap (λ l. is_taken lock l p.locks) (sym is) ∙ e)
+
+pub folder_among : (flags : Flags) (lock : Option (List ℕ)) (blamed text : List ℕ) (words files : List (List ℕ)) (p : Mind) → files ≡ map (full_name p.base) words → is_taken lock files p.locks ≡ false
+    → any_held files p.locks ≡ false → list_any is_folder_name words ≡ true → not_built p ≡ deliver_at flags lock blamed text words p
+folder_among flags lock blamed text words files p is e held folder =
+    if_yes (list_any is_folder_name words) (not_built p) (file_and_say flags lock words p) folder
+    ∙ (if_no (any_held (map (full_name p.base) words) p.locks) (refuse_name text p) (after_free flags lock words p) (ap (λ l. any_held l p.locks) (sym is) ∙ held)
+    ∙ if_no (is_taken lock (map (full_name p.base) words) p.locks) (refuse_name blamed p) (after_taken flags lock text words p) (ap (λ l. is_taken lock l p.locks) (sym is) ∙ e))
+
+pub all_files : (flags : Flags) (lock : Option (List ℕ)) (blamed text : List ℕ) (words files : List (List ℕ)) (p : Mind) → files ≡ map (full_name p.base) words → is_taken lock files p.locks ≡ false
+    → any_held files p.locks ≡ false → list_any is_folder_name words ≡ false → file_and_say flags lock words p ≡ deliver_at flags lock blamed text words p
+all_files flags lock blamed text words files p is e held folder =
+    if_no (list_any is_folder_name words) (not_built p) (file_and_say flags lock words p) folder
+    ∙ (if_no (any_held (map (full_name p.base) words) p.locks) (refuse_name text p) (after_free flags lock words p) (ap (λ l. any_held l p.locks) (sym is) ∙ held)
+    ∙ if_no (is_taken lock (map (full_name p.base) words) p.locks) (refuse_name blamed p) (after_taken flags lock text words p) (ap (λ l. is_taken lock l p.locks) (sym is) ∙ e))
+
+right_false : (b c : Bool) → (b || c) ≡ false → c ≡ false
+right_false true c e = let f : true ≡ false = e in absurd (cc)
+right_false false c e = e
+
+-- a lock file that isn't taken isn't held
+pub free_lock : (lock : Option (List ℕ)) (names held : List (List ℕ)) → is_taken lock names held ≡ false → IsFreeLock lock held
+free_lock None names held e = tt
+free_lock (Some name) names held e = right_false _ (holds_name held name) e
+
+-- the attempt was made, and what is told behind it comes
+pub attempt_then : (flags : Flags) (lock : Option (List ℕ)) (words : List (List ℕ)) (p : Mind) (done : Attempted) (turn : Turn) (x y z : JournalState) (a b c : View) → Executes (attempt lock flags words p) done x y a b
+    → Executes (after_attempt flags done) turn y z b c → Executes (file_and_say flags lock words p) turn x z a c
+attempt_then flags lock words p done turn x y z a b c h k = executes_then (attempt lock flags words p) (after_attempt flags) done turn x y z a b c h k
+
+pub attempt_then_out : (flags : Flags) (lock : Option (List ℕ)) (words : List (List ℕ)) (p : Mind) (done : Attempted) (x y z : JournalState) (a b c : View) → Executes (attempt lock flags words p) done x y a b
+    → OutOfMemory (after_attempt flags done) y z b c → OutOfMemory (file_and_say flags lock words p) x z a c
+attempt_then_out flags lock words p done x y z a b c h k = out_then (attempt lock flags words p) (after_attempt flags) done x y z a b c h k
+
+-- what is told behind an attempt, and what comes then
+pub said_after : (flags : Flags) (a : Attempt) (q : Mind) (lines : List (List ℕ)) (turn : Turn) → lines ≡ attempt_lines a → attempt_turn flags a q ≡ turn → say_each q lines turn ≡ after_attempt flags (attempted_of a q)
+said_after flags a q lines turn e f = ap (λ l. say_each q l turn) e ∙ ap (say_each q (attempt_lines a)) (sym f)
+
+-- what is handed on for a default mailbox
+pub default_is : (mailbox text word lock value : List ℕ) (flags : Flags) (p : Mind) → text ≡ mailbox → word ≡ mailbox → lock ≡ [] → value ≡ [] → flags ≡ no_flags
+    → deliver_to flags (Some lock) value text (word ∷ []) p ≡ deliver_default mailbox p
+default_is mailbox text word lock value flags p same is none empty plain =
+    ap (λ f. deliver_to f (Some lock) value text (word ∷ []) p) plain
+    ∙ (ap (λ l. deliver_to no_flags (Some l) value text (word ∷ []) p) none
+    ∙ (ap (λ v. deliver_to no_flags (Some []) v text (word ∷ []) p) empty
+    ∙ (ap (λ t. deliver_to no_flags (Some []) [] t (word ∷ []) p) same ∙ ap (λ w. deliver_to no_flags (Some []) [] mailbox (w ∷ []) p) is)))

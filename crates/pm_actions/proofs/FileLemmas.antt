@@ -20,7 +20,8 @@ use Rattle.pm_recipe.specs.declared.tree.Flags.{Flags}
 use Rattle.pm_vars.specs.Table.{Table}
 use Rattle.pm_vars.specs.Variables.{Variable, with_value}
 use Rattle.pm_meaning.specs.Changes.{stored_in}
-use Rattle.pm_meaning.specs.Delivering.{Filing, filed_by, is_nothing, file_at, file_all, mailbox_piece}
+use Rattle.pm_meaning.specs.Delivering.{Filing, filed_by, file_at, file_all, mailbox_piece}
+use Rattle.pm_meaning.specs.Locks.{is_nothing}
 use Rattle.pm_meaning.specs.Minds.{Mind}
 use Rattle.pm_meaning.specs.declared.process.Filed.{Filed}
 use Rattle.pm_meaning.specs.declared.process.Filed.TheVariants.{Stored, Unwritten, Left, Folder}

@@ -1,8 +1,10 @@
 -- Destinations with all that is wanted for them.
-use Rattle.std.specs.Prelude.{◌≡◌, ℕ, Bool, true, false, List, [], ◌∷◌, codes}
+use Rattle.std.specs.Prelude.{◌≡◌, ℕ, Bool, true, false, List, [], ◌∷◌, Option, Some, None, codes}
 use Rattle.pm_bytes.specs.Path.{full_name}
 use Rattle.pm_journal.specs.Plan.{Plan, Ends, and_then}
-use Rattle.pm_meaning.specs.Delivering.{Filing, file_at, mailbox_piece}
+use Rattle.pm_meaning.specs.Delivering.{Attempted, Filing, file_at, mailbox_piece}
+use Rattle.pm_meaning.specs.declared.process.Attempt.{Attempt}
+use Rattle.pm_journal.specs.Held.{holds_name}
 use Rattle.pm_meaning.specs.Minds.{Mind}
 use Rattle.pm_meaning.specs.declared.process.Filed.{Filed}
 use Rattle.pm_meaning.specs.declared.process.Filed.TheVariants.{Stored, Unwritten, Left, Folder}
@@ -27,6 +29,15 @@ copy_for flags p word = record {
 -- what came of destinations, with the process then
 abbrev pub filing_of : Filed → Mind → Filing
 filing_of filed p = record { filed = filed; mind = p }
+
+-- what came of an attempt, with the process then
+abbrev pub attempted_of : Attempt → Mind → Attempted
+attempted_of attempt p = record { attempt = attempt; mind = p }
+
+-- a lock that is asked for isn't held yet
+abbrev pub IsFreeLock : Option (List ℕ) → List (List ℕ) → Type 0
+IsFreeLock None names = Unit {0}
+IsFreeLock (Some name) names = holds_name names name ≡ false
 
 -- the process with these variables
 abbrev pub with_vars : Table → Mind → Mind

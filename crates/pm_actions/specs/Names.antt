@@ -1,10 +1,13 @@
 -- Texts as names of files.
-use Rattle.std.specs.Prelude.{◌≡◌, ℕ, true, false, List, Option, Some, None, Vec, if◌then◌else◌}
+use Rattle.std.specs.Prelude.{◌≡◌, ℕ, true, false, List, Option, Some, None, Result, Ok, Err, Vec, if◌then◌else◌}
 use Rattle.std.specs.Global.{Global}
 use Rattle.pm_recipe.specs.Tree.{Top}
 use Rattle.pm_recipe.specs.declared.tree.Recipe.{Recipe}
 use Rattle.pm_meaning.specs.Assigning.{is_file_text}
 use Rattle.pm_meaning.specs.Delivering.{are_file_texts}
+use Rattle.pm_meaning.specs.Locks.{is_lock_word}
+use Rattle.pm_bytes.specs.declared.error.NameRefused.{NameRefused}
+use Rattle.pm_bytes.specs.declared.error.NameRefused.TheVariants.{Unusable, Memory}
 
 -- the text where it can be a file's name
 abbrev pub file_name_of : List ℕ → Option (List ℕ)
@@ -14,6 +17,12 @@ file_name_of text = if is_file_text text then Some text else None
 abbrev pub AreNames : List (List ℕ) → Option (Vec (List ℕ) Global) → Type 0
 AreNames words None = are_file_texts words ≡ false
 AreNames words (Some names) = (are_file_texts words ≡ true) × (names.items ≡ words)
+
+-- the word as a name, or that it isn't usable
+abbrev pub IsLockName : Option (List ℕ) → Result (Option (List ℕ)) NameRefused → Type 0
+IsLockName word (Ok name) = (is_lock_word word ≡ true) × (name ≡ word)
+IsLockName word (Err Unusable) = is_lock_word word ≡ false
+IsLockName word (Err Memory) = Unit {0}
 
 -- a recipe without its action
 abbrev pub top_of : Recipe → Top

@@ -1,25 +1,42 @@
-//! Recipes that deliver to mailboxes (procmailrc(5), "Recipe action line").
-ghost use Rattle.std.specs.Prelude.{◌≡◌};
+//! Recipes that deliver to mailboxes (procmailrc(5), "Recipe action line"), and default mailboxes.
+ghost use Rattle.std.specs.Prelude.{◌≡◌, false};
 ghost use Rattle.pm_journal.specs.Executed.{Carries};
+ghost use Rattle.pm_subst.specs.declared.kinds.Mode.TheVariants.{Many};
 ghost use Rattle.pm_journal.specs.Held.{Keeping};
 ghost use Rattle.pm_recipe.specs.View.{act_of};
-ghost use Rattle.pm_meaning.specs.Delivering.{is_plain as is_plain_top, say_filed as told, all_stored};
-ghost use Rattle.pm_meaning.specs.Delivering.{deliver_to, deliver, run_recipe};
+ghost use Rattle.pm_meaning.specs.Locks.{blamed_text as blamed};
+ghost use Rattle.pm_meaning.specs.Delivering.{is_plain as is_plain_top, attempt_turn, filed_turn};
+ghost use Rattle.pm_meaning.specs.Delivering.{file_and_say as filed_and_said};
+ghost use Rattle.pm_meaning.specs.Turns.{has_command};
+ghost use Rattle.pm_meaning.specs.Delivering.{refuse_name, deliver_at as to_names, deliver_named as to_usable};
+ghost use Rattle.pm_meaning.specs.Delivering.{deliver_to as to_words, deliver_text as by_value, deliver, run_recipe};
 ghost use Rattle.pm_meaning.specs.Minds.{Mind, mind_of};
+ghost use Rattle.pm_meaning.specs.Running.{deliver_default as to_default, no_flags as none_flags};
+ghost use Rattle.pm_actions.specs.Copies.{IsFreeLock};
 ghost use Rattle.pm_actions.specs.Names.{top_of};
 ghost use Rattle.pm_actions.specs.Turning.{turn_of};
 
-use crate::expanding::{Expansion, expand_text, runs_command};
-use crate::filing::file_all;
+use crate::attempting::attempt;
+use crate::expanding::{Expansion, expand_text, first_word, runs_command};
+use crate::locks::{any_held, blamed_text, full_lock, full_names, is_taken, lock_name, lock_text, lock_word};
 use crate::names::{file_names, has_folder};
+use crate::saying::{attempt_lines, say_each};
 use crate::skipping::skip_value;
 use pm_acts::{Outside, say};
-use pm_bytes::{Blob, Memory};
-use pm_journal::{Journal, bytes_left, couldnt_write, unusable_name};
-use pm_meaning::{End, Filed, Process};
+use pm_bytes::{Blob, Memory, Name, NameRefused};
+use pm_journal::{Journal, unusable_name};
+use pm_meaning::{Attempt, End, Filed, Process};
 use pm_recipe::{Action, Flags, Recipe};
 use pm_subst::Mode;
 use std::alloc::Global;
+
+// What an action asks for: its flags, the text of its lock file, and its own text.
+#[derive(Drop)]
+struct Order<'a> {
+    flags: Flags,
+    lock: &'a Option<Blob>,
+    text: &'a [u8],
+}
 
 /// Carries a recipe out that is matched without conditions.
 pub fn perform<D: Outside>(
@@ -41,134 +58,282 @@ pub fn perform<D: Outside>(
     }
     match &recipe.action {
         Action::Mailbox(text) => {
-            deliver_text(
-                alloc,
-                recipe.flags,
-                text.as_slice(),
-                process,
-                outside,
-                journal,
-            )
+            let order = Order {
+                flags: recipe.flags,
+                lock: &recipe.lock,
+                text: text.as_slice(),
+            };
+            deliver_mail(alloc, &order, process, outside, journal)
         }
         _ => Ok(Some(End::NotBuilt)),
     }
 }
 
-// Whether the recipe has no lock and no condition, and isn't tied to the recipes before it.
+// Whether the recipe has no condition, and isn't tied to the recipes before it.
 fn is_plain(recipe: &Recipe) -> bool
     ensures { result ≡ is_plain_top (top_of recipe.now) }
 {
     let flags = recipe.flags;
-    recipe.lock.is_none()
-        && recipe.conditions.is_empty()
+    recipe.conditions.is_empty()
         && !(flags.and_chain || flags.and_ok || flags.or_else || flags.on_error)
 }
 
-// Expands the text into destinations, and delivers to them.
-fn deliver_text<D: Outside>(
+/// Delivers to a default mailbox, under its automatic lock file.
+pub fn deliver_default<D: Outside>(
     alloc: Global,
-    flags: Flags,
-    text: &[u8],
+    mailbox: &Blob,
     process: &mut Process,
     outside: &mut D,
     journal: &mut Journal,
 ) -> Result<Option<End>, Memory>
     requires keeping { Keeping journal.old process.old.locks.names }
-    ensures carries { Carries (deliver flags text.now (mind_of process.old))
+    ensures carries { Carries (to_default mailbox.now (mind_of process.old))
         (λ end. turn_of end (mind_of process.new)) result
         journal.old journal.new (D.told outside.old) (D.told outside.new) }
     ensures keeping { Keeping journal.new process.new.locks.names }
 {
-    if runs_command(alloc, text, Mode::Many)? {
+    let lock = Some(Blob::empty(alloc));
+    let word = mailbox.copy(alloc)?;
+    let order = Order {
+        flags: no_flags(),
+        lock: &lock,
+        text: mailbox.as_slice(),
+    };
+    deliver_to_words(alloc, &order, Blob::empty(alloc), &[word], process, outside, journal)
+}
+
+// The flags of a recipe that has no letters.
+fn no_flags() -> Flags
+    ensures { result ≡ none_flags }
+{
+    Flags {
+        search_head: false,
+        search_body: false,
+        distinguish: false,
+        feed_head: false,
+        feed_body: false,
+        filter: false,
+        copy: false,
+        wait: false,
+        wait_quiet: false,
+        ignore: false,
+        raw: false,
+        and_chain: false,
+        and_ok: false,
+        or_else: false,
+        on_error: false,
+    }
+}
+
+// Expands the text of the lock file, and then delivers.
+fn deliver_mail<D: Outside>(
+    alloc: Global,
+    order: &Order<'_>,
+    process: &mut Process,
+    outside: &mut D,
+    journal: &mut Journal,
+) -> Result<Option<End>, Memory>
+    requires keeping { Keeping journal.old process.old.locks.names }
+    ensures carries { let o = order.now in
+        Carries (deliver o.flags o.lock.now o.text.now (mind_of process.old))
+        (λ end. turn_of end (mind_of process.new)) result
+        journal.old journal.new (D.told outside.old) (D.told outside.new) }
+    ensures keeping { Keeping journal.new process.new.locks.names }
+{
+    let lock = lock_text(order.lock);
+    let lock_runs = runs_command(alloc, lock, Mode::One)?;
+    let text_runs = runs_command(alloc, order.text, Mode::Many)?;
+    if lock_runs || text_runs {
         return Ok(Some(End::NotBuilt));
     }
-    match expand_text(alloc, text, Mode::Many, &process.vars)? {
+    match expand_text(alloc, lock, Mode::One, &process.vars)? {
         Expansion::Words(words) => {
-            deliver_to_words(
-                alloc,
-                flags,
-                text,
-                words.as_slice(),
-                process,
-                outside,
-                journal,
-            )
+            let value = first_word(alloc, words);
+            deliver_text(alloc, order, value, process, outside, journal)
         }
         Expansion::TooLong(length) => skip_value(alloc, length, process, outside, journal),
     }
 }
 
-// Delivers to these destinations, if each can be a file's name.
+// Expands the text of the action into destinations, and delivers to them.
+fn deliver_text<D: Outside>(
+    alloc: Global,
+    order: &Order<'_>,
+    value: Blob,
+    process: &mut Process,
+    outside: &mut D,
+    journal: &mut Journal,
+) -> Result<Option<End>, Memory>
+    requires commands { has_command Many order.now.text.now ≡ false }
+    requires keeping { Keeping journal.old process.old.locks.names }
+    ensures carries { let o = order.now in
+        Carries (by_value o.flags o.lock.now value o.text.now (mind_of process.old))
+        (λ end. turn_of end (mind_of process.new)) result
+        journal.old journal.new (D.told outside.old) (D.told outside.new) }
+    ensures keeping { Keeping journal.new process.new.locks.names }
+{
+    match expand_text(alloc, order.text, Mode::Many, &process.vars)? {
+        Expansion::Words(words) => {
+            deliver_to_words(alloc, order, value, words.as_slice(), process, outside, journal)
+        }
+        Expansion::TooLong(length) => skip_value(alloc, length, process, outside, journal),
+    }
+}
+
+// Delivers to these destinations, if there is one and the lock file's name can be used.
 fn deliver_to_words<D: Outside>(
     alloc: Global,
-    flags: Flags,
-    text: &[u8],
+    order: &Order<'_>,
+    value: Blob,
     words: &[Blob],
     process: &mut Process,
     outside: &mut D,
     journal: &mut Journal,
 ) -> Result<Option<End>, Memory>
     requires keeping { Keeping journal.old process.old.locks.names }
-    ensures carries { Carries (deliver_to flags text.now words.now (mind_of process.old))
+    ensures carries { let o = order.now in
+        Carries (to_words o.flags o.lock.now value o.text.now words.now (mind_of process.old))
+        (λ end. turn_of end (mind_of process.new)) result
+        journal.old journal.new (D.told outside.old) (D.told outside.new) }
+    ensures keeping { Keeping journal.new process.new.locks.names }
+{
+    if words.len() == 0 {
+        return refuse(alloc, order.text, process, outside, journal);
+    }
+    let word = lock_word(alloc, order.lock, value, words, process)?;
+    match lock_name(alloc, word) {
+        Ok(lock) => deliver_named(alloc, order, lock, words, process, outside, journal),
+        Err(NameRefused::Unusable) => {
+            let text = blamed_text(order.lock, order.text);
+            refuse(alloc, text, process, outside, journal)
+        }
+        Err(NameRefused::Memory) => Err(Memory),
+    }
+}
+
+// Delivers to these destinations, if each can be a file's name.
+fn deliver_named<D: Outside>(
+    alloc: Global,
+    order: &Order<'_>,
+    lock: Option<Name>,
+    words: &[Blob],
+    process: &mut Process,
+    outside: &mut D,
+    journal: &mut Journal,
+) -> Result<Option<End>, Memory>
+    requires keeping { Keeping journal.old process.old.locks.names }
+    ensures carries { let o = order.now in
+        Carries (to_usable o.flags lock (blamed o.lock.now o.text.now) o.text.now words.now (mind_of process.old))
         (λ end. turn_of end (mind_of process.new)) result
         journal.old journal.new (D.told outside.old) (D.told outside.new) }
     ensures keeping { Keeping journal.new process.new.locks.names }
 {
     match file_names(alloc, words)? {
-        None => {
-            let line = unusable_name(alloc, text)?;
-            say(&process.locks, line, outside, journal)?;
-            Ok(None)
-        }
+        None => refuse(alloc, order.text, process, outside, journal),
         Some(names) => {
-            let names = names.as_slice();
-            if has_folder(names) {
-                return Ok(Some(End::NotBuilt));
-            }
-            let filed = file_all(alloc, flags, names, process, outside, journal)?;
-            say_filed(alloc, flags, filed, process, outside, journal)
+            let lock = full_lock(alloc, &process.base, lock)?;
+            deliver_at(alloc, order, lock, names.as_slice(), process, outside, journal)
         }
     }
 }
 
-// What comes behind the deliveries: a line where a file couldn't be written to.
-fn say_filed<D: Outside>(
+// Delivers to these destinations, if the lock file is none of them and nothing of it is held.
+fn deliver_at<D: Outside>(
     alloc: Global,
+    order: &Order<'_>,
+    lock: Option<Name>,
+    names: &[Name],
+    process: &mut Process,
+    outside: &mut D,
+    journal: &mut Journal,
+) -> Result<Option<End>, Memory>
+    requires keeping { Keeping journal.old process.old.locks.names }
+    ensures carries { let o = order.now in
+        Carries (to_names o.flags lock (blamed o.lock.now o.text.now) o.text.now names.now (mind_of process.old))
+        (λ end. turn_of end (mind_of process.new)) result
+        journal.old journal.new (D.told outside.old) (D.told outside.new) }
+    ensures keeping { Keeping journal.new process.new.locks.names }
+{
+    let files = full_names(alloc, &process.base, names)?;
+    if is_taken(&lock, files.as_slice(), &process.locks) {
+        let text = blamed_text(order.lock, order.text);
+        return refuse(alloc, text, process, outside, journal);
+    }
+    if any_held(files.as_slice(), &process.locks) {
+        return refuse(alloc, order.text, process, outside, journal);
+    }
+    if has_folder(names) {
+        return Ok(Some(End::NotBuilt));
+    }
+    file_and_say(alloc, lock, order.flags, names, process, outside, journal)
+}
+
+// Delivers, and says what came of it.
+fn file_and_say<D: Outside>(
+    alloc: Global,
+    lock: Option<Name>,
     flags: Flags,
-    filed: Filed,
+    names: &[Name],
+    process: &mut Process,
+    outside: &mut D,
+    journal: &mut Journal,
+) -> Result<Option<End>, Memory>
+    requires free { IsFreeLock lock process.old.locks.names }
+    requires keeping { Keeping journal.old process.old.locks.names }
+    ensures carries { Carries (filed_and_said flags lock names.now (mind_of process.old))
+        (λ end. turn_of end (mind_of process.new)) result
+        journal.old journal.new (D.told outside.old) (D.told outside.new) }
+    ensures keeping { Keeping journal.new process.new.locks.names }
+{
+    let attempt = attempt(alloc, lock, flags, names, process, outside, journal)?;
+    let end = end_of(flags, &attempt);
+    let lines = attempt_lines(alloc, &attempt)?;
+    say_each(lines, end, process, outside, journal)
+}
+
+// The name of a file can't be used: this is told of the text.
+fn refuse<D: Outside>(
+    alloc: Global,
+    text: &[u8],
     process: &Process,
     outside: &mut D,
     journal: &mut Journal,
 ) -> Result<Option<End>, Memory>
     requires keeping { Keeping journal.old process.now.locks.names }
-    ensures carries { Carries (told flags filed (mind_of process.now))
+    ensures carries { Carries (refuse_name text.now (mind_of process.now))
         (λ end. turn_of end (mind_of process.now)) result
         journal.old journal.new (D.told outside.old) (D.told outside.new) }
     ensures keeping { Keeping journal.new process.now.locks.names }
 {
-    match filed {
-        Filed::Stored => Ok(end_of(flags)),
-        Filed::Folder => Ok(Some(End::NotBuilt)),
-        Filed::Unwritten(name) => {
-            let line = couldnt_write(alloc, &name)?;
-            say(&process.locks, line, outside, journal)?;
-            Ok(None)
-        }
-        Filed::Left { name, count } => {
-            let line = bytes_left(alloc, count, &name)?;
-            say(&process.locks, line, outside, journal)?;
-            Ok(None)
-        }
+    let line = unusable_name(alloc, text)?;
+    say(&process.locks, line, outside, journal)?;
+    Ok(None)
+}
+
+// What comes behind an attempt.
+fn end_of(flags: Flags, attempt: &Attempt) -> Option<End>
+    ensures { (p : Mind) → attempt_turn flags attempt.now p ≡ turn_of result p }
+{
+    match attempt {
+        Attempt::Unlocked(filed) => filed_end(flags, filed),
+        Attempt::NotLocked(_) => None,
+        Attempt::Locked { filed, .. } => filed_end(flags, filed),
     }
 }
 
-// A copy doesn't end the process.
-fn end_of(flags: Flags) -> Option<End>
-    ensures { (p : Mind) → all_stored flags p ≡ turn_of result p }
+// A copy doesn't end the process, and delivery to folders isn't built yet.
+fn filed_end(flags: Flags, filed: &Filed) -> Option<End>
+    ensures { (p : Mind) → filed_turn flags filed.now p ≡ turn_of result p }
 {
-    if flags.copy {
-        None
-    } else {
-        Some(End::Delivered)
+    match filed {
+        Filed::Stored => {
+            if flags.copy {
+                None
+            } else {
+                Some(End::Delivered)
+            }
+        }
+        Filed::Folder => Some(End::NotBuilt),
+        Filed::Unwritten(_) | Filed::Left { .. } => None,
     }
 }

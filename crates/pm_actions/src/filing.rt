@@ -1,12 +1,12 @@
 //! The mail goes to files, one destination after the other. All memory is taken before the first of them, so that none
 //! can be wanting between two deliveries or right behind one.
-ghost use Rattle.std.specs.Prelude.{◌≡◌, ◌+◌, ◌≤◌, length, map, IfOk, OnErr};
+ghost use Rattle.std.specs.Prelude.{◌≡◌, ◌+◌, ◌≤◌, length, map, IfOk};
 ghost use Rattle.pm_bytes.specs.Path.{full_name};
 ghost use Rattle.pm_journal.specs.Appending.{append_reply};
-ghost use Rattle.pm_journal.specs.Executed.{Carries, Executes};
+ghost use Rattle.pm_journal.specs.Executed.{Executes};
 ghost use Rattle.pm_journal.specs.Held.{Keeping};
-ghost use Rattle.pm_meaning.specs.Delivering.{feed_of, filed_by, is_nothing as is_null_device, file_at};
-ghost use Rattle.pm_meaning.specs.Delivering.{file_all as each_filed};
+ghost use Rattle.pm_meaning.specs.Delivering.{feed_of, filed_by, file_at};
+ghost use Rattle.pm_meaning.specs.Locks.{is_nothing as is_null_device};
 ghost use Rattle.pm_meaning.specs.Minds.{mind_of};
 ghost use Rattle.pm_actions.specs.Copies.{copy_for, remembered, file_copies, filing_of, mind_after};
 ghost use Rattle.pm_actions.specs.Copies.{is_stored_end, AllShown};
@@ -22,39 +22,18 @@ use pm_vars::Vars;
 use std::alloc::Global;
 use std::collections::VecDeque;
 
-// One destination with all that is wanted for it: its name for the entry and for the line where it fails, the piece, and
-// the variables once it has the mail.
+/// One destination with all that is wanted for it: its name for the entry and for the line where it fails, the piece, and
+/// the variables once it has the mail.
 #[derive(Drop)]
-struct Copy {
+pub struct Copy {
     name: Name,
     shown: Name,
     piece: Blob,
     vars: Vars,
 }
 
-/// Delivers to each destination in order, up to one that doesn't get the mail.
-pub fn file_all<D: Outside>(
-    alloc: Global,
-    flags: Flags,
-    words: &[Name],
-    process: &mut Process,
-    outside: &mut D,
-    journal: &mut Journal,
-) -> Result<Filed, Memory>
-    requires keeping { Keeping journal.old process.old.locks.names }
-    ensures carries { Carries (each_filed flags words.now (mind_of process.old))
-        (λ filed. filing_of filed (mind_of process.new)) result
-        journal.old journal.new (D.told outside.old) (D.told outside.new) }
-    ensures untouched { OnErr result (journal.new.entries ≡ journal.old.entries) }
-    ensures keeping { Keeping journal.new process.new.locks.names }
-{
-    let copies = copies_for(alloc, flags, words, process)?;
-    journal.reserve(process.locks.len() + copies.len())?;
-    let filed = append_all(copies, process, outside, journal);
-    Ok(filed)
-}
-
-fn copies_for(
+/// The destinations in order, each with all that is wanted for it.
+pub fn copies_for(
     alloc: Global,
     flags: Flags,
     words: &[Name],
@@ -108,8 +87,8 @@ fn remembering(alloc: Global, word: &Name, vars: &Vars) -> Result<Vars, Memory>
     Ok(copy)
 }
 
-// It takes no memory.
-fn append_all<D: Outside>(
+/// Delivers to each destination in order, up to one that doesn't get the mail. It takes no memory.
+pub fn append_all<D: Outside>(
     mut copies: VecDeque<Copy>,
     process: &mut Process,
     outside: &mut D,
@@ -121,6 +100,7 @@ fn append_all<D: Outside>(
     ensures files { Executes (file_copies copies.items (mind_of process.old))
         (filing_of result (mind_of process.new))
         journal.old journal.new (D.told outside.old) (D.told outside.new) }
+    ensures locks { process.new.locks ≡ process.old.locks }
     ensures keeping { Keeping journal.new process.new.locks.names }
 {
     while let Some(copy) = copies.pop_front() {

@@ -2,13 +2,16 @@
 //! lines behind it.
 #![tactic(auto)]
 
+pub mod attempting;
 pub mod delivering;
 pub mod expanding;
 pub mod filing;
+pub mod locks;
 pub mod names;
+pub mod saying;
 pub mod skipping;
 
-pub use delivering::perform;
+pub use delivering::{deliver_default, perform};
 pub use expanding::{Expansion, expand_text, first_word, runs_command};
 pub use names::file_name;
 pub use skipping::skip_value;

@@ -193,9 +193,19 @@ fn call_text(call: &Call) -> &'static str {
         Call::Read { .. } => "read",
         Call::Create { .. } => "create",
         Call::Append { .. } => "append",
+        Call::Sync { .. } => "sync",
         Call::Cut { .. } => "cut",
         Call::Remove { .. } => "remove",
+        Call::Rename { .. } => "rename",
+        Call::MakeFolder { .. } => "make_folder",
+        Call::Names { .. } => "names",
+        Call::Age { .. } => "age",
+        Call::Sleep { .. } => "sleep",
         Call::Now => "now",
+        Call::Start { .. } => "start",
+        Call::Feed { .. } => "feed",
+        Call::Take { .. } => "take",
+        Call::Finish => "finish",
     }
 }
 

@@ -1,8 +1,12 @@
 //! Runs the program over files, a source and sinks in memory.
+ghost use Rattle.std.specs.Prelude.{◌≡◌, IfOk};
+ghost use Rattle.pm_memory.specs.Host.{child_of};
+
 use crate::left::push_left;
-use crate::plan::{Choice, Plan};
+use crate::plan::{Choice, Limit, Plan, Stands};
 use case_file::{Refused, Told};
 use pm_bytes::{Environ, Name, Pair, Pairs};
+use pm_host::Child;
 use pm_journal::Journal;
 use pm_memory::{MemoryHost, MemorySink, MemorySource};
 use pm_top::procmail;
@@ -55,24 +59,46 @@ pub fn run(plan: &Plan, choice: Choice) -> Result<Told, Refused> {
     Ok(told)
 }
 
-fn host_of(alloc: Global, plan: &Plan, failing: [u64; 2]) -> Result<MemoryHost, Refused> {
+// The host as a case has it; no child runs in it.
+fn host_of(alloc: Global, plan: &Plan, failing: [u64; 2]) -> Result<MemoryHost, Refused>
+    ensures { IfOk result (λ host. child_of host ≡ Child.NoChild) }
+{
     let mut host = MemoryHost::new(alloc, plan.moment, CALLS)?;
-    for stands in &plan.stands {
+    put_all(&mut host, &plan.stands)?;
+    fail_each(&mut host, &plan.fails)?;
+    fail_each(&mut host, &failing)?;
+    limit_each(&mut host, &plan.limits)?;
+    Ok(host)
+}
+
+fn put_all(host: &mut MemoryHost, all: &[Stands]) -> Result<(), Refused>
+    ensures { child_of host.new ≡ child_of host.old }
+{
+    for stands in all {
         match &stands.bytes {
             Some(bytes) => host.put_file(stands.name.as_str(), bytes, 0)?,
             None => host.put_folder(stands.name.as_str())?,
         }
     }
-    for call in &plan.fails {
+    Ok(())
+}
+
+fn fail_each(host: &mut MemoryHost, calls: &[u64]) -> Result<(), Refused>
+    ensures { child_of host.new ≡ child_of host.old }
+{
+    for call in calls {
         host.fail(*call)?;
     }
-    for call in failing {
-        host.fail(call)?;
-    }
-    for limit in &plan.limits {
+    Ok(())
+}
+
+fn limit_each(host: &mut MemoryHost, limits: &[Limit]) -> Result<(), Refused>
+    ensures { child_of host.new ≡ child_of host.old }
+{
+    for limit in limits {
         host.limit(limit.call, limit.most.max(1))?;
     }
-    Ok(host)
+    Ok(())
 }
 
 fn environment(alloc: Global, plan: &Plan) -> Result<Environ, Refused> {

@@ -1,24 +1,32 @@
 -- A process is delivered only by done appends to all destinations of a recipe to which it came.
 use Rattle.std.proofs.Common.{◌≡◌, ◌⊎◌, inl, inr, ℕ, zero, suc, Bool, true, false, not, List, [], ◌∷◌, ◌++◌, Option, Some, None, refl, sym, ap, ◌∙◌, subst, append_assoc, append-nil}
-use Rattle.std.specs.Prelude.{if◌then◌else◌}
+use Rattle.std.specs.Prelude.{if◌then◌else◌, map, ◌||◌}
 use Rattle.std.specs.List.{list_any}
+use Rattle.pm_bytes.specs.Path.{full_name}
 use Rattle.pm_bytes.specs.declared.environment.Environ.{Environ}
 use Rattle.pm_recipe.specs.Tree.{Top, Act as Action, Mailbox, Tree, Assign, Unset, Recipe, Defect}
 use Rattle.pm_recipe.specs.declared.tree.Flags.{Flags}
 use Rattle.pm_subst.specs.Words.{words_in}
-use Rattle.pm_subst.specs.declared.kinds.Mode.TheVariants.{Many}
-use Rattle.pm_journal.specs.LogText.{couldnt_write_line, bytes_left_line, skipped_line, unusable_name_line}
+use Rattle.pm_subst.specs.declared.kinds.Mode.TheVariants.{One, Many}
+use Rattle.pm_journal.specs.LogText.{skipped_line, unusable_name_line}
 use Rattle.pm_journal.specs.declared.acts.Entry.{Entry}
-use Rattle.pm_journal.specs.Held.{AreUnlocks}
+use Rattle.pm_journal.specs.Held.{AreUnlocks, without}
+use Rattle.pm_journal.specs.Locking.{lock_act}
+use Rattle.pm_journal.specs.declared.locking.LockRule.{LockRule}
+use Rattle.pm_journal.specs.declared.acts.Reply.{Reply}
+use Rattle.pm_journal.specs.declared.acts.Reply.TheVariants.{Held}
 use Rattle.pm_journal.specs.Plan.{Plan, Ends, and_then, Plays}
 use Rattle.pm_journal.specs.Walking.{Next, Stop, Go, walk, reach, Means}
 use Rattle.pm_journal.proofs.PlanJoin.{plays_then}
 use Rattle.pm_meaning.specs.Minds.{Mind}
 use Rattle.pm_meaning.specs.Turns.{Turn, GoesOn, Halts, not_built, say_then, has_command, is_too_long, skip_value}
-use Rattle.pm_meaning.specs.Delivering.{is_plain, mailbox_piece, is_folder_name, file_all, say_filed, are_file_texts, deliver_to, deliver, act_on, run_recipe}
-use Rattle.pm_meaning.specs.Running.{State, Arrived, Running, Over, Item, Open, Do, step, statement, next_of, ending}
-use Rattle.pm_meaning.specs.Laws.{files_of, AreDone, DeliversLast}
+use Rattle.pm_meaning.specs.Assigning.{value_in}
+use Rattle.pm_meaning.specs.Locks.{text_or, rule_of, lock_word, blamed_text, is_lock_word, full_lock, is_taken, any_held, with_lock}
+use Rattle.pm_meaning.specs.Delivering.{is_plain, mailbox_piece, is_folder_name, Filing, file_all, Attempted, give_back, under_lock, attempt, attempt_lines, filed_turn, attempt_turn, say_each, after_attempt, file_and_say, are_file_texts, refuse_name, deliver_at, deliver_named, is_without, deliver_to, deliver_text, deliver, act_on, run_recipe}
+use Rattle.pm_meaning.specs.Running.{State, Arrived, Running, FallingOff, Over, Item, Open, Do, no_flags, deliver_default, default_mailboxes, next_default, step, statement, next_of, ending}
+use Rattle.pm_meaning.specs.Laws.{files_of, AreDone, IsGot, IsGiven, AreLines, IsFiled, DeliversAt, DeliversLast}
 use Rattle.pm_meaning.specs.declared.command_line.CommandLine.{CommandLine}
+use Rattle.pm_meaning.specs.declared.process.Attempt.TheVariants.{Unlocked, NotLocked, Locked}
 use Rattle.pm_meaning.specs.declared.process.Filed.{Filed}
 use Rattle.pm_meaning.specs.declared.process.Filed.TheVariants.{Stored, Unwritten, Left, Folder}
 use Rattle.pm_meaning.specs.declared.process.End.{End}
@@ -27,18 +35,13 @@ use Rattle.pm_meaning.specs.declared.process.Ending.{Ending}
 use Rattle.pm_meaning.proofs.OneOutcome.{not_over}
 use Rattle.pm_meaning.proofs.Unlocks.{all_given}
 use Rattle.pm_meaning.proofs.StoredDone.{stored_is_done}
-use Rattle.pm_meaning.proofs.NoDelivery.{parts_of, is_delivered, delivers, never_built, never_told, never_skipped, never_assign, never_unset, is_last, never_prepared, never_read, never_falls}
+use Rattle.pm_meaning.proofs.NoDelivery.{parts_of, is_delivered, delivers, never_built, never_told, never_skipped, never_assign, never_unset, is_last, never_ends, never_prepared, never_read, never_lost}
 
--- what a recipe that delivers for good did, in its own entries
+-- what a delivery for good did, in its own entries
 record DeliversHere (flags : Flags) (words : List (List ℕ)) (p : Mind) (es : List Entry) : Type 0 where
   final : flags.copy ≡ false
   usable : are_file_texts words ≡ true
-  done : AreDone (mailbox_piece flags p) (files_of p.base words) es
-
-record DeliversText (flags : Flags) (act : Action) (p : Mind) (es : List Entry) : Type 0 where
-  text : List ℕ
-  is : act ≡ Mailbox text
-  here : DeliversHere flags (words_in Many p.vars [] text) p es
+  filed : IsFiled (mailbox_piece flags p) (files_of p.base words) es
 
 record DeliversTree (tree : Tree) (p : Mind) (es : List Entry) : Type 0 where
   top : Top
@@ -48,73 +51,184 @@ record DeliversTree (tree : Tree) (p : Mind) (es : List Entry) : Type 0 where
   here : DeliversHere top.flags (words_in Many p.vars [] text) p es
 
 record DeliversState (s : State) (es : List Entry) : Type 0 where
-  top : Top
-  text : List ℕ
-  rest : List Item
+  flags : Flags
+  words : List (List ℕ)
   mind : Mind
-  is : s ≡ Running (Do (Recipe top (Mailbox text)) ∷ rest) mind
-  plain : is_plain top ≡ true
-  here : DeliversHere top.flags (words_in Many mind.vars [] text) mind es
-
--- all destinations have the mail, for good, and nothing more is done
-record IsFinal (flags : Flags) (filed : Filed) (es : List Entry) : Type 0 where
-  stored : filed ≡ Stored
-  final : flags.copy ≡ false
-  none : es ≡ []
+  delivers : DeliversAt s flags words mind
+  here : DeliversHere flags words mind es
 
 final_turn : (b : Bool) (p : Mind) → delivers (if b then GoesOn p else Halts Delivered p) ≡ true → b ≡ false
 final_turn true p e = let f : false ≡ true = e in absurd (cc)
 final_turn false p e = refl
 
-final_told : (flags : Flags) (filed : Filed) (p : Mind) (es : List Entry) (turn : Turn) → Plays (say_filed flags filed p) es turn → delivers turn ≡ true → IsFinal flags filed es
-final_told flags Stored p [] turn h passes = record { stored = refl; final = final_turn flags.copy p (sym (ap delivers h) ∙ passes); none = refl }
-final_told flags Stored p (e ∷ es) turn h passes = absurd h
-final_told flags (Unwritten name) p es turn h passes = absurd (never_told p (couldnt_write_line name) es turn h passes)
-final_told flags (Left name count) p es turn h passes = absurd (never_told p (bytes_left_line count name) es turn h passes)
-final_told flags Folder p es turn h passes = absurd (never_built p es turn h passes)
+-- all destinations have the mail, for good
+record IsFinal (flags : Flags) (filed : Filed) : Type 0 where
+  stored : filed ≡ Stored
+  final : flags.copy ≡ false
 
-these : (flags : Flags) (words : List (List ℕ)) (p : Mind) (es : List Entry) (turn : Turn) → are_file_texts words ≡ true
-    → Plays (and_then (file_all flags words p) (λ filing. say_filed flags filing.filed filing.mind)) es turn → delivers turn ≡ true → DeliversHere flags words p es
-these flags words p es turn usable h passes =
-    let k = parts_of (file_all flags words p) (λ filing. say_filed flags filing.filed filing.mind) es turn h in
-    let told = final_told flags k.middle.filed k.middle.mind k.rest turn k.plays_rest passes in
-    let same : es ≡ k.front = k.whole ∙ ap (λ l. k.front ++ l) told.none ∙ append-nil k.front in
-    record { final = told.final; usable = usable; done = subst (AreDone (mailbox_piece flags p) (files_of p.base words)) (sym same) (stored_is_done flags words p k.front k.middle k.plays_front told.stored) }
+final_filed : (flags : Flags) (filed : Filed) (p : Mind) → delivers (filed_turn flags filed p) ≡ true → IsFinal flags filed
+final_filed flags Stored p e = record { stored = refl; final = final_turn flags.copy p e }
+final_filed flags Folder p e = let f : false ≡ true = e in absurd (cc)
+final_filed flags (Unwritten name) p e = let f : false ≡ true = e in absurd (cc)
+final_filed flags (Left name count) p e = let f : false ≡ true = e in absurd (cc)
+
+-- lines are told, and nothing else is done
+record IsSaid (turn last : Turn) (es : List Entry) : Type 0 where
+  lines : AreLines es
+  same : last ≡ turn
+
+all_said : (p : Mind) (lines : List (List ℕ)) (turn last : Turn) (es : List Entry) → Plays (say_each p lines turn) es last → IsSaid turn last es
+all_said p [] turn last [] h = record { lines = tt; same = h }
+all_said p [] turn last (e ∷ es) h = absurd h
+all_said p (line ∷ lines) turn last [] h = absurd h
+all_said p (line ∷ lines) turn last (e ∷ es) h =
+    let k = all_said p lines turn last es h.2 in
+    record { lines = (line, h.0, k.lines); same = k.same }
+
+-- what an attempt did whose turn delivers for good
+record Files (flags : Flags) (words : List (List ℕ)) (p : Mind) (es : List Entry) : Type 0 where
+  final : flags.copy ≡ false
+  lock : Option (List ℕ)
+  got : List Entry
+  appends : List Entry
+  given : List Entry
+  whole : es ≡ got ++ (appends ++ given)
+  is_got : IsGot lock got
+  done : AreDone (mailbox_piece flags p) (files_of p.base words) appends
+  is_given : IsGiven lock given
+
+abbrev turn_after : Flags → Attempted → Turn
+turn_after flags done = attempt_turn flags done.attempt done.mind
+
+unlocked_end : (flags : Flags) (words : List (List ℕ)) (p : Mind) (es : List Entry) (done : Attempted) (filing : Filing) (front rest : List Entry) → es ≡ front ++ rest
+    → Plays (file_all flags words p) front filing → Plays (Ends (record { attempt = Unlocked filing.filed; mind = filing.mind })) rest done → delivers (turn_after flags done) ≡ true → Files flags words p es
+unlocked_end flags words p es done filing front [] whole h k passes =
+    let final = final_filed flags filing.filed filing.mind (sym (ap (λ d. delivers (turn_after flags d)) k) ∙ passes) in
+    record { final = final.final; lock = None; got = []; appends = front; given = []; whole = whole; is_got = refl; done = stored_is_done flags words p front filing h final.stored; is_given = refl }
+unlocked_end flags words p es done filing front (e ∷ rest) whole h k passes = absurd k
+
+unlocked_files : (flags : Flags) (words : List (List ℕ)) (p : Mind) (es : List Entry) (done : Attempted) → Plays (attempt None flags words p) es done → delivers (turn_after flags done) ≡ true → Files flags words p es
+unlocked_files flags words p es done h passes =
+    let f : Filing → Plan Attempted = λ filing. Ends (record { attempt = Unlocked filing.filed; mind = filing.mind }) in
+    let k = parts_of (file_all flags words p) f es done h in
+    unlocked_end flags words p es done k.middle k.front k.rest k.whole k.plays_front k.plays_rest passes
+
+-- the lock was given back, and nothing else was done
+given_end : (flags : Flags) (name : List ℕ) (forced : ℕ) (filing : Filing) (es : List Entry) (done : Attempted) → Plays (give_back name forced filing) es done → delivers (turn_after flags done) ≡ true
+    → IsGiven (Some name) es × IsFinal flags filing.filed
+given_end flags name forced filing [] done h passes = absurd h
+given_end flags name forced filing (e ∷ []) done h passes =
+    ((h.0, refl), final_filed flags filing.filed (record filing.mind { locks = without filing.mind.locks name }) (sym (ap (λ d. delivers (turn_after flags d)) h.2) ∙ passes))
+given_end flags name forced filing (e ∷ f ∷ es) done h passes = absurd h.2
+
+locked_end : (flags : Flags) (words : List (List ℕ)) (p : Mind) (name : List ℕ) (rule : LockRule) (e : Entry) (es : List Entry) (done : Attempted) (reply : Reply) → e.act ≡ lock_act name rule → e.reply ≡ reply
+    → Plays (under_lock name flags words p reply) es done → delivers (turn_after flags done) ≡ true → Files flags words p (e ∷ es)
+locked_end flags words p name rule e es done (Held sleeps forced) act is h passes =
+    let k = parts_of (file_all flags words (with_lock name p)) (give_back name forced) es done h in
+    let given = given_end flags name forced k.middle k.rest done k.plays_rest passes in
+    record {
+      final = given.1.final;
+      lock = Some name;
+      got = e ∷ [];
+      appends = k.front;
+      given = k.rest;
+      whole = ap (λ l. e ∷ l) k.whole;
+      is_got = (rule, sleeps, forced, act, is, refl);
+      done = stored_is_done flags words (with_lock name p) k.front k.middle k.plays_front given.1.stored;
+      is_given = given.0;
+    }
+locked_end flags words p name rule e [] done other act is h passes =
+    let no : false ≡ true = sym (ap (λ d. delivers (turn_after flags d)) h) ∙ passes in absurd (cc)
+locked_end flags words p name rule e (f ∷ es) done other act is h passes = absurd h
+
+attempt_files : (lock : Option (List ℕ)) (flags : Flags) (words : List (List ℕ)) (p : Mind) (es : List Entry) (done : Attempted) → Plays (attempt lock flags words p) es done → delivers (turn_after flags done) ≡ true
+    → Files flags words p es
+attempt_files None flags words p es done h passes = unlocked_files flags words p es done h passes
+attempt_files (Some name) flags words p [] done h passes = absurd h
+attempt_files (Some name) flags words p (e ∷ es) done h passes = locked_end flags words p name (rule_of p.vars) e es done e.reply h.0 refl h.2 passes
+
+filed_and_said : (flags : Flags) (lock : Option (List ℕ)) (words : List (List ℕ)) (p : Mind) (es : List Entry) (turn : Turn) → are_file_texts words ≡ true
+    → Plays (file_and_say flags lock words p) es turn → delivers turn ≡ true → DeliversHere flags words p es
+filed_and_said flags lock words p es turn usable h passes =
+    let k = parts_of (attempt lock flags words p) (after_attempt flags) es turn h in
+    let said = all_said k.middle.mind (attempt_lines k.middle.attempt) (turn_after flags k.middle) turn k.rest k.plays_rest in
+    let files = attempt_files lock flags words p k.front k.middle k.plays_front (ap delivers (sym said.same) ∙ passes) in
+    record {
+      final = files.final;
+      usable = usable;
+      filed = record {
+        lock = files.lock;
+        got = files.got;
+        appends = files.appends;
+        given = files.given;
+        lines = k.rest;
+        whole = k.whole ∙ ap (λ l. l ++ k.rest) files.whole ∙ append_assoc files.got (files.appends ++ files.given) k.rest ∙ ap (λ l. files.got ++ l) (append_assoc files.appends files.given k.rest);
+        is_got = files.is_got;
+        done = files.done;
+        is_given = files.is_given;
+        are_lines = said.lines;
+      };
+    }
 
 -- a choice that came to an end
 if_last : {R : Type 0} (P : Type 0) (b : Bool) (p q : Plan R) (es : List Entry) (end : R) → (Plays p es end → P) → (Plays q es end → P) → Plays (if b then p else q) es end → P
 if_last P true p q es end h k l = h l
 if_last P false p q es end h k l = k l
 
-delivered_to : (flags : Flags) (text : List ℕ) (words : List (List ℕ)) (p : Mind) (es : List Entry) (turn : Turn) → Plays (deliver_to flags text words p) es turn → delivers turn ≡ true
+delivered_at : (flags : Flags) (lock : Option (List ℕ)) (blamed text : List ℕ) (words : List (List ℕ)) (p : Mind) (es : List Entry) (turn : Turn) → are_file_texts words ≡ true
+    → Plays (deliver_at flags lock blamed text words p) es turn → delivers turn ≡ true → DeliversHere flags words p es
+delivered_at flags lock blamed text words p es turn usable h passes =
+    let P = DeliversHere flags words p es in
+    let filing = file_and_say flags lock words p in
+    let files : Plan Turn = if list_any is_folder_name words then not_built p else filing in
+    let free : Plan Turn = if any_held (map (full_name p.base) words) p.locks then refuse_name text p else files in
+    if_last P (is_taken lock (map (full_name p.base) words) p.locks) (refuse_name blamed p) free es turn (λ l. absurd (never_told p (unusable_name_line blamed) es turn l passes))
+    (if_last P (any_held (map (full_name p.base) words) p.locks) (refuse_name text p) files es turn (λ l. absurd (never_told p (unusable_name_line text) es turn l passes))
+    (if_last P (list_any is_folder_name words) (not_built p) filing es turn (λ l. absurd (never_built p es turn l passes)) (λ l. filed_and_said flags lock words p es turn usable l passes))) h
+
+delivered_named : (flags : Flags) (word : Option (List ℕ)) (blamed text : List ℕ) (words : List (List ℕ)) (p : Mind) (es : List Entry) (turn : Turn) → Plays (deliver_named flags word blamed text words p) es turn → delivers turn ≡ true
     → DeliversHere flags words p es
-delivered_to flags text words p es turn h passes =
-    let filing : Plan Turn = and_then (file_all flags words p) (λ filing. say_filed flags filing.filed filing.mind) in
-    let rest : Plan Turn = if list_any is_folder_name words then not_built p else filing in
-    elim (are_file_texts words) as (λ b. are_file_texts words ≡ b → Plays (if not b then say_then p (unusable_name_line text) (GoesOn p) else rest) es turn → DeliversHere flags words p es) [
-      | true ↦ λ usable k. if_last (DeliversHere flags words p es) (list_any is_folder_name words) (not_built p) filing es turn (λ l. absurd (never_built p es turn l passes)) (λ l. these flags words p es turn usable l passes) k
-      | false ↦ λ usable k. absurd (never_told p (unusable_name_line text) es turn k passes)
+delivered_named flags word blamed text words p es turn h passes =
+    let last = deliver_at flags (full_lock p.base word) blamed text words p in
+    elim (are_file_texts words) as (λ b. are_file_texts words ≡ b → Plays (if not b then refuse_name text p else last) es turn → DeliversHere flags words p es) [
+      | true ↦ λ usable l. delivered_at flags (full_lock p.base word) blamed text words p es turn usable l passes
+      | false ↦ λ usable l. absurd (never_told p (unusable_name_line text) es turn l passes)
     ] refl h
 
-delivered_by : (flags : Flags) (text : List ℕ) (p : Mind) (es : List Entry) (turn : Turn) → Plays (deliver flags text p) es turn → delivers turn ≡ true → DeliversHere flags (words_in Many p.vars [] text) p es
-delivered_by flags text p es turn h passes =
-    let words = words_in Many p.vars [] text in
-    let rest : Plan Turn = if is_too_long Many text p.vars then skip_value Many text p else deliver_to flags text words p in
+delivered_to : (flags : Flags) (lock : Option (List ℕ)) (value text : List ℕ) (words : List (List ℕ)) (p : Mind) (es : List Entry) (turn : Turn) → Plays (deliver_to flags lock value text words p) es turn → delivers turn ≡ true
+    → DeliversHere flags words p es
+delivered_to flags lock value text words p es turn h passes =
     let P = DeliversHere flags words p es in
-    if_last P (has_command Many text) (not_built p) rest es turn (λ l. absurd (never_built p es turn l passes))
-    (if_last P (is_too_long Many text p.vars) (skip_value Many text p) (deliver_to flags text words p) es turn (λ l. absurd (never_skipped Many text p es turn l passes)) (λ l. delivered_to flags text words p es turn l passes)) h
+    let word = lock_word lock value words p in
+    let blamed = blamed_text lock text in
+    let last = deliver_named flags word blamed text words p in
+    let locks : Plan Turn = if not (is_lock_word word) then refuse_name blamed p else last in
+    if_last P (is_without words) (refuse_name text p) locks es turn (λ l. absurd (never_told p (unusable_name_line text) es turn l passes))
+    (if_last P (not (is_lock_word word)) (refuse_name blamed p) last es turn (λ l. absurd (never_told p (unusable_name_line blamed) es turn l passes))
+    (λ l. delivered_named flags word blamed text words p es turn l passes)) h
 
-acted : (flags : Flags) (act : Action) (p : Mind) (es : List Entry) (turn : Turn) → Plays (act_on flags act p) es turn → delivers turn ≡ true → DeliversText flags act p es
-acted flags (Mailbox text) p es turn h passes = record { text = text; is = refl; here = delivered_by flags text p es turn h passes }
-acted flags other p es turn h passes = absurd (never_built p es turn h passes)
+delivered_by : (flags : Flags) (lock : Option (List ℕ)) (text : List ℕ) (p : Mind) (es : List Entry) (turn : Turn) → Plays (deliver flags lock text p) es turn → delivers turn ≡ true → DeliversHere flags (words_in Many p.vars [] text) p es
+delivered_by flags lock text p es turn h passes =
+    let words = words_in Many p.vars [] text in
+    let P = DeliversHere flags words p es in
+    let held = text_or [] lock in
+    let value = value_in p.vars held in
+    let last = deliver_to flags lock value text words p in
+    let texts = deliver_text flags lock value text p in
+    let locks : Plan Turn = if is_too_long One held p.vars then skip_value One held p else texts in
+    if_last P (has_command One held || has_command Many text) (not_built p) locks es turn (λ l. absurd (never_built p es turn l passes))
+    (if_last P (is_too_long One held p.vars) (skip_value One held p) texts es turn (λ l. absurd (never_skipped One held p es turn l passes))
+    (if_last P (is_too_long Many text p.vars) (skip_value Many text p) last es turn (λ l. absurd (never_skipped Many text p es turn l passes))
+    (λ l. delivered_to flags lock value text words p es turn l passes))) h
 
-by_act : (top : Top) (act : Action) (p : Mind) (es : List Entry) → is_plain top ≡ true → DeliversText top.flags act p es → DeliversTree (Recipe top act) p es
-by_act top act p es plain d = record { top = top; text = d.text; is = ap (Recipe top) d.is; plain = plain; here = d.here }
+by_act : (top : Top) (act : Action) (p : Mind) (es : List Entry) (turn : Turn) → is_plain top ≡ true → Plays (act_on top act p) es turn → delivers turn ≡ true → DeliversTree (Recipe top act) p es
+by_act top (Mailbox text) p es turn plain h passes = record { top = top; text = text; is = refl; plain = plain; here = delivered_by top.flags top.lock text p es turn h passes }
+by_act top other p es turn plain h passes = absurd (never_built p es turn h passes)
 
 by_recipe : (top : Top) (act : Action) (p : Mind) (es : List Entry) (turn : Turn) → Plays (run_recipe top act p) es turn → delivers turn ≡ true → DeliversTree (Recipe top act) p es
 by_recipe top act p es turn h passes =
-    elim (is_plain top) as (λ b. is_plain top ≡ b → Plays (if b then act_on top.flags act p else not_built p) es turn → DeliversTree (Recipe top act) p es) [
-      | true ↦ λ plain k. by_act top act p es plain (acted top.flags act p es turn k passes)
+    elim (is_plain top) as (λ b. is_plain top ≡ b → Plays (if b then act_on top act p else not_built p) es turn → DeliversTree (Recipe top act) p es) [
+      | true ↦ λ plain k. by_act top act p es turn plain k passes
       | false ↦ λ plain k. absurd (never_built p es turn k passes)
     ] refl h
 
@@ -129,6 +243,10 @@ last_turn : (rest : List Item) (turn : Turn) → is_last (next_of rest turn) ≡
 last_turn rest (GoesOn p) e = e
 last_turn rest (Halts end p) e = e
 
+last_default : (rest : List (List ℕ)) (turn : Turn) → is_last (next_default rest turn) ≡ true → delivers turn ≡ true
+last_default rest (GoesOn p) e = e
+last_default rest (Halts end p) e = e
+
 by_turn : (rest : List Item) (turn : Turn) (tree : Tree) (p : Mind) (front later : List Entry) (next : Next State Ending)
     → Plays (statement tree p) front turn → Plays (Ends (next_of rest turn)) later next → is_last next ≡ true → DeliversTree tree p (front ++ later)
 by_turn rest turn tree p front [] next h k passes =
@@ -136,7 +254,24 @@ by_turn rest turn tree p front [] next h k passes =
 by_turn rest turn tree p front (e ∷ later) next h k passes = absurd k
 
 by_tree : (tree : Tree) (rest : List Item) (p : Mind) (es : List Entry) → DeliversTree tree p es → DeliversState (Running (Do tree ∷ rest) p) es
-by_tree tree rest p es d = record { top = d.top; text = d.text; rest = rest; mind = p; is = ap (λ t. Running (Do t ∷ rest) p) d.is; plain = d.plain; here = d.here }
+by_tree tree rest p es d = record {
+  flags = d.top.flags;
+  words = words_in Many p.vars [] d.text;
+  mind = p;
+  delivers = subst (λ t. DeliversAt (Running (Do t ∷ rest) p) d.top.flags (words_in Many p.vars [] d.text) p) (sym d.is) (d.plain, refl, refl, refl);
+  here = d.here;
+}
+
+by_default : (mailbox : List ℕ) (rest : List (List ℕ)) (p : Mind) (turn : Turn) (front later : List Entry) (next : Next State Ending)
+    → Plays (deliver_default mailbox p) front turn → Plays (Ends (next_default rest turn)) later next → is_last next ≡ true → DeliversState (FallingOff (mailbox ∷ rest) p) (front ++ later)
+by_default mailbox rest p turn front [] next h k passes = record {
+  flags = no_flags;
+  words = mailbox ∷ [];
+  mind = p;
+  delivers = (refl, refl, refl);
+  here = subst (DeliversHere no_flags (mailbox ∷ []) p) (sym (append-nil front)) (delivered_to no_flags (Some []) [] mailbox (mailbox ∷ []) p front turn h (last_default rest turn (sym (ap is_last k) ∙ passes)));
+}
+by_default mailbox rest p turn front (e ∷ later) next h k passes = absurd k
 
 -- the process is over as delivered, and gives its locks back
 record IsOver (s : State) (es : List Entry) : Type 0 where
@@ -149,12 +284,18 @@ delivered_end Delivered h = refl
 delivered_end other h = let e : false ≡ true = h in absurd (cc)
 
 running_last : (items : List Item) (p : Mind) (es : List Entry) (next : Next State Ending) → Plays (step (Running items p)) es next → is_last next ≡ true → DeliversState (Running items p) es
-running_last [] p es next h passes = absurd (never_falls p es next h passes)
+running_last [] p es next h passes = absurd (never_ends is_last (Go (FallingOff (default_mailboxes p.vars) p)) refl es next h passes)
 running_last (Open name ∷ rest) p es next h passes = absurd (never_read name rest p es next h passes)
 running_last (Do tree ∷ rest) p es next h passes =
     let f : Turn → Plan (Next State Ending) = λ turn. Ends (next_of rest turn) in
     let k = parts_of (statement tree p) f es next h in
     by_tree tree rest p es (subst (DeliversTree tree p) (sym k.whole) (by_turn rest k.middle tree p k.front k.rest next k.plays_front k.plays_rest passes))
+
+falling_last : (mailboxes : List (List ℕ)) (p : Mind) (es : List Entry) (next : Next State Ending) → Plays (step (FallingOff mailboxes p)) es next → is_last next ≡ true → DeliversState (FallingOff mailboxes p) es
+falling_last [] p es next h passes = absurd (never_lost p es next h passes)
+falling_last (mailbox ∷ rest) p es next h passes =
+    let k = parts_of (deliver_default mailbox p) (λ turn. Ends (next_default rest turn)) es next h in
+    subst (DeliversState (FallingOff (mailbox ∷ rest) p)) (sym k.whole) (by_default mailbox rest p k.middle k.front k.rest next k.plays_front k.plays_rest passes)
 
 -- a statement doesn't end the run
 no_stop : (rest : List Item) (turn : Turn) (es : List Entry) (z : Ending) → Plays (Ends (next_of rest turn)) es (Stop z) → ⊥
@@ -162,13 +303,21 @@ no_stop rest (GoesOn p) [] z h = let e : Stop z ≡ Go (Running rest p) = h in c
 no_stop rest (Halts end p) [] z h = let e : Stop z ≡ Go (Over end p) = h in cc
 no_stop rest turn (e ∷ es) z h = h
 
+no_default_stop : (rest : List (List ℕ)) (turn : Turn) (es : List Entry) (z : Ending) → Plays (Ends (next_default rest turn)) es (Stop z) → ⊥
+no_default_stop rest (GoesOn p) [] z h = let e : Stop z ≡ Go (FallingOff rest p) = h in cc
+no_default_stop rest (Halts end p) [] z h = let e : Stop z ≡ Go (Over end p) = h in cc
+no_default_stop rest turn (e ∷ es) z h = h
+
 -- only a process that is over ends the run, and it gives its locks back alone
 stops : (s : State) (es : List Entry) (z : Ending) → Plays (step s) es (Stop z) → z.end ≡ Delivered → IsOver s es
 stops (Arrived line env bytes) es z h good = absurd (never_prepared line env bytes es (Stop z) h refl)
-stops (Running [] p) es z h good = absurd (never_falls p es (Stop z) h refl)
+stops (Running [] p) es z h good = absurd (never_ends is_last (Go (FallingOff (default_mailboxes p.vars) p)) refl es (Stop z) h refl)
 stops (Running (Open name ∷ rest) p) es z h good = absurd (never_read name rest p es (Stop z) h refl)
 stops (Running (Do tree ∷ rest) p) es z h good =
     let k = parts_of (statement tree p) (λ turn. Ends (next_of rest turn)) es (Stop z) h in absurd (no_stop rest k.middle k.rest z k.plays_rest)
+stops (FallingOff [] p) es z h good = absurd (never_lost p es (Stop z) h refl)
+stops (FallingOff (mailbox ∷ rest) p) es z h good =
+    let k = parts_of (deliver_default mailbox p) (λ turn. Ends (next_default rest turn)) es (Stop z) h in absurd (no_default_stop rest k.middle k.rest z k.plays_rest)
 stops (Over end p) es z h good =
     let given = all_given p.locks (Stop (ending end p)) es (Stop z) h in
     let e : Stop z ≡ Stop (ending end p) = given.1 in
@@ -179,6 +328,7 @@ stops (Over end p) es z h good =
 last_step : (s t : State) (es : List Entry) → Plays (step s) es (Go t) → is_last (Go t) ≡ true → DeliversState s es
 last_step (Arrived line env bytes) t es h passes = absurd (never_prepared line env bytes es (Go t) h passes)
 last_step (Running items p) t es h passes = running_last items p es (Go t) h passes
+last_step (FallingOff mailboxes p) t es h passes = falling_last mailboxes p es (Go t) h passes
 last_step (Over end p) t es h passes =
     let given = all_given p.locks (Stop (ending end p)) es (Go t) h in
     let e : Go t ≡ Stop (ending end p) = given.1 in
@@ -199,15 +349,15 @@ at_once s front rest es held e unlocks d = record {
   whole = e;
   held = held;
   unlocks = unlocks;
-  top = d.top;
-  text = d.text;
-  rest = d.rest;
+  at = s;
+  flags = d.flags;
+  words = d.words;
   mind = d.mind;
-  comes = record { steps = zero; plays = ap (λ t. Some t) (sym d.is) };
-  plain = d.plain;
+  comes = record { steps = zero; plays = refl };
+  delivers = d.delivers;
   final = d.here.final;
   usable = d.here.usable;
-  done = d.here.done;
+  filed = d.here.filed;
 }
 
 regroup : (front before last behind : List Entry) → front ++ (before ++ last ++ behind) ≡ front ++ before ++ last ++ behind
@@ -221,18 +371,18 @@ later s t front rest es e h d = record {
   whole = e ∙ ap (λ l. front ++ l) d.whole ∙ regroup front d.before d.last d.behind;
   held = d.held;
   unlocks = d.unlocks;
-  top = d.top;
-  text = d.text;
-  rest = d.rest;
+  at = d.at;
+  flags = d.flags;
+  words = d.words;
   mind = d.mind;
-  comes = record { steps = suc d.comes.steps; plays = plays_then (step s) (on_to d.comes.steps) front d.before (Go t) (Some (Running (Do (Recipe d.top (Mailbox d.text)) ∷ d.rest) d.mind)) h d.comes.plays };
-  plain = d.plain;
+  comes = record { steps = suc d.comes.steps; plays = plays_then (step s) (on_to d.comes.steps) front d.before (Go t) (Some d.at) h d.comes.plays };
+  delivers = d.delivers;
   final = d.final;
   usable = d.usable;
-  done = d.done;
+  filed = d.filed;
 }
 
--- a process that ends so is over, or came to a recipe that delivers for good
+-- a process that ends so is over, or came to where it delivers for good
 abbrev OverOrDelivers : State → List Entry → Type 0
 OverOrDelivers s es = IsOver s es ⊎ DeliversLast s es
 

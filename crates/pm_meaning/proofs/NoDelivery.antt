@@ -22,7 +22,7 @@ use Rattle.pm_meaning.specs.Minds.{Mind}
 use Rattle.pm_meaning.specs.Turns.{Turn, GoesOn, Halts, not_built, say_then, has_command, is_too_long, skip_value}
 use Rattle.pm_meaning.specs.Assigning.{is_later, leads_elsewhere, value_in, is_file_text, probed, change_folder, assigned, assign, unset}
 use Rattle.pm_meaning.specs.FirstValues.{login_name}
-use Rattle.pm_meaning.specs.Running.{State, Running, Over, Item, renewal, begun, dated, prepare, unread, ahead, after_read, has_default, fall_off}
+use Rattle.pm_meaning.specs.Running.{State, Running, Over, Item, renewal, begun, dated, prepare, unread, ahead, after_read}
 use Rattle.pm_meaning.specs.declared.command_line.CommandLine.{CommandLine}
 use Rattle.pm_meaning.specs.declared.process.End.{End}
 use Rattle.pm_meaning.specs.declared.process.End.TheVariants.{Delivered, FellOff, NoRc, NotBuilt}
@@ -48,7 +48,7 @@ parts_of (Asks act go_on) f (e ∷ es) end h =
 abbrev pub Never : {R : Type 0} → (R → Bool) → Plan R → Type 0
 Never {R} test plan = (es : List Entry) (end : R) → Plays plan es end → test end ≡ true → ⊥
 
-never_ends : {R : Type 0} (test : R → Bool) (other : R) → test other ≡ false → Never test (Ends other)
+pub never_ends : {R : Type 0} (test : R → Bool) (other : R) → test other ≡ false → Never test (Ends other)
 never_ends test other fails [] end h passes = let e : test end ≡ test other = ap test h in absurd (cc)
 never_ends test other fails (e ∷ es) end h passes = h
 
@@ -141,7 +141,5 @@ never_after name rest p other = never_unread name rest p
 pub never_read : (name : List ℕ) (rest : List Item) (p : Mind) → Never is_last (and_then (ask (ReadFile name)) (after_read name rest p))
 never_read name rest p = never_asked is_last (ReadFile name) (after_read name rest p) (never_after name rest p)
 
-pub never_falls : (p : Mind) → Never is_last (fall_off p)
-never_falls p =
-    never_if is_last (has_default p) (Ends (Go (Over NotBuilt p))) (say_then p no_delivery_line (Go (Over FellOff p)))
-    (never_ends is_last (Go (Over NotBuilt p)) refl) (never_said is_last p no_delivery_line (Go (Over FellOff p)) refl)
+pub never_lost : (p : Mind) → Never is_last (say_then p no_delivery_line (Go (Over FellOff p)))
+never_lost p = never_said is_last p no_delivery_line (Go (Over FellOff p)) refl

@@ -10,7 +10,8 @@ use Rattle.pm_journal.specs.declared.acts.Entry.{Entry}
 use Rattle.pm_journal.specs.Plan.{Plan, Ends, and_then, ask, Plays}
 use Rattle.pm_meaning.specs.Changes.{stored_in}
 use Rattle.pm_meaning.specs.Minds.{Mind}
-use Rattle.pm_meaning.specs.Delivering.{Filing, mailbox_piece, filed_by, is_nothing, file_at, file_all}
+use Rattle.pm_meaning.specs.Delivering.{Filing, mailbox_piece, filed_by, file_at, file_all}
+use Rattle.pm_meaning.specs.Locks.{is_nothing}
 use Rattle.pm_meaning.specs.Laws.{files_of, AreDone}
 use Rattle.pm_meaning.specs.declared.process.Filed.{Filed}
 use Rattle.pm_meaning.specs.declared.process.Filed.TheVariants.{Stored, Unwritten, Left, Folder}

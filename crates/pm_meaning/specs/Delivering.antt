@@ -1,5 +1,5 @@
 -- What a recipe does that delivers to mailboxes.
-use Rattle.std.specs.Prelude.{ℕ, Bool, not, ◌&&◌, ◌||◌, ◌==◌, List, [], ◌∷◌, length, is_some, codes, nat_eq, bytes_eq, if◌then◌else◌}
+use Rattle.std.specs.Prelude.{ℕ, Bool, true, false, not, ◌&&◌, ◌||◌, ◌==◌, List, [], ◌∷◌, ◌++◌, Option, Some, None, length, map, codes, nat_eq, nat_lt, if◌then◌else◌}
 use Rattle.std.specs.List.{list_all, list_any, ends_with}
 use Rattle.pm_bytes.specs.Path.{full_name}
 use Rattle.pm_message.specs.Piece.{piece_of}
@@ -9,24 +9,29 @@ use Rattle.pm_message.specs.declared.pieces.Kind.TheVariants.{MailboxFile}
 use Rattle.pm_recipe.specs.Tree.{Top, Act, Mailbox}
 use Rattle.pm_recipe.specs.declared.tree.Flags.{Flags}
 use Rattle.pm_subst.specs.Words.{words_in}
-use Rattle.pm_subst.specs.declared.kinds.Mode.TheVariants.{Many}
-use Rattle.pm_journal.specs.LogText.{couldnt_write_line, bytes_left_line, unusable_name_line}
-use Rattle.pm_journal.specs.declared.acts.Act.TheVariants.{Append}
+use Rattle.pm_subst.specs.declared.kinds.Mode.TheVariants.{One, Many}
+use Rattle.pm_journal.specs.Held.{without}
+use Rattle.pm_journal.specs.Locking.{lock_act}
+use Rattle.pm_journal.specs.LogText.{couldnt_write_line, bytes_left_line, unusable_name_line, couldnt_lock_line, forcing_lock_line, couldnt_unlock_line}
+use Rattle.pm_journal.specs.declared.acts.Act.TheVariants.{Append, Unlock}
 use Rattle.pm_journal.specs.declared.acts.Reply.{Reply}
-use Rattle.pm_journal.specs.declared.acts.Reply.TheVariants.{Done, IsFolder, Torn}
+use Rattle.pm_journal.specs.declared.acts.Reply.TheVariants.{Done, IsFolder, Torn, Held, Faulted}
 use Rattle.pm_journal.specs.Plan.{Plan, Ends, and_then, ask}
 use Rattle.pm_meaning.specs.Changes.{stored_in}
-use Rattle.pm_meaning.specs.Turns.{Turn, GoesOn, Halts, not_built, say_then, has_command, is_too_long, skip_value}
-use Rattle.pm_meaning.specs.Assigning.{is_file_text}
+use Rattle.pm_meaning.specs.Locks.{text_or, rule_of, is_nothing, lock_word, blamed_text, is_lock_word, full_lock, is_taken, any_held, with_lock}
+use Rattle.pm_meaning.specs.Turns.{Turn, GoesOn, Halts, not_built, log_act, say_then, has_command, is_too_long, skip_value}
+use Rattle.pm_meaning.specs.Assigning.{is_file_text, value_in}
 use Rattle.pm_meaning.specs.Minds.{Mind}
-use Rattle.pm_meaning.specs.declared.process.End.TheVariants.{Delivered}
+use Rattle.pm_meaning.specs.declared.process.End.TheVariants.{Delivered, NotBuilt}
 use Rattle.pm_meaning.specs.declared.process.Filed.{Filed}
 use Rattle.pm_meaning.specs.declared.process.Filed.TheVariants.{Stored, Unwritten, Left, Folder}
+use Rattle.pm_meaning.specs.declared.process.Attempt.{Attempt}
+use Rattle.pm_meaning.specs.declared.process.Attempt.TheVariants.{Unlocked, NotLocked, Locked}
 
--- locks, conditions and the flags that tie a recipe to those before it aren't built yet
+-- conditions and the flags that tie a recipe to those before it aren't built yet
 abbrev pub is_plain : Top → Bool
 is_plain top =
-    not (is_some top.lock) && length top.conditions == 0
+    length top.conditions == 0
     && not (top.flags.and_chain || top.flags.and_ok || top.flags.or_else || top.flags.on_error)
 
 -- one of the flags h and b feeds that part alone
@@ -43,10 +48,6 @@ mailbox_piece flags p = piece_of p.message (feed_of flags) MailboxFile flags.raw
 -- a name with one of these endings is a folder's
 abbrev pub is_folder_name : List ℕ → Bool
 is_folder_name name = ends_with nat_eq name (codes "/") || ends_with nat_eq name (codes "/.")
-
--- `/dev/null` takes everything and is no file
-abbrev pub is_nothing : List ℕ → Bool
-is_nothing name = bytes_eq name (codes "/dev/null")
 
 -- what came of an append to this file
 abbrev pub filed_by : List ℕ → Reply → Filed
@@ -80,36 +81,123 @@ file_all flags (word ∷ words) p =
 abbrev pub all_stored : Flags → Mind → Turn
 all_stored flags p = if flags.copy then GoesOn p else Halts Delivered p
 
--- where a destination didn't get the mail, this is told, and the process goes on
-abbrev pub say_filed : Flags → Filed → Mind → Plan Turn
-say_filed flags Stored p = Ends (all_stored flags p)
-say_filed flags (Unwritten name) p = say_then p (couldnt_write_line name) (GoesOn p)
-say_filed flags (Left name count) p = say_then p (bytes_left_line count name) (GoesOn p)
-say_filed flags Folder p = not_built p
+-- what came of an attempt to deliver, and the process then
+pub record Attempted : Type 0 where
+  pub attempt : Attempt
+  pub mind : Mind
+
+-- a call failed
+abbrev pub is_fault : Reply → Bool
+is_fault Faulted = true
+is_fault other = false
+
+-- the lock is given back
+abbrev pub give_back : List ℕ → ℕ → Filing → Plan Attempted
+give_back name forced filing =
+    and_then (ask (Unlock name))
+    (λ reply. Ends (record { attempt = Locked name forced filing.filed (is_fault reply); mind = record filing.mind { locks = without filing.mind.locks name } }))
+
+-- where the lock was got, the destinations get the mail, and then it is given back
+abbrev pub under_lock : List ℕ → Flags → List (List ℕ) → Mind → Reply → Plan Attempted
+under_lock name flags words p (Held sleeps forced) = and_then (file_all flags words (with_lock name p)) (give_back name forced)
+under_lock name flags words p other = Ends (record { attempt = NotLocked name; mind = p })
+
+-- the destinations get the mail, under a lock file where one is asked for
+abbrev pub attempt : Option (List ℕ) → Flags → List (List ℕ) → Mind → Plan Attempted
+attempt None flags words p = and_then (file_all flags words p) (λ filing. Ends (record { attempt = Unlocked filing.filed; mind = filing.mind }))
+attempt (Some name) flags words p = and_then (ask (lock_act name (rule_of p.vars))) (under_lock name flags words p)
+
+-- this is told of the destination that didn't get the mail
+abbrev pub filed_lines : Filed → List (List ℕ)
+filed_lines (Unwritten name) = couldnt_write_line name ∷ []
+filed_lines (Left name count) = bytes_left_line count name ∷ []
+filed_lines other = []
+
+-- a line that is told where this holds
+abbrev pub line_if : Bool → List ℕ → List (List ℕ)
+line_if told line = if told then line ∷ [] else []
+
+-- what is told of an attempt: of the lock, of the destinations, and of the lock's removal
+abbrev pub attempt_lines : Attempt → List (List ℕ)
+attempt_lines (Unlocked filed) = filed_lines filed
+attempt_lines (NotLocked name) = couldnt_lock_line name ∷ []
+attempt_lines (Locked name forced filed stuck) = (line_if (nat_lt 0 forced) (forcing_lock_line name) ++ filed_lines filed) ++ line_if stuck (couldnt_unlock_line name)
+
+-- delivery to folders isn't built yet, and where a destination didn't get the mail, the process goes on
+abbrev pub filed_turn : Flags → Filed → Mind → Turn
+filed_turn flags Stored p = all_stored flags p
+filed_turn flags Folder p = Halts NotBuilt p
+filed_turn flags other p = GoesOn p
+
+-- what comes behind an attempt
+abbrev pub attempt_turn : Flags → Attempt → Mind → Turn
+attempt_turn flags (Unlocked filed) p = filed_turn flags filed p
+attempt_turn flags (NotLocked name) p = GoesOn p
+attempt_turn flags (Locked name forced filed stuck) p = filed_turn flags filed p
+
+-- each line is told, and then this comes
+abbrev pub say_each : Mind → List (List ℕ) → Turn → Plan Turn
+say_each p [] turn = Ends turn
+say_each p (line ∷ lines) turn = and_then (ask (log_act p line)) (λ reply. say_each p lines turn)
+
+-- what is told of an attempt, and what comes behind it
+abbrev pub after_attempt : Flags → Attempted → Plan Turn
+after_attempt flags done = say_each done.mind (attempt_lines done.attempt) (attempt_turn flags done.attempt done.mind)
+
+-- the mail is delivered, and what came of it is told
+abbrev pub file_and_say : Flags → Option (List ℕ) → List (List ℕ) → Mind → Plan Turn
+file_and_say flags lock words p = and_then (attempt lock flags words p) (after_attempt flags)
 
 -- a recipe needs destinations, each of which can be a file's name
 abbrev pub are_file_texts : List (List ℕ) → Bool
 are_file_texts words = not (length words == 0) && list_all is_file_text words
 
--- names that can't be used are told; folders aren't built yet; else each destination gets the mail, and what came of it is told
-abbrev pub deliver_to : Flags → List ℕ → List (List ℕ) → Mind → Plan Turn
-deliver_to flags text words p =
-    if not (are_file_texts words) then say_then p (unusable_name_line text) (GoesOn p)
-    else if list_any is_folder_name words then not_built p
-    else and_then (file_all flags words p) (λ filing. say_filed flags filing.filed filing.mind)
+-- a name can't be used: this is told, and the process goes on
+abbrev pub refuse_name : List ℕ → Mind → Plan Turn
+refuse_name text p = say_then p (unusable_name_line text) (GoesOn p)
 
--- the text is expanded into destinations by the variables as they stand
-abbrev pub deliver : Flags → List ℕ → Mind → Plan Turn
-deliver flags text p =
-    if has_command Many text then not_built p
-    else if is_too_long Many text p.vars then skip_value Many text p
-    else deliver_to flags text (words_in Many p.vars [] text) p
+-- a lock file is none of the destinations and not held yet, and no destination is a held lock file; folders aren't built yet
+abbrev pub deliver_at : Flags → Option (List ℕ) → List ℕ → List ℕ → List (List ℕ) → Mind → Plan Turn
+deliver_at flags lock blamed text words p =
+    if is_taken lock (map (full_name p.base) words) p.locks then refuse_name blamed p
+    else if any_held (map (full_name p.base) words) p.locks then refuse_name text p
+    else if list_any is_folder_name words then not_built p
+    else file_and_say flags lock words p
+
+-- there are destinations, and the name of each can be a file's
+abbrev pub deliver_named : Flags → Option (List ℕ) → List ℕ → List ℕ → List (List ℕ) → Mind → Plan Turn
+deliver_named flags word blamed text words p =
+    if not (are_file_texts words) then refuse_name text p else deliver_at flags (full_lock p.base word) blamed text words p
+
+-- there is no destination
+abbrev pub is_without : List (List ℕ) → Bool
+is_without [] = true
+is_without (word ∷ words) = false
+
+-- there are destinations, and the lock file's name can be a file's
+abbrev pub deliver_to : Flags → Option (List ℕ) → List ℕ → List ℕ → List (List ℕ) → Mind → Plan Turn
+deliver_to flags lock value text words p =
+    if is_without words then refuse_name text p
+    else if not (is_lock_word (lock_word lock value words p)) then refuse_name (blamed_text lock text) p
+    else deliver_named flags (lock_word lock value words p) (blamed_text lock text) text words p
+
+-- the action's text is expanded by the variables as they stand
+abbrev pub deliver_text : Flags → Option (List ℕ) → List ℕ → List ℕ → Mind → Plan Turn
+deliver_text flags lock value text p =
+    if is_too_long Many text p.vars then skip_value Many text p else deliver_to flags lock value text (words_in Many p.vars [] text) p
+
+-- the lock file's text is expanded before that of the action
+abbrev pub deliver : Flags → Option (List ℕ) → List ℕ → Mind → Plan Turn
+deliver flags lock text p =
+    if has_command One (text_or [] lock) || has_command Many text then not_built p
+    else if is_too_long One (text_or [] lock) p.vars then skip_value One (text_or [] lock) p
+    else deliver_text flags lock (value_in p.vars (text_or [] lock)) text p
 
 -- programs, other addresses, standard output and blocks aren't built yet
-abbrev pub act_on : Flags → Act → Mind → Plan Turn
-act_on flags (Mailbox text) p = deliver flags text p
-act_on flags other p = not_built p
+abbrev pub act_on : Top → Act → Mind → Plan Turn
+act_on top (Mailbox text) p = deliver top.flags top.lock text p
+act_on top other p = not_built p
 
 -- a recipe that is plain does its action
 abbrev pub run_recipe : Top → Act → Mind → Plan Turn
-run_recipe top act p = if is_plain top then act_on top.flags act p else not_built p
+run_recipe top act p = if is_plain top then act_on top act p else not_built p

@@ -1,8 +1,8 @@
 -- Laws of plans and processes.
-use Rattle.std.specs.Prelude.{◌≡◌, ℕ, true, false, List, [], ◌∷◌, ◌++◌, if◌then◌else◌}
+use Rattle.std.specs.Prelude.{◌≡◌, ℕ, true, false, List, [], ◌∷◌, ◌++◌, Option, Some, None, if◌then◌else◌}
 use Rattle.pm_bytes.specs.Path.{full_name}
 use Rattle.pm_bytes.specs.declared.environment.Environ.{Environ}
-use Rattle.pm_recipe.specs.Tree.{Top, Mailbox, Recipe}
+use Rattle.pm_recipe.specs.Tree.{Mailbox, Recipe}
 use Rattle.pm_recipe.specs.declared.tree.Flags.{Flags}
 use Rattle.pm_subst.specs.Words.{words_in}
 use Rattle.pm_subst.specs.declared.kinds.Mode.TheVariants.{Many}
@@ -10,12 +10,15 @@ use Rattle.pm_journal.specs.Held.{AreUnlocks}
 use Rattle.pm_journal.specs.Plan.{Plan, Plays, Wants}
 use Rattle.pm_journal.specs.Walking.{Next, Means, ArrivesAt}
 use Rattle.pm_journal.specs.declared.acts.Act.{Act}
-use Rattle.pm_journal.specs.declared.acts.Act.TheVariants.{Append}
-use Rattle.pm_journal.specs.declared.acts.Reply.TheVariants.{Done}
+use Rattle.pm_journal.specs.declared.acts.Act.TheVariants.{Append, Unlock, SayErr}
+use Rattle.pm_journal.specs.declared.acts.Reply.TheVariants.{Done, Held}
+use Rattle.pm_journal.specs.Locking.{lock_act}
+use Rattle.pm_journal.specs.declared.locking.LockRule.{LockRule}
 use Rattle.pm_journal.specs.declared.acts.Entry.{Entry}
-use Rattle.pm_meaning.specs.Delivering.{Filing, is_plain, is_nothing, mailbox_piece, are_file_texts, file_all}
+use Rattle.pm_meaning.specs.Delivering.{Filing, is_plain, mailbox_piece, are_file_texts, file_all}
+use Rattle.pm_meaning.specs.Locks.{is_nothing}
 use Rattle.pm_meaning.specs.Minds.{Mind}
-use Rattle.pm_meaning.specs.Running.{State, Arrived, Running, Item, Do, step}
+use Rattle.pm_meaning.specs.Running.{State, Arrived, Running, FallingOff, Do, no_flags, step}
 use Rattle.pm_meaning.specs.declared.command_line.CommandLine.{CommandLine}
 use Rattle.pm_meaning.specs.declared.process.End.TheVariants.{Delivered}
 use Rattle.pm_meaning.specs.declared.process.Ending.{Ending}
@@ -51,8 +54,47 @@ StoredIsDone =
     (flags : Flags) (words : List (List ℕ)) (p : Mind) (entries : List Entry) (filing : Filing) → Plays (file_all flags words p) entries filing
     → filing.filed ≡ Stored → AreDone (mailbox_piece flags p) (files_of p.base words) entries
 
--- Over the entries before, the process comes to a recipe that delivers for good; the next entries are done appends of its
--- piece to all the files among its destinations, and behind them locks are given back and nothing else is done.
+-- this lock, where one is wanted, was got
+abbrev pub IsGot : Option (List ℕ) → List Entry → Type 0
+IsGot None entries = entries ≡ []
+IsGot (Some name) [] = ⊥
+IsGot (Some name) (e ∷ es) = (rule : LockRule) × (sleeps : ℕ) × (forced : ℕ) × (e.act ≡ lock_act name rule) × (e.reply ≡ Held sleeps forced) × (es ≡ [])
+
+-- its removal was asked for once
+abbrev pub IsGiven : Option (List ℕ) → List Entry → Type 0
+IsGiven None entries = entries ≡ []
+IsGiven (Some name) [] = ⊥
+IsGiven (Some name) (e ∷ es) = (e.act ≡ Unlock name) × (es ≡ [])
+
+-- nothing but lines on `err`
+abbrev pub AreLines : List Entry → Type 0
+AreLines [] = Unit {0}
+AreLines (e ∷ es) = (line : List ℕ) × (e.act ≡ SayErr line) × AreLines es
+
+-- The piece was appended to each of these files in order, each of which is done; a lock, if any was wanted, was got before and its
+-- removal asked for once behind; and lines were told then.
+pub record IsFiled (piece : List ℕ) (names : List (List ℕ)) (entries : List Entry) : Type 0 where
+  pub lock : Option (List ℕ)
+  pub got : List Entry
+  pub appends : List Entry
+  pub given : List Entry
+  pub lines : List Entry
+  pub whole : entries ≡ got ++ (appends ++ (given ++ lines))
+  pub is_got : IsGot lock got
+  pub done : AreDone piece names appends
+  pub is_given : IsGiven lock given
+  pub are_lines : AreLines lines
+
+-- where a process stands so, it delivers by these flags to these destinations: a recipe to those of its text, and one that falls off to
+-- a default mailbox
+abbrev pub DeliversAt : State → Flags → List (List ℕ) → Mind → Type 0
+DeliversAt (Running (Do (Recipe top (Mailbox text)) ∷ rest) p) flags words mind =
+    (is_plain top ≡ true) × (flags ≡ top.flags) × (words ≡ words_in Many p.vars [] text) × (mind ≡ p)
+DeliversAt (FallingOff (mailbox ∷ rest) p) flags words mind = (flags ≡ no_flags) × (words ≡ mailbox ∷ []) × (mind ≡ p)
+DeliversAt other flags words mind = ⊥
+
+-- Over the entries before, the process comes to where it delivers for good; the next entries file its piece to all the files
+-- among the destinations, and behind them locks are given back and nothing else is done.
 pub record DeliversLast (s : State) (entries : List Entry) : Type 0 where
   pub before : List Entry
   pub last : List Entry
@@ -60,15 +102,15 @@ pub record DeliversLast (s : State) (entries : List Entry) : Type 0 where
   pub whole : entries ≡ before ++ last ++ behind
   pub held : List (List ℕ)
   pub unlocks : AreUnlocks held behind
-  pub top : Top
-  pub text : List ℕ
-  pub rest : List Item
+  pub at : State
+  pub flags : Flags
+  pub words : List (List ℕ)
   pub mind : Mind
-  pub comes : ArrivesAt {X = Ending} step s before (Running (Do (Recipe top (Mailbox text)) ∷ rest) mind)
-  pub plain : is_plain top ≡ true
-  pub final : top.flags.copy ≡ false
-  pub usable : are_file_texts (words_in Many mind.vars [] text) ≡ true
-  pub done : AreDone (mailbox_piece top.flags mind) (files_of mind.base (words_in Many mind.vars [] text)) last
+  pub comes : ArrivesAt {X = Ending} step s before at
+  pub delivers : DeliversAt at flags words mind
+  pub final : flags.copy ≡ false
+  pub usable : are_file_texts words ≡ true
+  pub filed : IsFiled (mailbox_piece flags mind) (files_of mind.base words) last
 
 -- a process ends as delivered only where its last acts are such appends
 abbrev pub DeliveredIsDone : Type 0

@@ -5,6 +5,7 @@ pub mod FirstValues
 pub mod Changes
 pub mod Turns
 pub mod Assigning
+pub mod Locks
 pub mod Delivering
 pub mod Running
 pub mod Status

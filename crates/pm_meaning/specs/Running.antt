@@ -1,5 +1,5 @@
 -- The meaning of a run: a process as a machine whose steps are plans.
-use Rattle.std.specs.Prelude.{ℕ, Bool, not, ◌||◌, List, [], ◌∷◌, codes, if◌then◌else◌}
+use Rattle.std.specs.Prelude.{ℕ, Bool, false, ◌||◌, List, [], ◌∷◌, ◌++◌, Some, codes, bytes_eq, if◌then◌else◌}
 use Rattle.pm_bytes.specs.declared.environment.Environ.{Environ}
 use Rattle.pm_message.specs.FromLine.{makes_line, prepared_of}
 use Rattle.pm_message.specs.Split.{split_of}
@@ -15,10 +15,14 @@ use Rattle.pm_journal.specs.declared.acts.Reply.TheVariants.{Content, Now}
 use Rattle.pm_journal.specs.Plan.{Plan, Ends, and_then, ask}
 use Rattle.pm_journal.specs.Walking.{Next, Stop, Go}
 use Rattle.pm_meaning.specs.FirstValues.{login_name, first_process}
-use Rattle.pm_meaning.specs.Changes.{entered, is_given}
+use Rattle.pm_meaning.specs.Changes.{entered}
 use Rattle.pm_meaning.specs.Turns.{Turn, GoesOn, Halts, say_then}
 use Rattle.pm_meaning.specs.Assigning.{assign, unset, skip_defect}
-use Rattle.pm_meaning.specs.Delivering.{run_recipe}
+use Rattle.pm_meaning.specs.Delivering.{deliver_to, run_recipe}
+use Rattle.pm_meaning.specs.Locks.{value_or}
+use Rattle.pm_meaning.specs.Texts.{is_empty}
+use Rattle.pm_vars.specs.Table.{Table}
+use Rattle.pm_recipe.specs.declared.tree.Flags.{Flags}
 use Rattle.pm_meaning.specs.declared.command_line.CommandLine.{CommandLine}
 use Rattle.pm_meaning.specs.Minds.{Mind}
 use Rattle.pm_meaning.specs.declared.process.End.{End}
@@ -30,10 +34,12 @@ pub data Item : Type 0 where
   Open : List ℕ → Item
   Do : Tree → Item
 
--- the command line was read in this environment and these bytes came, a process has so much left to do, or it is over
+-- the command line was read in this environment and these bytes came, a process has so much left to do, no statement ended
+-- it and these default mailboxes are left to try, or it is over
 pub data State : Type 0 where
   Arrived : CommandLine → Environ → List ℕ → State
   Running : List Item → Mind → State
+  FallingOff : List (List ℕ) → Mind → State
   Over : End → Mind → State
 
 -- a mail filter takes the message as it is; otherwise a missing From line is added
@@ -69,13 +75,25 @@ abbrev pub after_read : List ℕ → List Item → Mind → Reply → Plan (Next
 after_read name rest p (Content bytes) = Ends (Go (Running (ahead (rc_of bytes) rest) (entered name p)))
 after_read name rest p other = unread name rest p
 
--- the default mailbox isn't built yet, and a mail filter has none unless it is given one
-abbrev pub has_default : Mind → Bool
-has_default p = not p.filter || is_given (codes "DEFAULT") p || is_given (codes "ORGMAIL") p
+-- the flags of a recipe that has no letters
+abbrev pub no_flags : Flags
+no_flags = record {
+  search_head = false; search_body = false; distinguish = false; feed_head = false; feed_body = false; filter = false; copy = false; wait = false;
+  wait_quiet = false; ignore = false; raw = false; and_chain = false; and_ok = false; or_else = false; on_error = false;
+}
 
--- no statement ended the process
-abbrev pub fall_off : Mind → Plan (Next State Ending)
-fall_off p = if has_default p then Ends (Go (Over NotBuilt p)) else say_then p no_delivery_line (Go (Over FellOff p))
+-- the mail goes to this mailbox as by a recipe `:0:`, under its automatic lock file
+abbrev pub deliver_default : List ℕ → Mind → Plan Turn
+deliver_default mailbox p = deliver_to no_flags (Some []) [] mailbox (mailbox ∷ []) p
+
+-- the text, unless it is empty or this one
+abbrev pub unless_same : List ℕ → List ℕ → List (List ℕ)
+unless_same other text = if is_empty text || bytes_eq text other then [] else text ∷ []
+
+-- the default mailboxes that are tried: DEFAULT, and then ORGMAIL where it is another
+abbrev pub default_mailboxes : Table → List (List ℕ)
+default_mailboxes vars =
+    unless_same [] (value_or [] (codes "DEFAULT") vars) ++ unless_same (value_or [] (codes "DEFAULT") vars) (value_or [] (codes "ORGMAIL") vars)
 
 -- what a statement asks for
 abbrev pub statement : Tree → Mind → Plan Turn
@@ -89,9 +107,19 @@ abbrev pub next_of : List Item → Turn → Next State Ending
 next_of rest (GoesOn p) = Go (Running rest p)
 next_of rest (Halts end p) = Go (Over end p)
 
+-- what comes behind a default mailbox
+abbrev pub next_default : List (List ℕ) → Turn → Next State Ending
+next_default rest (GoesOn p) = Go (FallingOff rest p)
+next_default rest (Halts end p) = Go (Over end p)
+
+-- the next default mailbox is tried; without one no delivery was made
+abbrev pub falling_off : List (List ℕ) → Mind → Plan (Next State Ending)
+falling_off [] p = say_then p no_delivery_line (Go (Over FellOff p))
+falling_off (mailbox ∷ rest) p = and_then (deliver_default mailbox p) (λ turn. Ends (next_default rest turn))
+
 -- what a process does next: it falls off the end, opens an rcfile, or carries a statement out
 abbrev pub running : List Item → Mind → Plan (Next State Ending)
-running [] p = fall_off p
+running [] p = Ends (Go (FallingOff (default_mailboxes p.vars) p))
 running (Open name ∷ rest) p = and_then (ask (ReadFile name)) (after_read name rest p)
 running (Do tree ∷ rest) p = and_then (statement tree p) (λ turn. Ends (next_of rest turn))
 
@@ -108,4 +136,5 @@ unlock_each (name ∷ names) next = and_then (ask (Unlock name)) (λ reply. unlo
 abbrev pub step : State → Plan (Next State Ending)
 step (Arrived line env bytes) = prepare line env bytes
 step (Running items p) = running items p
+step (FallingOff mailboxes p) = falling_off mailboxes p
 step (Over end p) = unlock_each p.locks (Stop (ending end p))

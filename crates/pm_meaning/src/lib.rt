@@ -8,5 +8,5 @@ pub mod process;
 pub mod status;
 
 pub use command_line::CommandLine;
-pub use process::{End, Ending, Filed, Process};
+pub use process::{Attempt, End, Ending, Filed, Process};
 pub use status::{Status, status_of};

@@ -48,3 +48,19 @@ pub enum Filed {
     /// A folder stands there. Delivery to folders isn't built yet.
     Folder,
 }
+
+/// What came of an attempt to deliver to the destinations of an action, under a lock file where one was asked for.
+#[derive(Debug, Drop)]
+pub enum Attempt {
+    /// No lock file was asked for.
+    Unlocked(Filed),
+    /// The lock of this name wasn't got, and no destination was tried.
+    NotLocked(Name),
+    /// The lock was got after so many removals by force; `stuck` where its own removal failed behind the delivery.
+    Locked {
+        name: Name,
+        forced: u32,
+        filed: Filed,
+        stuck: bool,
+    },
+}

@@ -2,6 +2,8 @@
 use Rattle.std.specs.Prelude.{◌≡◌, ℕ, ℤ, ◌⊎◌, Bool, true, false, ◌&&◌, ◌==◌, leb, cond, List, [], ◌∷◌, ◌++◌, length, Option, Some, None, IsSome}
 use Rattle.pm_host.specs.World.{World, IsFile, Step, IsFailed, world_with}
 use Rattle.pm_host.specs.Told.{HostView, Makes, Rose}
+use Rattle.pm_host.specs.declared.answers.Child.{Child}
+use Rattle.pm_host.specs.declared.answers.Child.TheVariants.{NoChild}
 use Rattle.pm_host.specs.declared.answers.Took.TheVariants.{Took as TookSome}
 use Rattle.pm_host.specs.declared.calls.Call.{Call}
 use Rattle.pm_host.specs.declared.calls.Call.TheVariants.{Read, Create, Append, Sync, Cut as CutTo, Remove, Rename, MakeFolder, Age, Sleep, Now, Start, Feed, Finish}
@@ -71,13 +73,17 @@ is_to_fail h = is_among (number_of h) (failing_of h)
 abbrev pub is_telling : MemoryHost → Bool
 is_telling h = leb (came_of h) (reserved_of h) && (starved_of h == 0)
 
+-- whether a child runs
+abbrev pub child_of : MemoryHost → Child
+child_of h = child_at h.tree
+
 -- what it tells
 abbrev pub host_view : MemoryHost → HostView
 host_view h = record {
   world = cond (is_telling h) (Some (world_of h)) None;
   calls = cond (is_telling h) (Some (calls_of h)) None;
   faults = faults_of h;
-  child = child_at h.tree;
+  child = child_of h;
 }
 
 -- of two things that are told at the same time, both are told where one is
@@ -96,6 +102,7 @@ pub record IsFresh (start : ℤ) (count : ℕ) (h : MemoryHost) : Type 0 where
   pub starved : starved_of h ≡ 0
   pub failing : failing_of h ≡ []
   pub limits : limits_of h ≡ []
+  pub child : child_of h ≡ NoChild
 
 -- the world with one batch of changes by others more
 abbrev pub with_batch : List Change → World → World

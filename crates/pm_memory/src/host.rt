@@ -23,7 +23,7 @@ pub struct MemoryHost {
 impl MemoryHost {
     ghost use Rattle.pm_memory.specs.Host.{IsFresh, IsPut, world_of, plan_of, record_of};
     ghost use Rattle.pm_memory.specs.Host.{failing_of, limits_of, calls_of, starved_of};
-    ghost use Rattle.pm_memory.specs.Host.{IsToCome, IsScripted};
+    ghost use Rattle.pm_memory.specs.Host.{IsToCome, IsScripted, child_of};
 
     /// No files, at a moment in seconds since 1970, with a list that is reserved for so many calls: past them the
     /// host tells nothing.
@@ -44,6 +44,7 @@ impl MemoryHost {
         ensures err { OnErr result (world_of self.new ≡ world_of self.old) }
         ensures plan { plan_of self.new ≡ plan_of self.old }
         ensures calls { record_of self.new ≡ record_of self.old }
+        ensures child { child_of self.new ≡ child_of self.old }
     {
         let bytes = Blob::from_slice(self.alloc, bytes)?;
         self.tree.put(name, Node::File(File { bytes, made }))
@@ -55,6 +56,7 @@ impl MemoryHost {
         ensures err { OnErr result (world_of self.new ≡ world_of self.old) }
         ensures plan { plan_of self.new ≡ plan_of self.old }
         ensures calls { record_of self.new ≡ record_of self.old }
+        ensures child { child_of self.new ≡ child_of self.old }
     {
         self.tree.put(name, Node::Folder)
     }
@@ -66,6 +68,7 @@ impl MemoryHost {
         ensures limits { limits_of self.new ≡ limits_of self.old }
         ensures world { world_of self.new ≡ world_of self.old }
         ensures calls { record_of self.new ≡ record_of self.old }
+        ensures child { child_of self.new ≡ child_of self.old }
     {
         self.plan.fail(call)
     }
@@ -78,6 +81,7 @@ impl MemoryHost {
         ensures failing { failing_of self.new ≡ failing_of self.old }
         ensures world { world_of self.new ≡ world_of self.old }
         ensures calls { record_of self.new ≡ record_of self.old }
+        ensures child { child_of self.new ≡ child_of self.old }
     {
         self.plan.limit(call, most)
     }
@@ -89,6 +93,7 @@ impl MemoryHost {
         ensures err { OnErr result (world_of self.new ≡ world_of self.old) }
         ensures plan { plan_of self.new ≡ plan_of self.old }
         ensures calls { record_of self.new ≡ record_of self.old }
+        ensures child { child_of self.new ≡ child_of self.old }
     {
         self.tree.add_batch(changes)
     }
@@ -99,6 +104,7 @@ impl MemoryHost {
         ensures err { OnErr result (world_of self.new ≡ world_of self.old) }
         ensures plan { plan_of self.new ≡ plan_of self.old }
         ensures calls { record_of self.new ≡ record_of self.old }
+        ensures child { child_of self.new ≡ child_of self.old }
     {
         self.tree.programs.add(script)
     }

@@ -16,6 +16,7 @@ impl Tree {
         ensures ok { OnOk result (others_in self.new ≡ others_in self.old ++ changes.items ∷ []) }
         ensures err { OnErr result (others_in self.new ≡ others_in self.old) }
         ensures rest { world_in self.new ≡ with_others (others_in self.new) (world_in self.old) }
+        ensures child { child_at self.new ≡ child_at self.old }
     {
         self.others.push_back(changes)?;
         Ok(())

@@ -1,44 +1,37 @@
-use Rattle.std.proofs.Common.{refl, rules, sym, ◌∙◌}
+use Rattle.std.proofs.Common.{refl, rules}
 use Rattle.pm_journal.proofs.WantsMemory.{on_err, out_anywhere}
+use Rattle.pm_meaning.specs.Delivering.{refuse_name, deliver_named, deliver_to}
+use Rattle.pm_meaning.specs.Locks.{blamed_text}
 use Rattle.pm_meaning.specs.Minds.{mind_of}
-use Rattle.pm_actions.specs.Copies.{filing_of}
-use Rattle.pm_actions.proofs.Choices.{ok_map, err_map}
-use Rattle.pm_actions.proofs.DeliverLemmas.{texts_unusable, texts_unusable_out, folder_among, filed_to_all, filed_to_all_out, filed_then, filed_then_out, filed_out}
+use Rattle.pm_actions.proofs.DeliverLemmas.{carried, lock_unusable, lock_usable, no_destination, some_words, no_words}
 use Rattle.pm_actions.proofs.delivering.deliver_to_words.Goals as goal
 
-pub returns-in_err-file_names-clause-carries : goal.returns-in_err-file_names-clause-carries
-returns-in_err-file_names-clause-carries g c = (search rules, on_err _ _ (out_anywhere _ _ _ _ refl))
+pub returns-in_err-word-clause-carries : goal.returns-in_err-word-clause-carries
+returns-in_err-word-clause-carries g c = (search rules, on_err _ _ (out_anywhere _ _ _ _ refl))
 
-pub returns-in_err-line-in-None-clause-carries : goal.returns-in_err-line-in-None-clause-carries
-returns-in_err-line-in-None-clause-carries g c = (search rules, on_err _ _ (out_anywhere _ _ _ _ refl))
-
-pub returns-in_err-say-in-None-clause-carries : goal.returns-in_err-say-in-None-clause-carries
-returns-in_err-say-in-None-clause-carries g c =
-    (search rules, on_err _ _ (texts_unusable_out c.args.flags c.args.text.now _ c.args.words.now (mind_of c.args.process.now) _ _ _ _ (rw c.in-None.is at c.in_ok-file_names.ensures) c.in_ok-line-in-None.ensures c.in_err-say-in-None.ensures.memory))
-
-pub returns-then-has_folder-clause-carries : goal.returns-then-has_folder-clause-carries
-returns-then-has_folder-clause-carries g c =
-    let usable = rw c.in-Some.is at c.in_ok-file_names.ensures in
-    (folder_among c.args.flags c.args.text.now c.args.words.now c.as_slice-names.result.now (mind_of c.args.process.now) _ _ usable.0 (c.as_slice-names.ensures.value ∙ usable.1) (sym c.has_folder.ensures ∙ c.if-has_folder.true), tt)
-
-pub returns-in_err-filed-in-Some-clause-carries : goal.returns-in_err-filed-in-Some-clause-carries
-returns-in_err-filed-in-Some-clause-carries g c =
+pub returns-in-Ok-clause-carries : goal.returns-in-Ok-clause-carries
+returns-in-Ok-clause-carries g c =
+    let o = c.args.order.now in
     let p = mind_of c.args.process.now in
-    let usable = rw c.in-Some.is at c.in_ok-file_names.ensures in (
-      search rules,
-      on_err _ _ (filed_to_all_out c.args.flags c.args.text.now c.args.words.now c.as_slice-names.result.now p _ _ _ _ usable.0 (c.as_slice-names.ensures.value ∙ usable.1) (sym c.has_folder.ensures ∙ c.if-has_folder.false)
-          (filed_out c.args.flags c.as_slice-names.result.now p _ _ _ _ c.in_err-filed-in-Some.ensures.carries.1)),
-    )
+    let blamed = blamed_text o.lock.now o.text.now in
+    let named = rw c.in-Ok.is at c.lock_name.ensures in
+    let same = lock_usable o.flags o.lock.now c.args.value o.text.now c.in_ok-word.word c.in-Ok.lock c.args.words.now p (some_words _ c.if-words-eq0.false) c.in_ok-word.ensures named.0 named.1 in
+    carried (deliver_named o.flags c.in-Ok.lock blamed o.text.now c.args.words.now p) (deliver_to o.flags o.lock.now c.args.value o.text.now c.args.words.now p) _ _ _ _ _ _ same c.deliver_named.ensures.carries
 
-pub returns-in_ok-filed-in-Some-clause-carries : goal.returns-in_ok-filed-in-Some-clause-carries
-returns-in_ok-filed-in-Some-clause-carries g c =
+pub returns-in-Err-Memory-clause-carries : goal.returns-in-Err-Memory-clause-carries
+returns-in-Err-Memory-clause-carries g c = (tt, out_anywhere _ _ _ _ refl)
+
+pub returns-then-words-eq0-clause-carries : goal.returns-then-words-eq0-clause-carries
+returns-then-words-eq0-clause-carries g c =
+    let o = c.args.order.now in
     let p = mind_of c.args.process.now in
-    let filing = filing_of c.in_ok-filed-in-Some.filed (mind_of c.file_all.new.process) in
-    let told = c.say_filed.ensures.carries in
-    let names = c.as_slice-names.result.now in
-    let usable = rw c.in-Some.is at c.in_ok-file_names.ensures in
-    let files = sym c.has_folder.ensures ∙ c.if-has_folder.false in
-    let filed = c.in_ok-filed-in-Some.ensures.carries.0 in (
-      ok_map _ _ _ (λ end h. filed_to_all c.args.flags c.args.text.now c.args.words.now names p _ _ _ _ _ usable.0 (c.as_slice-names.ensures.value ∙ usable.1) files (filed_then c.args.flags names p filing _ _ c.file_all.new.journal _ _ _ _ filed h)) told.0,
-      err_map _ _ _ (λ h. filed_to_all_out c.args.flags c.args.text.now c.args.words.now names p _ _ _ _ usable.0 (c.as_slice-names.ensures.value ∙ usable.1) files (filed_then_out c.args.flags names p filing _ c.file_all.new.journal _ _ _ _ filed h)) told.1,
-    )
+    let same = no_destination o.flags o.lock.now c.args.value o.text.now c.args.words.now p (no_words _ c.if-words-eq0.true) in
+    carried (refuse_name o.text.now p) (deliver_to o.flags o.lock.now c.args.value o.text.now c.args.words.now p) _ _ _ _ _ _ same c.refuse.ensures.carries
+
+pub returns-in-Err-Unusable-clause-carries : goal.returns-in-Err-Unusable-clause-carries
+returns-in-Err-Unusable-clause-carries g c =
+    let o = c.args.order.now in
+    let p = mind_of c.args.process.now in
+    let bad = rw (c.in-Err-Unusable.is, c.in-Err-Unusable.field-0-is) at c.lock_name.ensures in
+    let same = lock_unusable o.flags o.lock.now c.args.value o.text.now c.blamed_text-text.result.now c.in_ok-word.word c.args.words.now p (some_words _ c.if-words-eq0.false) c.in_ok-word.ensures bad c.blamed_text-text.ensures in
+    carried (refuse_name c.blamed_text-text.result.now p) (deliver_to o.flags o.lock.now c.args.value o.text.now c.args.words.now p) _ _ _ _ _ _ same c.refuse-in-Err-Unusable.ensures.carries

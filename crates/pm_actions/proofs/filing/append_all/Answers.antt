@@ -1,4 +1,4 @@
-use Rattle.std.proofs.Common.{◌≡◌, ◌≤◌, ◌+◌, ℕ, suc, [], ◌∷◌, rules, length, sym, ap, ◌∙◌, subst, arith}
+use Rattle.std.proofs.Common.{◌≡◌, ◌≤◌, ◌+◌, ℕ, suc, [], ◌∷◌, rules, refl, length, sym, ap, ◌∙◌, subst, arith}
 use Rattle.pm_journal.specs.Held.{Keeping}
 use Rattle.pm_journal.proofs.PlanLeads.{leads_itself}
 use Rattle.pm_meaning.specs.Minds.{mind_of}
@@ -7,7 +7,7 @@ use Rattle.pm_actions.proofs.FileLemmas.{copy_on, copy_stops, copies_over}
 use Rattle.pm_actions.proofs.filing.append_all.Goals as goal
 
 pub loop-copy-init : goal.loop-copy-init
-loop-copy-init g c = record { leads = leads_itself _ _ _; keeping = c.requires.keeping; room = c.requires.room; shown = c.requires.shown }
+loop-copy-init g c = record { leads = leads_itself _ _ _; keeping = c.requires.keeping; room = c.requires.room; shown = c.requires.shown; locks = refl }
 
 pub append_copy-filed-requires-clause-room : goal.append_copy-filed-requires-clause-room
 append_copy-filed-requires-clause-room g c =
@@ -30,6 +30,7 @@ loop-copy-preserved g c =
       keeping = c.append_copy-filed.ensures.keeping;
       room = omega (arith, c.loop-copy.invariant.room, c.append_copy-filed.ensures.room, split, locks);
       shown = (subst AllShown c.in-Some.ensures.items c.loop-copy.invariant.shown).1;
+      locks = c.append_copy-filed.ensures.locks ∙ c.loop-copy.invariant.locks;
     }
 
 pub returns-clause-files : goal.returns-clause-files

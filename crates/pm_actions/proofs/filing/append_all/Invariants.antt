@@ -1,4 +1,4 @@
-use Rattle.std.proofs.Common.{◌≤◌, ◌+◌, length}
+use Rattle.std.proofs.Common.{◌≡◌, ◌≤◌, ◌+◌, length}
 use Rattle.pm_journal.specs.Executed.{LeadsTo}
 use Rattle.pm_journal.specs.Held.{Keeping}
 use Rattle.pm_meaning.specs.Minds.{mind_of}
@@ -11,6 +11,7 @@ invariant-loop-copy g l = record {
   keeping : Keeping l.journal l.process.locks.names;
   room : length l.process.locks.names + length l.copies.items ≤ l.journal.room;
   shown : AllShown l.copies.items;
+  locks : l.process.locks ≡ l.fn.process.locks;
 }
 
 abbrev pub decreases-loop-copy : goal.decreases-loop-copy

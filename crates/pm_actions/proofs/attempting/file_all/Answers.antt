@@ -1,11 +1,10 @@
-use Rattle.std.proofs.Common.{refl, rules, sym, ap, ◌∙◌, subst}
-use Rattle.pm_journal.specs.Executed.{Executes}
-use Rattle.pm_journal.proofs.FirstActs.{later_start}
+use Rattle.std.proofs.Common.{refl, rules, sym, subst}
 use Rattle.pm_journal.proofs.WantsMemory.{on_err, out_anywhere}
 use Rattle.pm_meaning.specs.Minds.{mind_of}
 use Rattle.pm_actions.specs.Copies.{AllShown}
-use Rattle.pm_actions.proofs.FileLemmas.{copies_file, copies_shown, all_appended}
-use Rattle.pm_actions.proofs.filing.file_all.Goals as goal
+use Rattle.pm_actions.proofs.AttemptLemmas.{attempted_plain}
+use Rattle.pm_actions.proofs.FileLemmas.{copies_shown}
+use Rattle.pm_actions.proofs.attempting.file_all.Goals as goal
 
 pub returns-in_err-copies-clause-carries : goal.returns-in_err-copies-clause-carries
 returns-in_err-copies-clause-carries g c = (search rules, on_err _ _ (out_anywhere _ _ _ _ refl))
@@ -18,4 +17,4 @@ append_all-filed-requires-clause-shown g c = subst AllShown (sym c.in_ok-copies.
 
 pub returns-clause-carries : goal.returns-clause-carries
 returns-clause-carries g c =
-    (all_appended c.args.flags c.args.words.now _ (mind_of c.args.process.now) _ c.args.journal.now c.reserve.new.self c.append_all-filed.new.journal _ _ c.in_ok-copies.ensures c.reserve.ensures.same c.append_all-filed.ensures.files, tt)
+    (attempted_plain c.args.flags c.args.words.now _ (mind_of c.args.process.now) (mind_of c.append_all-filed.new.process) c.append_all-filed.result _ c.reserve.new.self c.append_all-filed.new.journal _ _ c.in_ok-copies.ensures c.reserve.ensures.same c.append_all-filed.ensures.files, tt)

@@ -1,0 +1,17 @@
+use Rattle.std.proofs.Common.{Some, [], ◌∷◌, refl, rules, sym, ap, ◌∙◌}
+use Rattle.pm_journal.proofs.WantsMemory.{on_err, out_anywhere}
+use Rattle.pm_meaning.specs.Delivering.{deliver_to}
+use Rattle.pm_meaning.specs.Minds.{mind_of}
+use Rattle.pm_meaning.specs.Running.{deliver_default}
+use Rattle.pm_actions.proofs.DeliverLemmas.{carried, default_is}
+use Rattle.pm_actions.proofs.delivering.deliver_default.Goals as goal
+
+pub returns-in_err-word-clause-carries : goal.returns-in_err-word-clause-carries
+returns-in_err-word-clause-carries g c = (search rules, on_err _ _ (out_anywhere (deliver_default c.args.mailbox.now (mind_of c.args.process.now)) _ _ _ refl))
+
+pub returns-clause-carries : goal.returns-clause-carries
+returns-clause-carries g c =
+    let p = mind_of c.args.process.now in
+    let text = c.as_slice.result.now in
+    let same = default_is c.args.mailbox.now text c.in_ok-word.word c.empty.result c.empty-2.result c.no_flags.result p c.as_slice.ensures c.in_ok-word.ensures c.empty.ensures c.empty-2.ensures c.no_flags.ensures in
+    carried (deliver_to c.no_flags.result (Some c.empty.result) c.empty-2.result text (c.in_ok-word.word ∷ []) p) (deliver_default c.args.mailbox.now p) _ _ _ _ _ _ same c.deliver_to_words.ensures.carries

@@ -1,0 +1,28 @@
+use Rattle.std.proofs.Common.{rules}
+use Rattle.pm_journal.proofs.PlanLeads.{leads_itself}
+use Rattle.pm_journal.proofs.WantsMemory.{on_err}
+use Rattle.pm_meaning.specs.Minds.{mind_of}
+use Rattle.pm_actions.specs.Turning.{turn_of}
+use Rattle.pm_actions.proofs.SayingLemmas.{line_on, line_wants, lines_over}
+use Rattle.pm_actions.proofs.saying.say_each.Goals as goal
+
+pub loop-line-init : goal.loop-line-init
+loop-line-init g c = record { leads = leads_itself _ _ _; keeping = c.requires.keeping }
+
+pub returns-in_err-say-clause-carries : goal.returns-in_err-say-clause-carries
+returns-in_err-say-clause-carries g c =
+    let p = mind_of c.args.process.now in
+    (search rules, on_err _ _ (line_wants _ p c.loop-line.lines.items c.pop_front.new.self.items c.in-Some.line (turn_of c.args.end p) _ _ _ _ _ _ c.loop-line.invariant.leads c.in-Some.ensures.items c.in_err-say.ensures.memory))
+
+pub loop-line-preserved : goal.loop-line-preserved
+loop-line-preserved g c =
+    let p = mind_of c.args.process.now in
+    record {
+      leads = line_on _ p c.loop-line.lines.items c.pop_front.new.self.items c.in-Some.line (turn_of c.args.end p) _ _ _ _ _ _ c.loop-line.invariant.leads c.in-Some.ensures.items c.in_ok-say.ensures.ok;
+      keeping = c.say.ensures.keeping;
+    }
+
+pub returns-clause-carries : goal.returns-clause-carries
+returns-clause-carries g c =
+    let p = mind_of c.args.process.now in
+    (lines_over _ p c.loop-line.lines.items (turn_of c.args.end p) _ _ _ _ c.loop-line.invariant.leads (search rules), tt)

@@ -1,0 +1,101 @@
+//! The lines that are due behind an attempt to deliver (the log texts of procmail(1), "DIAGNOSTICS").
+ghost use Rattle.std.specs.Prelude.{◌≡◌, ◌++◌, ◌∷◌, [], nat_lt, IfOk, OnOk};
+ghost use Rattle.pm_journal.specs.Executed.{Carries};
+ghost use Rattle.pm_journal.specs.Held.{Keeping};
+ghost use Rattle.pm_journal.specs.LogText.{forcing_lock_line, couldnt_unlock_line};
+ghost use Rattle.pm_meaning.specs.Delivering.{filed_lines, line_if, attempt_lines as lines_of_attempt, say_each as each_said};
+ghost use Rattle.pm_meaning.specs.Minds.{mind_of};
+ghost use Rattle.pm_actions.specs.Turning.{turn_of};
+
+use pm_acts::{Outside, say};
+use pm_bytes::{Blob, Memory, Name};
+use pm_journal::{Journal, bytes_left, couldnt_lock, couldnt_unlock, couldnt_write, forcing_lock};
+use pm_meaning::{Attempt, End, Filed, Process};
+use std::alloc::Global;
+use std::collections::VecDeque;
+
+/// What is told of an attempt, in order.
+pub fn attempt_lines(alloc: Global, attempt: &Attempt) -> Result<VecDeque<Blob>, Memory>
+    ensures { IfOk result (λ lines. lines.items ≡ lines_of_attempt attempt.now) }
+{
+    let mut lines = VecDeque::new(alloc);
+    match attempt {
+        Attempt::Unlocked(filed) => push_filed(alloc, filed, &mut lines)?,
+        Attempt::NotLocked(name) => lines.push_back(couldnt_lock(alloc, name)?)?,
+        Attempt::Locked {
+            name,
+            forced,
+            filed,
+            stuck,
+        } => {
+            push_forced(alloc, *forced, name, &mut lines)?;
+            push_filed(alloc, filed, &mut lines)?;
+            push_stuck(alloc, *stuck, name, &mut lines)?;
+        }
+    }
+    Ok(lines)
+}
+
+// The destination that didn't get the mail.
+fn push_filed(alloc: Global, filed: &Filed, lines: &mut VecDeque<Blob>) -> Result<(), Memory>
+    ensures { OnOk result (lines.new.items ≡ lines.old.items ++ filed_lines filed.now) }
+{
+    match filed {
+        Filed::Unwritten(name) => lines.push_back(couldnt_write(alloc, name)?)?,
+        Filed::Left { name, count } => lines.push_back(bytes_left(alloc, *count, name)?)?,
+        Filed::Stored | Filed::Folder => {}
+    }
+    Ok(())
+}
+
+// A lock file that was removed by force.
+fn push_forced(
+    alloc: Global,
+    forced: u32,
+    name: &Name,
+    lines: &mut VecDeque<Blob>,
+) -> Result<(), Memory>
+    ensures { OnOk result (lines.new.items ≡
+        lines.old.items ++ line_if (nat_lt 0 forced) (forcing_lock_line name.now)) }
+{
+    if forced > 0 {
+        lines.push_back(forcing_lock(alloc, name)?)?;
+    }
+    Ok(())
+}
+
+// A lock file whose removal failed.
+fn push_stuck(
+    alloc: Global,
+    stuck: bool,
+    name: &Name,
+    lines: &mut VecDeque<Blob>,
+) -> Result<(), Memory>
+    ensures { OnOk result (lines.new.items ≡
+        lines.old.items ++ line_if stuck (couldnt_unlock_line name.now)) }
+{
+    if stuck {
+        lines.push_back(couldnt_unlock(alloc, name)?)?;
+    }
+    Ok(())
+}
+
+/// Says each line, and answers with this end.
+pub fn say_each<D: Outside>(
+    mut lines: VecDeque<Blob>,
+    end: Option<End>,
+    process: &Process,
+    outside: &mut D,
+    journal: &mut Journal,
+) -> Result<Option<End>, Memory>
+    requires keeping { Keeping journal.old process.now.locks.names }
+    ensures carries { let p = mind_of process.now in
+        Carries (each_said p lines.items (turn_of end p)) (λ end. turn_of end p) result
+        journal.old journal.new (D.told outside.old) (D.told outside.new) }
+    ensures keeping { Keeping journal.new process.now.locks.names }
+{
+    while let Some(line) = lines.pop_front() {
+        say(&process.locks, line, outside, journal)?;
+    }
+    Ok(end)
+}
