@@ -48,13 +48,13 @@ attempted_locked flags words name noted rule end sleeps forced copies p q r s fi
     let give : Reply → Plan Attempted = λ reply. Ends (last (is_fault reply) (record r { locks = without r.locks name })) in
     let gives : Executes (give_back name forced (filing_of filed r)) end0 z v c d = first_act (Unlock name) give (unlock_reply removed) end0 z z v v c d d refl unlock (executes_nothing end0 v v d refl) in
     let all : Executes (file_all flags words (with_lock name p)) (filing_of filed r) y z b c =
-        all_appended flags words copies (with_lock name p) (filing_of filed r) y y z b c is refl (subst (λ m. Executes (file_copies copies m) (filing_of filed r) y z b c) with files) in
+    all_appended flags words copies (with_lock name p) (filing_of filed r) y y z b c is refl (subst (λ m. Executes (file_copies copies m) (filing_of filed r) y z b c) with files) in
     let rest : Executes (under_lock name flags words p (lock_reply (Held sleeps forced))) end0 y v b d =
-        executes_then (file_all flags words (with_lock name p)) (give_back name forced) (filing_of filed r) end0 y z v b c d all gives in
+    executes_then (file_all flags words (with_lock name p)) (give_back name forced) (filing_of filed r) end0 y z v b c d all gives in
     let taken : NotesAct (lock_act name (rule_of p.vars)) (lock_reply (Held sleeps forced)) w y a b =
-        subst (λ n. NotesAct (lock_act n (rule_of p.vars)) (lock_reply (Held sleeps forced)) w y a b) same
-        (subst (λ u. NotesAct (lock_act noted u) (lock_reply (Held sleeps forced)) w y a b) by
-        (subst (λ u. NotesAct (lock_act noted rule) (lock_reply u) w y a b) got lock)) in
+    subst (λ n. NotesAct (lock_act n (rule_of p.vars)) (lock_reply (Held sleeps forced)) w y a b) same
+    (subst (λ u. NotesAct (lock_act noted u) (lock_reply (Held sleeps forced)) w y a b) by
+    (subst (λ u. NotesAct (lock_act noted rule) (lock_reply u) w y a b) got lock)) in
     subst (λ u. Executes (attempt (Some name) flags words p) u x v a d) sameEnd
     (first_act (lock_act name (rule_of p.vars)) (under_lock name flags words p) (lock_reply (Held sleeps forced)) end0 x w y v a b d e taken rest)
 

@@ -18,7 +18,9 @@ ghost use Rattle.pm_actions.specs.Turning.{turn_of};
 
 use crate::attempting::attempt;
 use crate::expanding::{Expansion, expand_text, first_word, runs_command};
-use crate::locks::{any_held, blamed_text, full_lock, full_names, is_taken, lock_name, lock_text, lock_word};
+use crate::locks::{
+    any_held, blamed_text, full_lock, full_names, is_taken, lock_name, lock_text, lock_word,
+};
 use crate::names::{file_names, has_folder};
 use crate::saying::{attempt_lines, say_each};
 use crate::skipping::skip_value;
@@ -99,7 +101,15 @@ pub fn deliver_default<D: Outside>(
         lock: &lock,
         text: mailbox.as_slice(),
     };
-    deliver_to_words(alloc, &order, Blob::empty(alloc), &[word], process, outside, journal)
+    deliver_to_words(
+        alloc,
+        &order,
+        Blob::empty(alloc),
+        &[word],
+        process,
+        outside,
+        journal,
+    )
 }
 
 // The flags of a recipe that has no letters.
@@ -174,7 +184,15 @@ fn deliver_text<D: Outside>(
 {
     match expand_text(alloc, order.text, Mode::Many, &process.vars)? {
         Expansion::Words(words) => {
-            deliver_to_words(alloc, order, value, words.as_slice(), process, outside, journal)
+            deliver_to_words(
+                alloc,
+                order,
+                value,
+                words.as_slice(),
+                process,
+                outside,
+                journal,
+            )
         }
         Expansion::TooLong(length) => skip_value(alloc, length, process, outside, journal),
     }
@@ -232,7 +250,15 @@ fn deliver_named<D: Outside>(
         None => refuse(alloc, order.text, process, outside, journal),
         Some(names) => {
             let lock = full_lock(alloc, &process.base, lock)?;
-            deliver_at(alloc, order, lock, names.as_slice(), process, outside, journal)
+            deliver_at(
+                alloc,
+                order,
+                lock,
+                names.as_slice(),
+                process,
+                outside,
+                journal,
+            )
         }
     }
 }

@@ -74,11 +74,7 @@ pub fn lock_word(
 }
 
 // The first destination's name with LOCKEXT.
-fn automatic_lock(
-    alloc: Global,
-    words: &[Blob],
-    process: &Process,
-) -> Result<Option<Blob>, Memory>
+fn automatic_lock(alloc: Global, words: &[Blob], process: &Process) -> Result<Option<Blob>, Memory>
     ensures { IfOk result (λ word. word ≡ automatic words.now (mind_of process.now)) }
 {
     match words.first() {
@@ -141,13 +137,7 @@ pub fn blamed_text<'a>(lock: &'a Option<Blob>, text: &'a [u8]) -> &'a [u8]
 {
     match lock {
         None => text,
-        Some(own) => {
-            if own.len() == 0 {
-                text
-            } else {
-                own.as_slice()
-            }
-        }
+        Some(own) => { if own.len() == 0 { text } else { own.as_slice() } }
     }
 }
 

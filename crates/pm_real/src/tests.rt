@@ -166,33 +166,58 @@ fn use_names(
     run(rt, folder, "rm -r inner")
 }
 
-// A child gives back what it gets, one closes its input and is killed, one runs in its folder, and one is missing.
-fn use_children(test: &impl Abort, rt: &HostRuntime, folder: &str) -> Result<(), Fail> {
+// A child gives back what it gets.
+fn use_output(test: &impl Abort, rt: &HostRuntime, folder: &str) -> Result<(), Fail> {
     let alloc = rt.alloc();
     let mut host = RealHost::new(rt, alloc, process::id(rt.process()))?;
-    let piece = vec![in alloc; b'x'; MEBIBYTE]?;
-    let mut room = vec![in alloc; 0u8; MEBIBYTE + 1]?;
     let Started::Started = host.start(&shell(rt, folder, "cat; exit 3")?, true) else {
         return Err(Fail::new("not started"));
     };
+    let piece = vec![in alloc; b'x'; MEBIBYTE]?;
     assert_eq!(test; host.feed(piece.as_slice()), Fed::Took(MEBIBYTE));
+    let mut room = vec![in alloc; 0u8; MEBIBYTE + 1]?;
     assert_eq!(test; host.take(room.as_mut_slice()), Got::Got(MEBIBYTE));
     assert!(test; room.as_slice().starts_with(piece.as_slice()));
     assert_eq!(test; host.take(room.as_mut_slice()), Got::Got(0));
     assert_eq!(test; host.finish(), Finished::Code(3));
+    assert_eq!(test; host.faults(), 0);
+    Ok(())
+}
+
+// A child that closes its input takes no more, and a signal ends it.
+fn use_closing(test: &impl Abort, rt: &HostRuntime, folder: &str) -> Result<(), Fail> {
+    let alloc = rt.alloc();
+    let mut host = RealHost::new(rt, alloc, process::id(rt.process()))?;
+    let piece = vec![in alloc; b'x'; MEBIBYTE]?;
     let Started::Started = host.start(&shell(rt, folder, "exec <&-; kill -9 $$")?, false) else {
         return Err(Fail::new("not started"));
     };
     let _until_closed = host.feed(piece.as_slice());
     assert_eq!(test; host.feed(piece.as_slice()), Fed::Closed);
     assert_eq!(test; host.finish(), Finished::Signal(9));
+    assert_eq!(test; host.faults(), 0);
+    Ok(())
+}
+
+// A child runs in the folder that is given.
+fn use_folder(test: &impl Abort, rt: &HostRuntime) -> Result<(), Fail> {
+    let alloc = rt.alloc();
+    let mut host = RealHost::new(rt, alloc, process::id(rt.process()))?;
+    let mut room = [0u8; 8];
     let Started::Started = host.start(&shell(rt, "/", "pwd")?, true) else {
         return Err(Fail::new("not started"));
     };
-    assert_eq!(test; host.take(room.as_mut_slice()), Got::Got(2));
-    assert!(test; room.as_slice().starts_with(b"/\n"));
+    assert_eq!(test; host.take(&mut room), Got::Got(2));
+    assert!(test; room.starts_with(b"/\n"));
     assert_eq!(test; host.finish(), Finished::Code(0));
     assert_eq!(test; host.faults(), 0);
+    Ok(())
+}
+
+// A program that isn't there is a fault.
+fn use_missing(test: &impl Abort, rt: &HostRuntime, folder: &str) -> Result<(), Fail> {
+    let alloc = rt.alloc();
+    let mut host = RealHost::new(rt, alloc, process::id(rt.process()))?;
     let mut missing = shell(rt, folder, "")?;
     missing.program = Name::read(alloc, b"no-such-program")?;
     assert_eq!(test; host.start(&missing, true), Started::Failed);
@@ -226,7 +251,10 @@ fn the_machine_answers_as_it_stands(rt: HostRuntime) -> Result<(), Fail> {
     assert_eq!(rt; host.faults(), 9);
     use_names(&rt, &rt, &mut host, folder, file)?;
     assert_eq!(rt; host.faults(), 14);
-    use_children(&rt, &rt, folder)?;
+    use_output(&rt, &rt, folder)?;
+    use_closing(&rt, &rt, folder)?;
+    use_folder(&rt, &rt)?;
+    use_missing(&rt, &rt, folder)?;
     assert_eq!(rt; host.create(file), Made::Made);
     assert_eq!(rt; host.remove(file), Removed::Removed);
     assert_eq!(rt; host.look(file), Looked::Nothing);

@@ -1,5 +1,5 @@
 -- The steps of a process, one after the other.
-use Rattle.std.proofs.Common.{◌≡◌, ◌≢◌, true, false, List, ℕ, [], ◌∷◌, Option, Some, None, refl, sym, ap, ◌∙◌, subst}
+use Rattle.std.proofs.Common.{◌≡◌, ◌≢◌, true, false, List, ℕ, [], ◌∷◌, ◌++◌, Option, Some, None, refl, sym, ap, ◌∙◌, subst, append_assoc}
 use Rattle.std.specs.Prelude.{ℤ}
 use Rattle.pm_bytes.specs.declared.environment.Environ.{Environ}
 use Rattle.pm_message.specs.FromLine.{makes_line, prepared_of}
@@ -14,7 +14,7 @@ use Rattle.pm_recipe.specs.Build.{rc_of}
 use Rattle.pm_append.specs.ReadsFile.{content_of}
 use Rattle.pm_journal.specs.JournalState.{JournalState}
 use Rattle.pm_journal.specs.Entries.{View}
-use Rattle.pm_journal.specs.LogText.{couldnt_read_line, no_delivery_line}
+use Rattle.pm_journal.specs.LogText.{couldnt_read_line}
 use Rattle.pm_journal.specs.declared.acts.Act.TheVariants.{ReadFile, SayErr, Moment}
 use Rattle.pm_journal.specs.declared.acts.Reply.{Reply}
 use Rattle.pm_journal.specs.declared.acts.Reply.TheVariants.{Content, Now}
@@ -23,13 +23,14 @@ use Rattle.pm_journal.specs.Executed.{Executes, OutOfMemory, GivesEach}
 use Rattle.pm_meaning.specs.FirstValues.{login_name, first_process}
 use Rattle.pm_meaning.specs.Changes.{entered}
 use Rattle.pm_meaning.specs.Turns.{Turn, GoesOn, Halts, say_then}
-use Rattle.pm_journal.specs.Walking.{Next, Stop, Go, Reaches, Completes, Interrupted}
-use Rattle.pm_meaning.specs.Running.{State, Arrived, Running, Over, Item, Do, step, renewal, begun, dated, unread, ahead, after_read, has_default, fall_off, statement, next_of}
+use Rattle.pm_journal.specs.Walking.{Next, Stop, Go, Means, IsUnfinished, Reaches, Completes, Interrupted}
+use Rattle.pm_meaning.specs.Running.{State, Arrived, Running, FallingOff, Over, Item, Do, step, renewal, begun, dated, unread, ahead, after_read, default_mailboxes, deliver_default, next_default, statement, next_of}
 use Rattle.pm_meaning.specs.declared.command_line.CommandLine.{CommandLine}
 use Rattle.pm_meaning.specs.Minds.{Mind}
 use Rattle.pm_meaning.specs.declared.process.End.{End}
 use Rattle.pm_meaning.specs.declared.process.Ending.{Ending}
-use Rattle.pm_meaning.specs.declared.process.End.TheVariants.{FellOff, NoRc, NotBuilt}
+use Rattle.pm_meaning.specs.declared.process.End.TheVariants.{NoRc}
+use Rattle.pm_journal.proofs.AccountsJoin.{accounts_join}
 use Rattle.pm_journal.proofs.ActPlans.{executes_then}
 use Rattle.pm_journal.proofs.WantsMemory.{executes_nothing, out_then, out_front, out_anywhere}
 use Rattle.pm_journal.proofs.WalkJoin.{reaches_then, completes_then, interrupted_then}
@@ -41,15 +42,51 @@ use Rattle.pm_actions.proofs.Choices.{choose_then, choose_else, then_out, else_o
 abbrev Onward : Type 0
 Onward = Next State Ending
 
--- the default mailbox isn't built yet, or there is none
-pub default_waits : (p : Mind) (x : JournalState) (s : View) → has_default p ≡ true → Executes {R = Onward} (fall_off p) (Go (Over NotBuilt p)) x x s s
-default_waits p x s e = choose_then (has_default p) (Ends (Go (Over NotBuilt p))) (say_then p no_delivery_line (Go (Over FellOff p))) (Go (Over NotBuilt p)) x x s s e (executes_nothing (Go (Over NotBuilt p)) x x s refl)
+-- from one state to another, and on to a third
+pub reaches_reached : (s t u : State) (x y z : JournalState) (a b c : View) → Reaches {X = Ending} step s t x y a b → Reaches {X = Ending} step t u y z b c → Reaches {X = Ending} step s u x z a c
+reaches_reached s t u x y z a b c h k = record {
+  more = h.more ++ k.more;
+  entries = k.entries ∙ ap (λ l. l ++ k.more) h.entries ∙ append_assoc x.entries h.more k.more;
+  means = λ later end m. subst (λ l. Means step s l end) (sym (append_assoc h.more k.more later)) (h.means (k.more ++ later) end (k.means later end m));
+  unfinished = λ later calls m. subst (λ l. IsUnfinished step s l calls) (sym (append_assoc h.more k.more later)) (h.unfinished (k.more ++ later) calls (k.unfinished later calls m));
+  accounts = accounts_join h.more k.more a b c h.accounts k.accounts;
+}
 
-pub fell_off : (p : Mind) (line : List ℕ) (x y : JournalState) (a b : View) → has_default p ≡ false → line ≡ no_delivery_line → Says line x y a b → Executes {R = Onward} (fall_off p) (Go (Over FellOff p)) x y a b
-fell_off p line x y a b e is h = choose_else (has_default p) (Ends (Go (Over NotBuilt p))) (say_then p no_delivery_line (Go (Over FellOff p))) (Go (Over FellOff p)) x y a b e (line_told p no_delivery_line line (Go (Over FellOff p)) x y a b is h)
+-- a process that no statement ended comes to its default mailboxes
+pub falls : (p : Mind) (mailboxes : List (List ℕ)) (x : JournalState) (s : View) → mailboxes ≡ default_mailboxes p.vars → Executes {R = Onward} (step (Running [] p)) (Go (FallingOff mailboxes p)) x x s s
+falls p mailboxes x s e = subst (λ l. Executes {R = Onward} (step (Running [] p)) (Go (FallingOff l p)) x x s s) (sym e) (executes_nothing (Go (FallingOff (default_mailboxes p.vars) p)) x x s refl)
 
-pub fell_off_out : (p : Mind) (line : List ℕ) (x y : JournalState) (a b : View) → has_default p ≡ false → line ≡ no_delivery_line → OutOfMemory (ask (SayErr line)) x y a b → OutOfMemory {R = Onward} (fall_off p) x y a b
-fell_off_out p line x y a b e is h = else_out (has_default p) (Ends (Go (Over NotBuilt p))) (say_then p no_delivery_line (Go (Over FellOff p))) x y a b e (line_out p no_delivery_line line (Go (Over FellOff p)) x y a b is h)
+first_mailbox : (mailbox : List ℕ) (rest : List (List ℕ)) (p : Mind) (turn : Turn) (x y : JournalState) (a b : View) → Executes (deliver_default mailbox p) turn x y a b
+    → Executes (step (FallingOff (mailbox ∷ rest) p)) (next_default rest turn) x y a b
+first_mailbox mailbox rest p turn x y a b h =
+    executes_then (deliver_default mailbox p) (λ t. Ends (next_default rest t)) turn (next_default rest turn) x y y a b b h (executes_nothing (next_default rest turn) y y b refl)
+
+pub mailbox_on : (s : State) (items rest : List (List ℕ)) (mailbox : List ℕ) (p q : Mind) (x y z : JournalState) (a b c : View) → items ≡ mailbox ∷ rest → Reaches {X = Ending} step s (FallingOff items p) x y a b
+    → Executes (deliver_default mailbox p) (GoesOn q) y z b c → Reaches {X = Ending} step s (FallingOff rest q) x z a c
+mailbox_on s items rest mailbox p q x y z a b c e h k =
+    reaches_then step s (FallingOff (mailbox ∷ rest) p) (FallingOff rest q) x y z a b c
+    (subst (λ l. Reaches {X = Ending} step s (FallingOff l p) x y a b) e h) (first_mailbox mailbox rest p (GoesOn q) y z b c k)
+
+pub mailbox_ends : (s : State) (items rest : List (List ℕ)) (mailbox : List ℕ) (p q : Mind) (end : End) (x y z : JournalState) (a b c : View) → items ≡ mailbox ∷ rest → Reaches {X = Ending} step s (FallingOff items p) x y a b
+    → Executes (deliver_default mailbox p) (Halts end q) y z b c → Reaches {X = Ending} step s (Over end q) x z a c
+mailbox_ends s items rest mailbox p q end x y z a b c e h k =
+    reaches_then step s (FallingOff (mailbox ∷ rest) p) (Over end q) x y z a b c
+    (subst (λ l. Reaches {X = Ending} step s (FallingOff l p) x y a b) e h) (first_mailbox mailbox rest p (Halts end q) y z b c k)
+
+pub mailbox_wants : (s : State) (items rest : List (List ℕ)) (mailbox : List ℕ) (p : Mind) (x y z : JournalState) (a b c : View) → items ≡ mailbox ∷ rest → Reaches {X = Ending} step s (FallingOff items p) x y a b
+    → OutOfMemory (deliver_default mailbox p) y z b c → Interrupted {X = Ending} step s x z a c
+mailbox_wants s items rest mailbox p x y z a b c e h k =
+    interrupted_then step s (FallingOff (mailbox ∷ rest) p) x y z a b c
+    (subst (λ l. Reaches {X = Ending} step s (FallingOff l p) x y a b) e h) (out_front (deliver_default mailbox p) (λ t. Ends (next_default rest t)) y z b c k)
+
+-- no default mailbox is left
+pub none_on : (s : State) (items : List (List ℕ)) (p q : Mind) (end : End) (x y z : JournalState) (a b c : View) → items ≡ [] → Reaches {X = Ending} step s (FallingOff items p) x y a b
+    → Executes {R = Onward} (step (FallingOff [] p)) (Go (Over end q)) y z b c → Reaches {X = Ending} step s (Over end q) x z a c
+none_on s items p q end x y z a b c e h k = reaches_then step s (FallingOff [] p) (Over end q) x y z a b c (subst (λ l. Reaches {X = Ending} step s (FallingOff l p) x y a b) e h) k
+
+pub none_wants : (s : State) (items : List (List ℕ)) (p : Mind) (x y z : JournalState) (a b c : View) → items ≡ [] → Reaches {X = Ending} step s (FallingOff items p) x y a b
+    → OutOfMemory {R = Onward} (step (FallingOff [] p)) y z b c → Interrupted {X = Ending} step s x z a c
+none_wants s items p x y z a b c e h k = interrupted_then step s (FallingOff [] p) x y z a b c (subst (λ l. Reaches {X = Ending} step s (FallingOff l p) x y a b) e h) k
 
 -- the rcfile wasn't read
 pub filter_ends : (name : List ℕ) (p : Mind) (x : JournalState) (s : View) → p.filter ≡ true → Executes {R = Onward} (unread name [] p) (Go (Over NoRc p)) x x s s

@@ -4,6 +4,7 @@
 #![tactic(auto)]
 
 mod assigning;
+mod falling_off;
 mod first_values;
 mod process;
 mod statements;

@@ -5,19 +5,20 @@ ghost use Rattle.pm_journal.specs.Held.{Keeping};
 ghost use Rattle.pm_journal.specs.Walking.{Go, Completes, Abandoned};
 ghost use Rattle.pm_message.specs.FromLine.{makes_line, prepared_of};
 ghost use Rattle.pm_recipe.specs.Build.{rc_of};
-ghost use Rattle.pm_meaning.specs.Changes.{entered, is_given};
+ghost use Rattle.pm_meaning.specs.Changes.{entered};
 ghost use Rattle.pm_meaning.specs.Minds.{mind_of};
 ghost use Rattle.pm_meaning.specs.Running.{Arrived, Running, Over, ahead, step, renewal as renewal_of};
-ghost use Rattle.pm_meaning.specs.Running.{unread, has_default as default_given, fall_off as falls_off};
+ghost use Rattle.pm_meaning.specs.Running.{unread};
 ghost use Rattle.pm_meaning.specs.declared.process.Ending.{Ending};
 ghost use Rattle.pm_run.specs.Ends.{opening, opened_next};
 ghost use Rattle.pm_run.specs.Stretches.{Walks};
 
+use crate::falling_off::fall_off;
 use crate::first_values::{begin, login};
 use crate::statements::run_statements;
 use pm_acts::{Outside, ask_moment, give_all, read, say};
 use pm_bytes::{Blob, Environ, Memory, Name};
-use pm_journal::{HeldLocks, Journal, couldnt_read, no_delivery};
+use pm_journal::{HeldLocks, Journal, couldnt_read};
 use pm_meaning::{CommandLine, End, Ending, Process};
 use pm_message::{Message, Renew, needs_line, prepare, split};
 use pm_recipe::{Rc, RcRefused, Statements, read_rc};
@@ -217,42 +218,4 @@ fn miss_rcfile<D: Outside>(
     let line = couldnt_read(alloc, name)?;
     say(&process.locks, line, outside, journal)?;
     Ok(Opened::Read(Statements::new(alloc)))
-}
-
-// No statement ended the process.
-fn fall_off<D: Outside>(
-    alloc: Global,
-    process: &Process,
-    outside: &mut D,
-    journal: &mut Journal,
-) -> Result<End, Memory>
-    requires keeping { Keeping journal.old process.now.locks.names }
-    ensures carries { Carries (falls_off (mind_of process.now))
-        (λ end. Go (Over end (mind_of process.now))) result
-        journal.old journal.new (D.told outside.old) (D.told outside.new) }
-    ensures keeping { Keeping journal.new process.now.locks.names }
-{
-    if has_default(process) {
-        return Ok(End::NotBuilt);
-    }
-    let line = no_delivery(alloc)?;
-    say(&process.locks, line, outside, journal)?;
-    Ok(End::FellOff)
-}
-
-// Whether there is a default mailbox.
-fn has_default(process: &Process) -> bool
-    ensures { result ≡ default_given (mind_of process.now) }
-{
-    !process.filter || is_set(process, b"DEFAULT") || is_set(process, b"ORGMAIL")
-}
-
-// Whether the variable is set and not empty.
-fn is_set(process: &Process, name: &[u8]) -> bool
-    ensures { result ≡ is_given name.now (mind_of process.now) }
-{
-    match process.vars.get(name) {
-        Some(value) => value.len() != 0,
-        None => false,
-    }
 }

@@ -29,7 +29,9 @@ returns-in-Held-clause-carries g c =
     let p = mind_of c.args.process.now in
     let r = mind_of c.append_all-filed.new.process in
     let with =
-        locked_mind c.args.name c.in_ok-noted.noted c.lock_rule-rule.result c.take.result c.in-Held.sleeps c.in-Held.forced c.reserve.new.self.names c.take.new.held.names p c.in_ok-noted.ensures c.in-Held.is c.reserve.ensures.same c.take.ensures.held in
-    (attempted_locked c.args.flags c.args.words.now c.args.name c.in_ok-noted.noted c.lock_rule-rule.result c.take.result c.in-Held.sleeps c.in-Held.forced c.in_ok-copies.copies.items p (record p { locks = c.take.new.held.names }) r _
-    c.append_all-filed.result c.give-removed.result c.is_stuck-stuck.result c.args.journal.now c.reserve-2.new.self c.take.new.journal c.append_all-filed.new.journal c.give-removed.new.journal _ _ _ _ c.in_ok-noted.ensures c.lock_rule-rule.ensures
-    c.in-Held.is c.in_ok-copies.ensures c.reserve-2.ensures.same c.take.ensures.notes with c.append_all-filed.ensures.files c.give-removed.ensures.notes c.is_stuck-stuck.ensures (ap (λ l. record r { locks = l }) c.give-removed.ensures.names), tt)
+    locked_mind c.args.name c.in_ok-noted.noted c.lock_rule-rule.result c.take.result c.in-Held.sleeps c.in-Held.forced c.reserve.new.self.names c.take.new.held.names p c.in_ok-noted.ensures c.in-Held.is c.reserve.ensures.same c.take.ensures.held in (
+      attempted_locked c.args.flags c.args.words.now c.args.name c.in_ok-noted.noted c.lock_rule-rule.result c.take.result c.in-Held.sleeps c.in-Held.forced c.in_ok-copies.copies.items p (record p { locks = c.take.new.held.names }) r _
+          c.append_all-filed.result c.give-removed.result c.is_stuck-stuck.result c.args.journal.now c.reserve-2.new.self c.take.new.journal c.append_all-filed.new.journal c.give-removed.new.journal _ _ _ _ c.in_ok-noted.ensures c.lock_rule-rule.ensures
+          c.in-Held.is c.in_ok-copies.ensures c.reserve-2.ensures.same c.take.ensures.notes with c.append_all-filed.ensures.files c.give-removed.ensures.notes c.is_stuck-stuck.ensures (ap (λ l. record r { locks = l }) c.give-removed.ensures.names),
+      tt,
+    )

@@ -38,7 +38,7 @@ returns-in-Words-clause-carries g c =
     let lock = text_or [] o.lock.now in
     let lock_is : c.in_ok-lock_runs.lock_runs ≡ has_command One lock = rw c.lock_text-lock.ensures at c.in_ok-lock_runs.ensures in
     let none : either_runs o.lock.now o.text.now ≡ false =
-        both_false (has_command One lock) (has_command Many o.text.now) (sym lock_is ∙ c.if-lock_runs.false) (sym c.in_ok-text_runs.ensures ∙ c.if-text_runs.false) in
+    both_false (has_command One lock) (has_command Many o.text.now) (sym lock_is ∙ c.if-lock_runs.false) (sym c.in_ok-text_runs.ensures ∙ c.if-text_runs.false) in
     let fits = rw (c.in-Words.is, c.lock_text-lock.ensures) at c.in_ok-words.ensures in
     let value = c.first_word-value.result in
     let same = lock_expands o.flags o.lock.now value o.text.now p none fits.0 (c.first_word-value.ensures ∙ ap first_word fits.1) in

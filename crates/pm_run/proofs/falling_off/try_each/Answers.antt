@@ -1,0 +1,40 @@
+use Rattle.std.proofs.Common.{◌≡◌, [], rules}
+use Rattle.pm_journal.proofs.WalkJoin.{reaches_itself}
+use Rattle.pm_journal.proofs.WantsMemory.{on_err}
+use Rattle.pm_meaning.specs.Minds.{mind_of}
+use Rattle.pm_meaning.specs.Running.{FallingOff, step}
+use Rattle.pm_actions.proofs.Choices.{ok_map, err_map}
+use Rattle.pm_run.proofs.ProcessLemmas.{mailbox_on, mailbox_ends, mailbox_wants, none_on, none_wants}
+use Rattle.pm_run.proofs.falling_off.try_each.Goals as goal
+
+pub loop-mailbox-init : goal.loop-mailbox-init
+loop-mailbox-init g c = record { reaches = reaches_itself step _ _ _; keeping = c.requires.keeping }
+
+pub returns-in_err-end-clause-walks : goal.returns-in_err-end-clause-walks
+returns-in_err-end-clause-walks g c =
+    let start = FallingOff c.args.mailboxes.items (mind_of c.args.process.now) in
+    (search rules, on_err _ _ (mailbox_wants start c.loop-mailbox.mailboxes.items c.pop_front.new.self.items c.in-Some.mailbox (mind_of c.loop-mailbox.process) c.args.journal.now c.loop-mailbox.journal c.deliver_default.new.journal _ _ _ c.in-Some.ensures.items c.loop-mailbox.invariant.reaches c.in_err-end.ensures.carries.1))
+
+pub returns-in-Some-2-clause-walks : goal.returns-in-Some-2-clause-walks
+returns-in-Some-2-clause-walks g c =
+    let start = FallingOff c.args.mailboxes.items (mind_of c.args.process.now) in
+    let ended = rw c.in-Some-2.is at c.in_ok-end.ensures.carries.0 in
+    (mailbox_ends start c.loop-mailbox.mailboxes.items c.pop_front.new.self.items c.in-Some.mailbox (mind_of c.loop-mailbox.process) (mind_of c.deliver_default.new.process) c.in-Some-2.end c.args.journal.now c.loop-mailbox.journal c.deliver_default.new.journal _ _ _ c.in-Some.ensures.items c.loop-mailbox.invariant.reaches ended, tt)
+
+pub loop-mailbox-preserved : goal.loop-mailbox-preserved
+loop-mailbox-preserved g c =
+    let start = FallingOff c.args.mailboxes.items (mind_of c.args.process.now) in
+    let tried = rw c.in_default-2.is at c.in_ok-end.ensures.carries.0 in
+    record {
+      reaches = mailbox_on start c.loop-mailbox.mailboxes.items c.pop_front.new.self.items c.in-Some.mailbox (mind_of c.loop-mailbox.process) (mind_of c.deliver_default.new.process) c.args.journal.now c.loop-mailbox.journal c.deliver_default.new.journal _ _ _ c.in-Some.ensures.items c.loop-mailbox.invariant.reaches tried;
+      keeping = c.deliver_default.ensures.keeping;
+    }
+
+pub returns-clause-walks : goal.returns-clause-walks
+returns-clause-walks g c =
+    let start = FallingOff c.args.mailboxes.items (mind_of c.args.process.now) in
+    let p = mind_of c.loop-mailbox.process in
+    let none : c.loop-mailbox.mailboxes.items ≡ [] = search rules in (
+      ok_map _ _ _ (λ end h. none_on start c.loop-mailbox.mailboxes.items p p end c.args.journal.now c.loop-mailbox.journal c.lose.new.journal _ _ _ none c.loop-mailbox.invariant.reaches h) c.lose.ensures.carries.0,
+      err_map _ _ _ (λ h. none_wants start c.loop-mailbox.mailboxes.items p c.args.journal.now c.loop-mailbox.journal c.lose.new.journal _ _ _ none c.loop-mailbox.invariant.reaches h) c.lose.ensures.carries.1,
+    )
