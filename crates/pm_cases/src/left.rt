@@ -38,6 +38,10 @@ fn push_entry(alloc: Global, told: &mut Told, plan: &Plan, entry: &Entry) -> Res
     push_act(alloc, told, &entry.act)?;
     match &entry.reply {
         Reply::Content(bytes) => push_content(told, plan, &entry.act, bytes),
+        Reply::Held { sleeps, forced } => {
+            let text = format!(in alloc; "Held({sleeps},{forced})")?;
+            told.add(text.as_str().as_bytes())
+        }
         reply => told.add(debug_of(alloc, reply)?.as_str().as_bytes()),
     }
 }
@@ -54,6 +58,17 @@ fn push_act(alloc: Global, told: &mut Told, act: &Act) -> Result<(), Memory> {
         Act::SayFile { name, text } => {
             push_named(told, "SayFile", name)?;
             told.add(text.as_slice())
+        }
+        Act::Lock {
+            name,
+            sleep,
+            limit,
+            suspend,
+            tries,
+        } => {
+            push_named(told, "Lock", name)?;
+            let rule = format!(in alloc; "{sleep},{limit},{suspend},{tries}")?;
+            told.add(rule.as_str().as_bytes())
         }
         Act::WriteOut { piece } => {
             told.add(b"WriteOut")?;

@@ -17,6 +17,22 @@ pub struct Limit {
     pub most: usize,
 }
 
+/// What others do to a file while the run sleeps.
+#[derive(Clone, Copy)]
+pub enum Deed {
+    Append,
+    Create,
+    Remove,
+}
+
+/// One change that others make, with the bytes that they add.
+#[derive(Drop)]
+pub struct Other {
+    pub deed: Deed,
+    pub name: Vec<u8>,
+    pub bytes: Vec<u8>,
+}
+
 /// Which calls of the host fail besides those that are named one by one.
 #[derive(Clone, Copy)]
 pub enum Failing {
@@ -55,6 +71,7 @@ pub struct Plan {
     pub stands: Vec<Stands>,
     pub fails: Vec<u64>,
     pub limits: Vec<Limit>,
+    pub batches: Vec<Vec<Other>>,
     pub lost: Option<u64>,
     pub failing: Failing,
     /// Each of the first so many writes to `err` is lost, one at a time, and none.
@@ -79,6 +96,7 @@ impl Plan {
             stands: Vec::new(alloc),
             fails: Vec::new(alloc),
             limits: Vec::new(alloc),
+            batches: Vec::new(alloc),
             lost: None,
             failing: Failing::None,
             each_lost: 0,
@@ -122,6 +140,8 @@ impl Plan {
                 }
                 _ => return Err(TOO_FEW),
             },
+            "batch" => self.batches.push(Vec::new(self.alloc))?,
+            "others" => self.add_other(words)?,
             "lost" => self.lost = Some(read_u64(only(words)?)?),
             "failing-each" => self.failing = Failing::Each(read_u64(only(words)?)?),
             "failing-pairs" => self.failing = Failing::Pairs(read_u64(only(words)?)?),
@@ -178,6 +198,21 @@ impl Plan {
         Ok(())
     }
 
+    // The changes of others go to the batch that was begun last.
+    fn add_other(&mut self, words: &[Vec<u8>]) -> Result<(), Refused> {
+        let (deed, name, bytes) = match words {
+            [deed, name] => (deed_of(deed)?, name, Vec::new(self.alloc)),
+            [deed, name, bytes] => (deed_of(deed)?, name, bytes.as_slice().to_vec(self.alloc)?),
+            _ => return Err(TOO_FEW),
+        };
+        let name = name.as_slice().to_vec(self.alloc)?;
+        match self.batches.last_mut() {
+            Some(batch) => batch.push(Other { deed, name, bytes })?,
+            None => return Err(Refused::Misread("no batch was begun")),
+        }
+        Ok(())
+    }
+
     fn add_outcome(&mut self, words: &[Vec<u8>]) -> Result<(), Refused> {
         let failing = numbers_of(self.alloc, words)?;
         let wanted = Told::new(self.alloc);
@@ -210,6 +245,15 @@ impl Plan {
             }
         }
         None
+    }
+}
+
+fn deed_of(word: &[u8]) -> Result<Deed, Refused> {
+    match text_of(word) {
+        "append" => Ok(Deed::Append),
+        "create" => Ok(Deed::Create),
+        "remove" => Ok(Deed::Remove),
+        _ => Err(Refused::Misread("others append, create or remove")),
     }
 }
 

@@ -3,10 +3,10 @@ ghost use Rattle.std.specs.Prelude.{◌≡◌, IfOk};
 ghost use Rattle.pm_memory.specs.Host.{child_of};
 
 use crate::left::push_left;
-use crate::plan::{Choice, Limit, Plan, Stands};
+use crate::plan::{Choice, Deed, Limit, Other, Plan, Stands};
 use case_file::{Refused, Told};
-use pm_bytes::{Environ, Name, Pair, Pairs};
-use pm_host::Child;
+use pm_bytes::{Blob, Environ, Name, Pair, Pairs};
+use pm_host::{Change, Child};
 use pm_journal::Journal;
 use pm_memory::{MemoryHost, MemorySink, MemorySource};
 use pm_top::procmail;
@@ -68,6 +68,7 @@ fn host_of(alloc: Global, plan: &Plan, failing: [u64; 2]) -> Result<MemoryHost, 
     fail_each(&mut host, &plan.fails)?;
     fail_each(&mut host, &failing)?;
     limit_each(&mut host, &plan.limits)?;
+    batch_each(alloc, &mut host, &plan.batches)?;
     Ok(host)
 }
 
@@ -99,6 +100,29 @@ fn limit_each(host: &mut MemoryHost, limits: &[Limit]) -> Result<(), Refused>
         host.limit(limit.call, limit.most.max(1))?;
     }
     Ok(())
+}
+
+fn batch_each(alloc: Global, host: &mut MemoryHost, batches: &[Vec<Other>]) -> Result<(), Refused>
+    ensures { child_of host.new ≡ child_of host.old }
+{
+    for batch in batches {
+        host.batch(changes_of(alloc, batch)?)?;
+    }
+    Ok(())
+}
+
+fn changes_of(alloc: Global, batch: &[Other]) -> Result<Vec<Change>, Refused> {
+    let mut changes = Vec::new(alloc);
+    for other in batch {
+        let name = Name::read(alloc, &other.name)?;
+        let bytes = Blob::from_slice(alloc, &other.bytes)?;
+        changes.push(match other.deed {
+            Deed::Append => Change::Append { name, bytes },
+            Deed::Create => Change::Create { name, bytes },
+            Deed::Remove => Change::Remove { name },
+        })?;
+    }
+    Ok(changes)
 }
 
 fn environment(alloc: Global, plan: &Plan) -> Result<Environ, Refused> {
