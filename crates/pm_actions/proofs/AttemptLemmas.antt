@@ -17,8 +17,8 @@ use Rattle.pm_journal.proofs.ActPlans.{executes_then}
 use Rattle.pm_journal.proofs.FirstActs.{first_act}
 use Rattle.pm_journal.proofs.WantsMemory.{executes_nothing}
 use Rattle.pm_recipe.specs.declared.tree.Flags.{Flags}
-use Rattle.pm_meaning.specs.Delivering.{Filing, Attempted, file_all, is_fault, give_back, under_lock, attempt}
-use Rattle.pm_meaning.specs.Locks.{rule_of, with_lock}
+use Rattle.pm_meaning.specs.Delivering.{Filing, Attempted, file_all, give_back, under_lock, attempt}
+use Rattle.pm_meaning.specs.Locks.{is_fault, rule_of, with_lock}
 use Rattle.pm_meaning.specs.Minds.{Mind}
 use Rattle.pm_meaning.specs.declared.process.Filed.{Filed}
 use Rattle.pm_meaning.specs.declared.process.Attempt.TheVariants.{Unlocked, Locked}

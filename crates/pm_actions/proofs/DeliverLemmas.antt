@@ -20,8 +20,8 @@ use Rattle.pm_subst.specs.Words.{words_in}
 use Rattle.pm_subst.specs.declared.kinds.Mode.TheVariants.{One, Many}
 use Rattle.pm_meaning.specs.Assigning.{value_in}
 use Rattle.pm_meaning.specs.Locks.{text_or, lock_word, blamed_text, is_lock_word, full_lock, is_taken, any_held}
-use Rattle.pm_meaning.specs.Turns.{Turn, Halts, not_built, is_too_long, has_command, skip_value}
-use Rattle.pm_meaning.specs.Delivering.{is_plain, is_folder_name, are_file_texts, Attempted, attempt, attempt_lines, attempt_turn, say_each, after_attempt, file_and_say, refuse_name, deliver_at, deliver_named, is_without, deliver_to, deliver_text, deliver, act_on, run_recipe}
+use Rattle.pm_meaning.specs.Turns.{Turn, Halts, not_built, refuse_name, is_too_long, has_command, skip_value}
+use Rattle.pm_meaning.specs.Delivering.{is_plain, is_folder_name, are_file_texts, Attempted, attempt, attempt_lines, attempt_turn, say_each, after_attempt, file_and_say, deliver_at, deliver_named, is_without, deliver_to, deliver_text, deliver, act_on, run_recipe}
 use Rattle.pm_meaning.specs.Minds.{Mind}
 use Rattle.pm_meaning.specs.Running.{no_flags, deliver_default}
 use Rattle.pm_meaning.specs.declared.process.End.TheVariants.{NotBuilt}

@@ -3,7 +3,7 @@ use Rattle.std.specs.Prelude.{◌≡◌, ℕ, true, false, List, Option, Some, N
 use Rattle.std.specs.Global.{Global}
 use Rattle.pm_recipe.specs.Tree.{Top}
 use Rattle.pm_recipe.specs.declared.tree.Recipe.{Recipe}
-use Rattle.pm_meaning.specs.Assigning.{is_file_text}
+use Rattle.pm_meaning.specs.Texts.{is_file_text}
 use Rattle.pm_meaning.specs.Delivering.{are_file_texts}
 use Rattle.pm_meaning.specs.Locks.{is_lock_word}
 use Rattle.pm_bytes.specs.declared.error.NameRefused.{NameRefused}

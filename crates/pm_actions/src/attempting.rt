@@ -4,7 +4,8 @@ ghost use Rattle.std.specs.Prelude.{◌≡◌, false, IfOk, OnErr};
 ghost use Rattle.pm_journal.specs.Entries.{unlock_reply};
 ghost use Rattle.pm_journal.specs.Executed.{Carries};
 ghost use Rattle.pm_journal.specs.Held.{Keeping, holds_name};
-ghost use Rattle.pm_meaning.specs.Delivering.{attempt as attempted, is_fault};
+ghost use Rattle.pm_meaning.specs.Delivering.{attempt as attempted};
+ghost use Rattle.pm_meaning.specs.Locks.{is_fault};
 ghost use Rattle.pm_meaning.specs.Minds.{mind_of};
 ghost use Rattle.pm_actions.specs.Copies.{attempted_of, IsFreeLock};
 
@@ -103,8 +104,8 @@ fn file_locked<D: Outside>(
     }
 }
 
-// Whether the removal of a lock file failed.
-fn is_stuck(removed: Removed) -> bool
+/// Whether the removal of a lock file failed.
+pub fn is_stuck(removed: Removed) -> bool
     ensures { result ≡ is_fault (unlock_reply removed) }
 {
     match removed {

@@ -7,8 +7,8 @@ ghost use Rattle.pm_recipe.specs.View.{act_of};
 ghost use Rattle.pm_meaning.specs.Locks.{blamed_text as blamed};
 ghost use Rattle.pm_meaning.specs.Delivering.{is_plain as is_plain_top, attempt_turn, filed_turn};
 ghost use Rattle.pm_meaning.specs.Delivering.{file_and_say as filed_and_said};
-ghost use Rattle.pm_meaning.specs.Turns.{has_command};
-ghost use Rattle.pm_meaning.specs.Delivering.{refuse_name, deliver_at as to_names, deliver_named as to_usable};
+ghost use Rattle.pm_meaning.specs.Turns.{has_command, refuse_name};
+ghost use Rattle.pm_meaning.specs.Delivering.{deliver_at as to_names, deliver_named as to_usable};
 ghost use Rattle.pm_meaning.specs.Delivering.{deliver_to as to_words, deliver_text as by_value, deliver, run_recipe};
 ghost use Rattle.pm_meaning.specs.Minds.{Mind, mind_of};
 ghost use Rattle.pm_meaning.specs.Running.{deliver_default as to_default, no_flags as none_flags};
@@ -317,8 +317,8 @@ fn file_and_say<D: Outside>(
     say_each(lines, end, process, outside, journal)
 }
 
-// The name of a file can't be used: this is told of the text.
-fn refuse<D: Outside>(
+/// The name of a file can't be used: this is told of the text.
+pub fn refuse<D: Outside>(
     alloc: Global,
     text: &[u8],
     process: &Process,

@@ -11,7 +11,9 @@ pub mod names;
 pub mod saying;
 pub mod skipping;
 
-pub use delivering::{deliver_default, perform};
+pub use attempting::is_stuck;
+pub use delivering::{deliver_default, perform, refuse};
 pub use expanding::{Expansion, expand_text, first_word, runs_command};
+pub use locks::lock_rule;
 pub use names::file_name;
 pub use skipping::skip_value;

@@ -10,7 +10,7 @@ use Rattle.pm_subst.specs.Words.{words_in}
 use Rattle.pm_subst.specs.declared.kinds.Mode.TheVariants.{One, Many}
 use Rattle.pm_journal.specs.LogText.{skipped_line, unusable_name_line}
 use Rattle.pm_journal.specs.declared.acts.Entry.{Entry}
-use Rattle.pm_journal.specs.Held.{AreUnlocks, without}
+use Rattle.pm_journal.specs.Held.{without}
 use Rattle.pm_journal.specs.Locking.{lock_act}
 use Rattle.pm_journal.specs.declared.locking.LockRule.{LockRule}
 use Rattle.pm_journal.specs.declared.acts.Reply.{Reply}
@@ -19,12 +19,13 @@ use Rattle.pm_journal.specs.Plan.{Plan, Ends, and_then, Plays}
 use Rattle.pm_journal.specs.Walking.{Next, Stop, Go, walk, reach, Means}
 use Rattle.pm_journal.proofs.PlanJoin.{plays_then}
 use Rattle.pm_meaning.specs.Minds.{Mind}
-use Rattle.pm_meaning.specs.Turns.{Turn, GoesOn, Halts, not_built, say_then, has_command, is_too_long, skip_value}
+use Rattle.pm_meaning.specs.Turns.{Turn, GoesOn, Halts, not_built, say_then, refuse_name, has_command, is_too_long, skip_value}
 use Rattle.pm_meaning.specs.Assigning.{value_in}
+use Rattle.pm_meaning.specs.GlobalLock.{give_named}
 use Rattle.pm_meaning.specs.Locks.{text_or, rule_of, lock_word, blamed_text, is_lock_word, full_lock, is_taken, any_held, with_lock}
-use Rattle.pm_meaning.specs.Delivering.{is_plain, mailbox_piece, is_folder_name, Filing, file_all, Attempted, give_back, under_lock, attempt, attempt_lines, filed_turn, attempt_turn, say_each, after_attempt, file_and_say, are_file_texts, refuse_name, deliver_at, deliver_named, is_without, deliver_to, deliver_text, deliver, act_on, run_recipe}
-use Rattle.pm_meaning.specs.Running.{State, Arrived, Running, FallingOff, Over, Item, Open, Do, no_flags, deliver_default, default_mailboxes, next_default, step, statement, next_of, ending}
-use Rattle.pm_meaning.specs.Laws.{files_of, AreDone, IsGot, IsGiven, AreLines, IsFiled, DeliversAt, DeliversLast}
+use Rattle.pm_meaning.specs.Delivering.{is_plain, mailbox_piece, is_folder_name, Filing, file_all, Attempted, give_back, under_lock, attempt, attempt_lines, filed_turn, attempt_turn, say_each, after_attempt, file_and_say, are_file_texts, deliver_at, deliver_named, is_without, deliver_to, deliver_text, deliver, act_on, run_recipe}
+use Rattle.pm_meaning.specs.Running.{State, Arrived, Running, FallingOff, Over, Closing, Item, Open, Do, no_flags, deliver_default, default_mailboxes, next_default, step, statement, next_of, ending}
+use Rattle.pm_meaning.specs.Laws.{files_of, AreDone, IsGot, IsGiven, AreLines, IsFiled, AreClosing, DeliversAt, DeliversLast}
 use Rattle.pm_meaning.specs.declared.command_line.CommandLine.{CommandLine}
 use Rattle.pm_meaning.specs.declared.process.Attempt.TheVariants.{Unlocked, NotLocked, Locked}
 use Rattle.pm_meaning.specs.declared.process.Filed.{Filed}
@@ -33,7 +34,7 @@ use Rattle.pm_meaning.specs.declared.process.End.{End}
 use Rattle.pm_meaning.specs.declared.process.End.TheVariants.{Delivered}
 use Rattle.pm_meaning.specs.declared.process.Ending.{Ending}
 use Rattle.pm_meaning.proofs.OneOutcome.{not_over}
-use Rattle.pm_meaning.proofs.Unlocks.{all_given}
+use Rattle.pm_meaning.proofs.Unlocks.{all_given, global_given, closing_join}
 use Rattle.pm_meaning.proofs.StoredDone.{stored_is_done}
 use Rattle.pm_meaning.proofs.NoDelivery.{parts_of, is_delivered, delivers, never_built, never_told, never_skipped, never_assign, never_unset, is_last, never_ends, never_prepared, never_read, never_lost}
 
@@ -273,11 +274,16 @@ by_default mailbox rest p turn front [] next h k passes = record {
 }
 by_default mailbox rest p turn front (e ∷ later) next h k passes = absurd k
 
+-- the process is over as delivered
+abbrev IsEnded : State → Type 0
+IsEnded (Over end p) = end ≡ Delivered
+IsEnded (Closing end p) = end ≡ Delivered
+IsEnded other = ⊥
+
 -- the process is over as delivered, and gives its locks back
 record IsOver (s : State) (es : List Entry) : Type 0 where
-  mind : Mind
-  is : s ≡ Over Delivered mind
-  unlocks : AreUnlocks mind.locks es
+  ended : IsEnded s
+  closing : AreClosing es
 
 delivered_end : (end : End) → is_delivered end ≡ true → end ≡ Delivered
 delivered_end Delivered h = refl
@@ -308,6 +314,10 @@ no_default_stop rest (GoesOn p) [] z h = let e : Stop z ≡ Go (FallingOff rest 
 no_default_stop rest (Halts end p) [] z h = let e : Stop z ≡ Go (Over end p) = h in cc
 no_default_stop rest turn (e ∷ es) z h = h
 
+no_close_stop : (end : End) (q : Mind) (es : List Entry) (z : Ending) → Plays {R = Next State Ending} (Ends (Go (Closing end q))) es (Stop z) → ⊥
+no_close_stop end q [] z h = let e : Stop z ≡ Go (Closing end q) = h in cc
+no_close_stop end q (e ∷ es) z h = h
+
 -- only a process that is over ends the run, and it gives its locks back alone
 stops : (s : State) (es : List Entry) (z : Ending) → Plays (step s) es (Stop z) → z.end ≡ Delivered → IsOver s es
 stops (Arrived line env bytes) es z h good = absurd (never_prepared line env bytes es (Stop z) h refl)
@@ -319,20 +329,40 @@ stops (FallingOff [] p) es z h good = absurd (never_lost p es (Stop z) h refl)
 stops (FallingOff (mailbox ∷ rest) p) es z h good =
     let k = parts_of (deliver_default mailbox p) (λ turn. Ends (next_default rest turn)) es (Stop z) h in absurd (no_default_stop rest k.middle k.rest z k.plays_rest)
 stops (Over end p) es z h good =
+    let k = parts_of (give_named p.global p) (λ q. Ends (Go (Closing end q))) es (Stop z) h in absurd (no_close_stop end k.middle k.rest z k.plays_rest)
+stops (Closing end p) es z h good =
     let given = all_given p.locks (Stop (ending end p)) es (Stop z) h in
     let e : Stop z ≡ Stop (ending end p) = given.1 in
     let same : z ≡ ending end p = cc in
-    record { mind = p; is = ap (λ x. Over x p) (sym (ap (λ (x : Ending). x.end) same) ∙ good); unlocks = given.0 }
+    record { ended = sym (ap (λ (x : Ending). x.end) same) ∙ good; closing = given.0 }
 
--- the step before a process is over as delivered
-last_step : (s t : State) (es : List Entry) → Plays (step s) es (Go t) → is_last (Go t) ≡ true → DeliversState s es
+-- what the step did before a process is over as delivered: it delivers for good, or the process was over before
+abbrev EndsOrDelivers : State → List Entry → Type 0
+EndsOrDelivers s es = IsOver s es ⊎ DeliversState s es
+
+closes : (end : End) (p q : Mind) (t : State) (front rest : List Entry) → Plays (give_named p.global p) front q → Plays {R = Next State Ending} (Ends (Go (Closing end q))) rest (Go t) → is_last (Go t) ≡ true → IsOver (Over end p) (front ++ rest)
+closes end p q t front [] h k passes =
+    record { ended = delivered_end end (sym (ap is_last k) ∙ passes); closing = closing_join front [] (global_given p.global p q front h) tt }
+closes end p q t front (e ∷ rest) h k passes = absurd k
+
+last_step : (s t : State) (es : List Entry) → Plays (step s) es (Go t) → is_last (Go t) ≡ true → EndsOrDelivers s es
 last_step (Arrived line env bytes) t es h passes = absurd (never_prepared line env bytes es (Go t) h passes)
-last_step (Running items p) t es h passes = running_last items p es (Go t) h passes
-last_step (FallingOff mailboxes p) t es h passes = falling_last mailboxes p es (Go t) h passes
+last_step (Running items p) t es h passes = inr (running_last items p es (Go t) h passes)
+last_step (FallingOff mailboxes p) t es h passes = inr (falling_last mailboxes p es (Go t) h passes)
 last_step (Over end p) t es h passes =
+    let k = parts_of (give_named p.global p) (λ q. Ends (Go (Closing end q))) es (Go t) h in
+    inl (subst (IsOver (Over end p)) (sym k.whole) (closes end p k.middle t k.front k.rest k.plays_front k.plays_rest passes))
+last_step (Closing end p) t es h passes =
     let given = all_given p.locks (Stop (ending end p)) es (Go t) h in
     let e : Go t ≡ Stop (ending end p) = given.1 in
     absurd (cc)
+
+ended_last : (t : State) → IsEnded t → is_last (Go t) ≡ true
+ended_last (Over end p) e = ap is_delivered e
+ended_last (Closing end p) e = ap is_delivered e
+ended_last (Arrived line env bytes) e = absurd e
+ended_last (Running items p) e = absurd e
+ended_last (FallingOff mailboxes p) e = absurd e
 
 -- the process goes on with so many steps
 abbrev on_with : ℕ → Next State Ending → Plan (Option Ending)
@@ -341,14 +371,13 @@ on_with n = λ next. elim next [ Stop z ↦ Ends (Some z) | Go t ↦ walk step n
 abbrev on_to : ℕ → Next State Ending → Plan (Option State)
 on_to n = λ next. elim next [ Stop z ↦ Ends None | Go t ↦ reach step n t ]
 
-at_once : (s : State) (front rest es : List Entry) (held : List (List ℕ)) → es ≡ front ++ rest → AreUnlocks held rest → DeliversState s front → DeliversLast s es
-at_once s front rest es held e unlocks d = record {
+at_once : (s : State) (front rest es : List Entry) → es ≡ front ++ rest → AreClosing rest → DeliversState s front → DeliversLast s es
+at_once s front rest es e closing d = record {
   before = [];
   last = front;
   behind = rest;
   whole = e;
-  held = held;
-  unlocks = unlocks;
+  closing = closing;
   at = s;
   flags = d.flags;
   words = d.words;
@@ -369,8 +398,7 @@ later s t front rest es e h d = record {
   last = d.last;
   behind = d.behind;
   whole = e ∙ ap (λ l. front ++ l) d.whole ∙ regroup front d.before d.last d.behind;
-  held = d.held;
-  unlocks = d.unlocks;
+  closing = d.closing;
   at = d.at;
   flags = d.flags;
   words = d.words;
@@ -394,7 +422,10 @@ ended y z s front [] h k good =
 ended y z s front (e ∷ rest) h k good = absurd k
 
 went : (s t : State) (front rest es : List Entry) → es ≡ front ++ rest → Plays (step s) front (Go t) → OverOrDelivers t rest → OverOrDelivers s es
-went s t front rest es e h (inl over) = inr (at_once s front rest es over.mind.locks e over.unlocks (last_step s t front h (ap (λ x. is_last (Go x)) over.is)))
+went s t front rest es e h (inl over) = elim (last_step s t front h (ended_last t over.ended)) [
+  | inl before ↦ inl (record { ended = before.ended; closing = subst AreClosing (sym e) (closing_join front rest before.closing over.closing) })
+  | inr d ↦ inr (at_once s front rest es e over.closing d)
+]
 went s t front rest es e h (inr d) = inr (later s t front rest es e h d)
 
 walks : (n : ℕ) (s : State) (es : List Entry) (z : Ending) → Plays (walk step n s) es (Some z) → z.end ≡ Delivered → OverOrDelivers s es
@@ -410,6 +441,6 @@ pub delivered_is_done : (line : CommandLine) (env : Environ) (bytes : List ℕ) 
     → DeliversLast (Arrived line env bytes) es
 delivered_is_done line env bytes es z h good =
     elim (walks h.steps (Arrived line env bytes) es z h.plays good) [
-      | inl over ↦ let e : Arrived line env bytes ≡ Over Delivered over.mind = over.is in absurd (cc)
+      | inl over ↦ absurd over.ended
       | inr d ↦ d
     ]

@@ -1,6 +1,6 @@
 -- The parts of plans, and what never ends a process as delivered.
 use Rattle.std.proofs.Common.{◌≡◌, ℕ, Bool, true, false, List, [], ◌∷◌, ◌++◌, refl, ap}
-use Rattle.std.specs.Prelude.{if◌then◌else◌, codes, ◌||◌, bytes_eq}
+use Rattle.std.specs.Prelude.{if◌then◌else◌, codes, ◌||◌, bytes_eq, nat_lt}
 use Rattle.pm_bytes.specs.Path.{full_name}
 use Rattle.pm_bytes.specs.declared.environment.Environ.{Environ}
 use Rattle.pm_host.specs.declared.answers.Looked.TheVariants.{Folder as LookedFolder}
@@ -9,20 +9,25 @@ use Rattle.pm_message.specs.Split.{split_of}
 use Rattle.pm_recipe.specs.Build.{rc_of}
 use Rattle.pm_subst.specs.declared.kinds.Mode.{Mode}
 use Rattle.pm_subst.specs.declared.kinds.Mode.TheVariants.{One}
-use Rattle.pm_journal.specs.LogText.{couldnt_read_line, no_delivery_line, unusable_name_line, couldnt_chdir_line}
+use Rattle.pm_journal.specs.LogText.{couldnt_read_line, no_delivery_line, unusable_name_line, couldnt_chdir_line, couldnt_lock_line, forcing_lock_line}
 use Rattle.pm_journal.specs.declared.acts.Act.{Act}
 use Rattle.pm_journal.specs.declared.acts.Act.TheVariants.{Probe, Moment, ReadFile}
 use Rattle.pm_journal.specs.declared.acts.Reply.{Reply}
-use Rattle.pm_journal.specs.declared.acts.Reply.TheVariants.{Content, Found, Now}
+use Rattle.pm_journal.specs.declared.acts.Reply.TheVariants.{Content, Found, Now, Held}
 use Rattle.pm_journal.specs.declared.acts.Entry.{Entry}
+use Rattle.pm_journal.specs.Held.{holds_name}
+use Rattle.pm_journal.specs.Locking.{lock_act}
 use Rattle.pm_journal.specs.Plan.{Plan, Ends, Asks, and_then, ask, Plays}
 use Rattle.pm_journal.specs.Walking.{Next, Stop, Go}
 use Rattle.pm_meaning.specs.Changes.{with_variable, with_base, without_variable, entered}
 use Rattle.pm_meaning.specs.Minds.{Mind}
-use Rattle.pm_meaning.specs.Turns.{Turn, GoesOn, Halts, not_built, say_then, has_command, is_too_long, skip_value}
-use Rattle.pm_meaning.specs.Assigning.{is_later, leads_elsewhere, value_in, is_file_text, probed, change_folder, assigned, assign, unset}
+use Rattle.pm_meaning.specs.Turns.{Turn, GoesOn, Halts, not_built, say_then, refuse_name, has_command, is_too_long, skip_value}
+use Rattle.pm_meaning.specs.Assigning.{is_later, leads_elsewhere, value_in, probed, change_folder, assigned, assign, unset}
 use Rattle.pm_meaning.specs.FirstValues.{login_name}
-use Rattle.pm_meaning.specs.Running.{State, Running, Over, Item, renewal, begun, dated, prepare, unread, ahead, after_read}
+use Rattle.pm_meaning.specs.GlobalLock.{with_global, give_named, drop_lock, got_lock, take_lock, change_lock}
+use Rattle.pm_meaning.specs.Locks.{rule_of}
+use Rattle.pm_meaning.specs.Texts.{is_empty, is_file_text}
+use Rattle.pm_meaning.specs.Running.{State, Running, Over, Closing, Item, renewal, begun, dated, prepare, unread, ahead, after_read}
 use Rattle.pm_meaning.specs.declared.command_line.CommandLine.{CommandLine}
 use Rattle.pm_meaning.specs.declared.process.End.{End}
 use Rattle.pm_meaning.specs.declared.process.End.TheVariants.{Delivered, FellOff, NoRc, NotBuilt}
@@ -92,11 +97,39 @@ never_changed value p =
     never_if delivers (is_file_text value) (and_then (ask (Probe name)) (probed name p)) (say_then p (unusable_name_line value) (GoesOn p))
     (never_asked delivers (Probe name) (probed name p) (never_probed name p)) (never_told p (unusable_name_line value))
 
+never_dropped : (p : Mind) → Never delivers (drop_lock p)
+never_dropped p es end h passes =
+    let k = parts_of (give_named p.global p) (λ q. Ends (GoesOn q)) es end h in never_goes k.middle k.rest end k.plays_rest passes
+
+never_got : (name : List ℕ) (p : Mind) (reply : Reply) → Never delivers (got_lock name p reply)
+never_got name p (Held sleeps forced) =
+    let q = with_global name p in
+    never_if delivers (nat_lt 0 forced) (say_then q (forcing_lock_line name) (GoesOn q)) (Ends (GoesOn q)) (never_told q (forcing_lock_line name)) (never_goes q)
+never_got name p other = never_told p (couldnt_lock_line name)
+
+never_locked : (value : List ℕ) (p : Mind) → Never delivers (take_lock value p)
+never_locked value p =
+    let name = full_name p.base value in
+    let act = lock_act name (rule_of p.vars) in
+    never_if delivers (holds_name p.locks name) (refuse_name value p) (and_then (ask act) (got_lock name p))
+    (never_told p (unusable_name_line value)) (never_asked delivers act (got_lock name p) (never_got name p))
+
+never_changed_lock : (value : List ℕ) (p : Mind) → Never delivers (change_lock value p)
+never_changed_lock value p =
+    let taken : Plan Turn = and_then (give_named p.global p) (take_lock value) in
+    let named : Plan Turn = if is_file_text value then taken else refuse_name value p in
+    never_if delivers (is_empty value) (drop_lock p) named (never_dropped p)
+    (never_if delivers (is_file_text value) taken (refuse_name value p)
+    (λ es end h passes. let k = parts_of (give_named p.global p) (take_lock value) es end h in never_locked value k.middle k.rest end k.plays_rest passes) (never_told p (unusable_name_line value)))
+
 never_set : (name value : List ℕ) (p : Mind) → Never delivers (assigned name value p)
 never_set name value p =
     let q = with_variable name value p in
-    never_if delivers (leads_elsewhere name value p) (not_built p) (if bytes_eq name (codes "MAILDIR") then change_folder value q else Ends (GoesOn q))
-    (never_built p) (never_if delivers (bytes_eq name (codes "MAILDIR")) (change_folder value q) (Ends (GoesOn q)) (never_changed value q) (never_goes q))
+    let lock : Plan Turn = if bytes_eq name (codes "LOCKFILE") then change_lock value q else Ends (GoesOn q) in
+    let folder : Plan Turn = if bytes_eq name (codes "MAILDIR") then change_folder value q else lock in
+    never_if delivers (leads_elsewhere name value p) (not_built p) folder
+    (never_built p) (never_if delivers (bytes_eq name (codes "MAILDIR")) (change_folder value q) lock (never_changed value q)
+    (never_if delivers (bytes_eq name (codes "LOCKFILE")) (change_lock value q) (Ends (GoesOn q)) (never_changed_lock value q) (never_goes q)))
 
 pub never_skipped : (mode : Mode) (text : List ℕ) (p : Mind) → Never delivers (skip_value mode text p)
 never_skipped mode text p [] end h passes = h
@@ -111,13 +144,16 @@ never_assign name text p =
 
 pub never_unset : (name : List ℕ) (p : Mind) → Never delivers (unset name p)
 never_unset name p =
-    never_if delivers (bytes_eq name (codes "LOCKFILE") || bytes_eq name (codes "SWITCHRC")) (not_built p) (Ends (GoesOn (without_variable name p)))
-    (never_built p) (never_goes (without_variable name p))
+    let q = without_variable name p in
+    let lock : Plan Turn = if bytes_eq name (codes "LOCKFILE") then drop_lock q else Ends (GoesOn q) in
+    never_if delivers (bytes_eq name (codes "SWITCHRC")) (not_built p) lock (never_built p)
+    (never_if delivers (bytes_eq name (codes "LOCKFILE")) (drop_lock q) (Ends (GoesOn q)) (never_dropped q) (never_goes q))
 
 -- the run ends, or the process is over as delivered
 abbrev pub is_last : Next State Ending → Bool
 is_last (Stop ending) = true
 is_last (Go (Over end p)) = is_delivered end
+is_last (Go (Closing end p)) = is_delivered end
 is_last (Go other) = false
 
 never_dated : (line : CommandLine) (env : Environ) (bytes : List ℕ) (reply : Reply) → Never is_last (dated line env bytes reply)

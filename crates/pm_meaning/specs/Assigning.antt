@@ -1,11 +1,10 @@
 -- What assignments, unsettings and defects do.
 use Rattle.std.specs.Prelude.{ℕ, Bool, not, ◌&&◌, ◌||◌, List, [], ◌∷◌, codes, bytes_eq, if◌then◌else◌}
 use Rattle.std.specs.List.{list_any}
-use Rattle.pm_bytes.specs.Name.{is_usable}
 use Rattle.pm_bytes.specs.Path.{full_name}
 use Rattle.pm_host.specs.declared.answers.Looked.TheVariants.{Folder}
 use Rattle.pm_vars.specs.Table.{Table}
-use Rattle.pm_meaning.specs.Texts.{is_empty}
+use Rattle.pm_meaning.specs.Texts.{is_empty, is_file_text}
 use Rattle.pm_subst.specs.Words.{words_in}
 use Rattle.pm_subst.specs.declared.kinds.Mode.TheVariants.{One}
 use Rattle.pm_journal.specs.LogText.{skipped_line, unusable_name_line, couldnt_chdir_line}
@@ -14,6 +13,7 @@ use Rattle.pm_journal.specs.declared.acts.Reply.{Reply}
 use Rattle.pm_journal.specs.declared.acts.Reply.TheVariants.{Found}
 use Rattle.pm_journal.specs.Plan.{Plan, Ends, and_then, ask}
 use Rattle.pm_meaning.specs.Changes.{with_variable, without_variable, with_base}
+use Rattle.pm_meaning.specs.GlobalLock.{drop_lock, change_lock}
 use Rattle.pm_meaning.specs.Turns.{Turn, GoesOn, not_built, say_then, has_command, is_too_long, skip_value}
 use Rattle.pm_meaning.specs.Minds.{Mind}
 
@@ -21,11 +21,11 @@ use Rattle.pm_meaning.specs.Minds.{Mind}
 abbrev pub is_one_of : List ℕ → List (List ℕ) → Bool
 is_one_of name names = list_any (λ other. bytes_eq name other) names
 
--- locks, the log, and what happens at the end: assignments that aren't built yet
+-- the log, and what happens at the end: assignments that aren't built yet
 abbrev pub is_later : List ℕ → Bool
 is_later name =
     is_one_of name
-    (codes "LOCKFILE" ∷ codes "LOGFILE" ∷ codes "LOGABSTRACT" ∷ codes "TRAP" ∷ codes "EXITCODE" ∷ codes "DELIVERED" ∷ codes "LOG" ∷ codes "SHIFT" ∷ [])
+    (codes "LOGFILE" ∷ codes "LOGABSTRACT" ∷ codes "TRAP" ∷ codes "EXITCODE" ∷ codes "DELIVERED" ∷ codes "LOG" ∷ codes "SHIFT" ∷ [])
 
 -- another rcfile, or another host's rcfiles: values that ask for what isn't built yet
 abbrev pub leads_elsewhere : List ℕ → List ℕ → Mind → Bool
@@ -41,10 +41,6 @@ first_word (word ∷ words) = word
 -- the value that a text stands for
 abbrev pub value_in : Table → List ℕ → List ℕ
 value_in vars text = first_word (words_in One vars [] text)
-
--- a name that isn't empty and can be a file's
-abbrev pub is_file_text : List ℕ → Bool
-is_file_text text = not (is_empty text) && is_usable text
 
 -- names are seen from a folder that is there, and from no other
 abbrev pub probed : List ℕ → Mind → Reply → Plan Turn
@@ -62,6 +58,7 @@ abbrev pub assigned : List ℕ → List ℕ → Mind → Plan Turn
 assigned name value p =
     if leads_elsewhere name value p then not_built p
     else if bytes_eq name (codes "MAILDIR") then change_folder value (with_variable name value p)
+    else if bytes_eq name (codes "LOCKFILE") then change_lock value (with_variable name value p)
     else Ends (GoesOn (with_variable name value p))
 
 -- the assignment asks for what isn't built yet, whatever its value is
@@ -75,10 +72,12 @@ assign name text p =
     else if is_too_long One text p.vars then skip_value One text p
     else assigned name (value_in p.vars text) p
 
--- giving a lock back and leaving an rcfile aren't built yet
+-- LOCKFILE's lock is given back; leaving an rcfile isn't built yet
 abbrev pub unset : List ℕ → Mind → Plan Turn
 unset name p =
-    if bytes_eq name (codes "LOCKFILE") || bytes_eq name (codes "SWITCHRC") then not_built p else Ends (GoesOn (without_variable name p))
+    if bytes_eq name (codes "SWITCHRC") then not_built p
+    else if bytes_eq name (codes "LOCKFILE") then drop_lock (without_variable name p)
+    else Ends (GoesOn (without_variable name p))
 
 -- a line that isn't understood is told and skipped
 abbrev pub skip_defect : List ℕ → Mind → Plan Turn

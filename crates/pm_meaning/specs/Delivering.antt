@@ -12,15 +12,16 @@ use Rattle.pm_subst.specs.Words.{words_in}
 use Rattle.pm_subst.specs.declared.kinds.Mode.TheVariants.{One, Many}
 use Rattle.pm_journal.specs.Held.{without}
 use Rattle.pm_journal.specs.Locking.{lock_act}
-use Rattle.pm_journal.specs.LogText.{couldnt_write_line, bytes_left_line, unusable_name_line, couldnt_lock_line, forcing_lock_line, couldnt_unlock_line}
+use Rattle.pm_journal.specs.LogText.{couldnt_write_line, bytes_left_line, couldnt_lock_line, forcing_lock_line, couldnt_unlock_line}
 use Rattle.pm_journal.specs.declared.acts.Act.TheVariants.{Append, Unlock}
 use Rattle.pm_journal.specs.declared.acts.Reply.{Reply}
-use Rattle.pm_journal.specs.declared.acts.Reply.TheVariants.{Done, IsFolder, Torn, Held, Faulted}
+use Rattle.pm_journal.specs.declared.acts.Reply.TheVariants.{Done, IsFolder, Torn, Held}
 use Rattle.pm_journal.specs.Plan.{Plan, Ends, and_then, ask}
 use Rattle.pm_meaning.specs.Changes.{stored_in}
-use Rattle.pm_meaning.specs.Locks.{text_or, rule_of, is_nothing, lock_word, blamed_text, is_lock_word, full_lock, is_taken, any_held, with_lock}
-use Rattle.pm_meaning.specs.Turns.{Turn, GoesOn, Halts, not_built, log_act, say_then, has_command, is_too_long, skip_value}
-use Rattle.pm_meaning.specs.Assigning.{is_file_text, value_in}
+use Rattle.pm_meaning.specs.Locks.{is_fault, text_or, rule_of, is_nothing, lock_word, blamed_text, is_lock_word, full_lock, is_taken, any_held, with_lock}
+use Rattle.pm_meaning.specs.Turns.{Turn, GoesOn, Halts, not_built, log_act, refuse_name, has_command, is_too_long, skip_value}
+use Rattle.pm_meaning.specs.Assigning.{value_in}
+use Rattle.pm_meaning.specs.Texts.{is_file_text}
 use Rattle.pm_meaning.specs.Minds.{Mind}
 use Rattle.pm_meaning.specs.declared.process.End.TheVariants.{Delivered, NotBuilt}
 use Rattle.pm_meaning.specs.declared.process.Filed.{Filed}
@@ -86,11 +87,6 @@ pub record Attempted : Type 0 where
   pub attempt : Attempt
   pub mind : Mind
 
--- a call failed
-abbrev pub is_fault : Reply → Bool
-is_fault Faulted = true
-is_fault other = false
-
 -- the lock is given back
 abbrev pub give_back : List ℕ → ℕ → Filing → Plan Attempted
 give_back name forced filing =
@@ -151,10 +147,6 @@ file_and_say flags lock words p = and_then (attempt lock flags words p) (after_a
 -- a recipe needs destinations, each of which can be a file's name
 abbrev pub are_file_texts : List (List ℕ) → Bool
 are_file_texts words = not (length words == 0) && list_all is_file_text words
-
--- a name can't be used: this is told, and the process goes on
-abbrev pub refuse_name : List ℕ → Mind → Plan Turn
-refuse_name text p = say_then p (unusable_name_line text) (GoesOn p)
 
 -- a lock file is none of the destinations and not held yet, and no destination is a held lock file; folders aren't built yet
 abbrev pub deliver_at : Flags → Option (List ℕ) → List ℕ → List ℕ → List (List ℕ) → Mind → Plan Turn

@@ -111,4 +111,5 @@ first_process filter env message = record {
   base = first_folder filter env;
   host_name = env.host_name;
   locks = [];
+  global = None;
 }

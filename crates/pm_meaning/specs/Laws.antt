@@ -6,7 +6,6 @@ use Rattle.pm_recipe.specs.Tree.{Mailbox, Recipe}
 use Rattle.pm_recipe.specs.declared.tree.Flags.{Flags}
 use Rattle.pm_subst.specs.Words.{words_in}
 use Rattle.pm_subst.specs.declared.kinds.Mode.TheVariants.{Many}
-use Rattle.pm_journal.specs.Held.{AreUnlocks}
 use Rattle.pm_journal.specs.Plan.{Plan, Plays, Wants}
 use Rattle.pm_journal.specs.Walking.{Next, Means, ArrivesAt}
 use Rattle.pm_journal.specs.declared.acts.Act.{Act}
@@ -93,15 +92,25 @@ DeliversAt (Running (Do (Recipe top (Mailbox text)) ∷ rest) p) flags words min
 DeliversAt (FallingOff (mailbox ∷ rest) p) flags words mind = (flags ≡ no_flags) × (words ≡ mailbox ∷ []) × (mind ≡ p)
 DeliversAt other flags words mind = ⊥
 
+-- it removes a lock file, or says a line on `err`
+abbrev pub IsClosing : Act → Type 0
+IsClosing (Unlock name) = Unit {0}
+IsClosing (SayErr line) = Unit {0}
+IsClosing other = ⊥
+
+-- nothing but such acts
+abbrev pub AreClosing : List Entry → Type 0
+AreClosing [] = Unit {0}
+AreClosing (e ∷ es) = IsClosing e.act × AreClosing es
+
 -- Over the entries before, the process comes to where it delivers for good; the next entries file its piece to all the files
--- among the destinations, and behind them locks are given back and nothing else is done.
+-- among the destinations, and behind them locks are given back, lines are told, and nothing else is done.
 pub record DeliversLast (s : State) (entries : List Entry) : Type 0 where
   pub before : List Entry
   pub last : List Entry
   pub behind : List Entry
   pub whole : entries ≡ before ++ last ++ behind
-  pub held : List (List ℕ)
-  pub unlocks : AreUnlocks held behind
+  pub closing : AreClosing behind
   pub at : State
   pub flags : Flags
   pub words : List (List ℕ)

@@ -4,8 +4,9 @@ pub mod CommandLine
 pub mod FirstValues
 pub mod Changes
 pub mod Turns
-pub mod Assigning
 pub mod Locks
+pub mod GlobalLock
+pub mod Assigning
 pub mod Delivering
 pub mod Running
 pub mod Status

@@ -7,10 +7,16 @@ use Rattle.pm_vars.specs.Table.{Table}
 use Rattle.pm_vars.specs.Variables.{value_of}
 use Rattle.pm_journal.specs.Held.{holds_name}
 use Rattle.pm_journal.specs.Locking.{lock_rule}
+use Rattle.pm_journal.specs.declared.acts.Reply.{Reply}
+use Rattle.pm_journal.specs.declared.acts.Reply.TheVariants.{Faulted}
 use Rattle.pm_journal.specs.declared.locking.LockRule.{LockRule}
-use Rattle.pm_meaning.specs.Assigning.{is_file_text}
-use Rattle.pm_meaning.specs.Texts.{is_empty}
+use Rattle.pm_meaning.specs.Texts.{is_empty, is_file_text}
 use Rattle.pm_meaning.specs.Minds.{Mind}
+
+-- a call failed
+abbrev pub is_fault : Reply → Bool
+is_fault Faulted = true
+is_fault other = false
 
 -- a text, or another where there is none
 abbrev pub text_or : List ℕ → Option (List ℕ) → List ℕ

@@ -1,11 +1,11 @@
 -- A process as the meaning sees it.
-use Rattle.std.specs.Prelude.{ℕ, Bool, List}
+use Rattle.std.specs.Prelude.{ℕ, Bool, List, Option}
 use Rattle.pm_message.specs.declared.head.Message.{Message}
 use Rattle.pm_vars.specs.Table.{Table}
 use Rattle.pm_meaning.specs.declared.process.Process.{Process}
 
 -- The state of a process: the message that it delivers, its variables, the folder from which names are seen, the host's
--- name, whether it is a mail filter, and the locks that it holds, the last taken first.
+-- name, whether it is a mail filter, the locks that it holds, the last taken first, and which of them is LOCKFILE's.
 pub record Mind : Type 0 where
   pub filter : Bool
   pub message : Message
@@ -13,6 +13,7 @@ pub record Mind : Type 0 where
   pub base : List ℕ
   pub host_name : List ℕ
   pub locks : List (List ℕ)
+  pub global : Option (List ℕ)
 
 -- how much room there is for more locks isn't spoken of
 abbrev pub mind_of : Process → Mind
@@ -23,4 +24,5 @@ mind_of p = record {
   base = p.base;
   host_name = p.host_name;
   locks = p.locks.names;
+  global = p.global;
 }

@@ -19,6 +19,7 @@ use Rattle.pm_meaning.specs.Changes.{entered}
 use Rattle.pm_meaning.specs.Turns.{Turn, GoesOn, Halts, say_then}
 use Rattle.pm_meaning.specs.Assigning.{assign, unset, skip_defect}
 use Rattle.pm_meaning.specs.Delivering.{deliver_to, run_recipe}
+use Rattle.pm_meaning.specs.GlobalLock.{give_named}
 use Rattle.pm_meaning.specs.Locks.{value_or}
 use Rattle.pm_meaning.specs.Texts.{is_empty}
 use Rattle.pm_vars.specs.Table.{Table}
@@ -35,12 +36,13 @@ pub data Item : Type 0 where
   Do : Tree → Item
 
 -- the command line was read in this environment and these bytes came, a process has so much left to do, no statement ended
--- it and these default mailboxes are left to try, or it is over
+-- it and these default mailboxes are left to try, it is over, or LOCKFILE's lock was given back too
 pub data State : Type 0 where
   Arrived : CommandLine → Environ → List ℕ → State
   Running : List Item → Mind → State
   FallingOff : List (List ℕ) → Mind → State
   Over : End → Mind → State
+  Closing : End → Mind → State
 
 -- a mail filter takes the message as it is; otherwise a missing From line is added
 abbrev pub renewal : Bool → Renew
@@ -137,4 +139,5 @@ abbrev pub step : State → Plan (Next State Ending)
 step (Arrived line env bytes) = prepare line env bytes
 step (Running items p) = running items p
 step (FallingOff mailboxes p) = falling_off mailboxes p
-step (Over end p) = unlock_each p.locks (Stop (ending end p))
+step (Over end p) = and_then (give_named p.global p) (λ q. Ends (Go (Closing end q)))
+step (Closing end p) = unlock_each p.locks (Stop (ending end p))

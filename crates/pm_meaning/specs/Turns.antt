@@ -4,7 +4,7 @@ use Rattle.pm_vars.specs.Table.{Table}
 use Rattle.pm_subst.specs.Commands.{commands_in}
 use Rattle.pm_subst.specs.Words.{size_in}
 use Rattle.pm_subst.specs.declared.kinds.Mode.{Mode}
-use Rattle.pm_journal.specs.LogText.{value_too_long_line}
+use Rattle.pm_journal.specs.LogText.{value_too_long_line, unusable_name_line}
 use Rattle.pm_journal.specs.declared.acts.Act.{Act}
 use Rattle.pm_journal.specs.declared.acts.Act.TheVariants.{SayErr}
 use Rattle.pm_journal.specs.Plan.{Plan, Ends, and_then, ask}
@@ -29,6 +29,10 @@ log_act p text = SayErr text
 -- the text is logged, and then this comes
 abbrev pub say_then : {R : Type 0} → Mind → List ℕ → R → Plan R
 say_then p text next = and_then (ask (log_act p text)) (λ reply. Ends next)
+
+-- a name can't be used: this is told, and the process goes on
+abbrev pub refuse_name : List ℕ → Mind → Plan Turn
+refuse_name text p = say_then p (unusable_name_line text) (GoesOn p)
 
 -- running programs isn't built yet
 abbrev pub has_command : Mode → List ℕ → Bool

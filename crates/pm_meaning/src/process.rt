@@ -5,8 +5,8 @@ use pm_message::Message;
 use pm_vars::Vars;
 
 /// The state of a process: the message that it delivers, its variables, the folder `base` from which names are seen
-/// (MAILDIR, procmailrc(5)), the host's name, whether the program is a mail filter (`-m`, procmail(1)), and the locks
-/// that it holds.
+/// (MAILDIR, procmailrc(5)), the host's name, whether the program is a mail filter (`-m`, procmail(1)), the locks that
+/// it holds, and which of them LOCKFILE names.
 #[derive(Drop)]
 pub struct Process {
     pub filter: bool,
@@ -15,6 +15,7 @@ pub struct Process {
     pub base: Name,
     pub host_name: Name,
     pub locks: HeldLocks,
+    pub global: Option<Name>,
 }
 
 /// How a process ended.

@@ -2,7 +2,7 @@
 ghost use Rattle.std.specs.Prelude.{◌≡◌, bytes_eq, codes, IfOk};
 ghost use Rattle.pm_journal.specs.Executed.{Carries};
 ghost use Rattle.pm_journal.specs.Held.{Keeping};
-ghost use Rattle.pm_journal.specs.Plan.{Ends, and_then, ask};
+ghost use Rattle.pm_journal.specs.Plan.{and_then, ask};
 ghost use Rattle.pm_journal.specs.declared.acts.Act.TheVariants.{Probe};
 ghost use Rattle.pm_meaning.specs.Assigning.{is_later, waits as asks_for_later};
 ghost use Rattle.pm_meaning.specs.Assigning.{leads_elsewhere as leads_away, probed, change_folder};
@@ -10,6 +10,7 @@ ghost use Rattle.pm_meaning.specs.Assigning.{assigned, assign, unset};
 ghost use Rattle.pm_meaning.specs.Minds.{mind_of};
 ghost use Rattle.pm_actions.specs.Turning.{turn_of};
 
+use crate::global_lock::{change_lock, drop_lock};
 use pm_actions::{Expansion, expand_text, file_name, first_word, runs_command, skip_value};
 use pm_acts::{Outside, probe, say};
 use pm_bytes::{Blob, Memory, Name, full};
@@ -59,8 +60,7 @@ fn waits(alloc: Global, name: &[u8], text: &[u8]) -> Result<bool, Memory>
 fn is_later_name(name: &[u8]) -> bool
     ensures { result ≡ is_later name.now }
 {
-    name == b"LOCKFILE".as_slice()
-        || name == b"LOGFILE".as_slice()
+    name == b"LOGFILE".as_slice()
         || name == b"LOGABSTRACT".as_slice()
         || name == b"TRAP".as_slice()
         || name == b"EXITCODE".as_slice()
@@ -86,13 +86,22 @@ fn assign_value<D: Outside>(
     if leads_elsewhere(name, value.as_slice(), process) {
         return Ok(Some(End::NotBuilt));
     }
-    if !is_maildir(name) {
-        process.vars.set(name, value)?;
-        return Ok(None);
-    }
-    let folder = value.copy(alloc)?;
+    let copy = value.copy(alloc)?;
     process.vars.set(name, value)?;
-    move_to_folder(alloc, folder.as_slice(), process, outside, journal)
+    if is_maildir(name) {
+        move_to_folder(alloc, copy.as_slice(), process, outside, journal)
+    } else if is_lockfile(name) {
+        change_lock(alloc, copy.as_slice(), process, outside, journal)
+    } else {
+        Ok(None)
+    }
+}
+
+// Whether the variable is LOCKFILE.
+fn is_lockfile(name: &[u8]) -> bool
+    ensures { result ≡ bytes_eq name.now (codes "LOCKFILE") }
+{
+    name == b"LOCKFILE".as_slice()
 }
 
 // Whether the variable is MAILDIR.
@@ -165,13 +174,27 @@ fn probe_folder<D: Outside>(
     }
 }
 
-/// Takes the variable away. Nothing is asked of the outside.
-pub fn unset_variable(name: &[u8], process: &mut Process) -> Option<End>
-    ensures { unset name.now (mind_of process.old) ≡ Ends (turn_of result (mind_of process.new)) }
+/// Takes the variable away. With LOCKFILE goes its lock.
+pub fn unset_variable<D: Outside>(
+    alloc: Global,
+    name: &[u8],
+    process: &mut Process,
+    outside: &mut D,
+    journal: &mut Journal,
+) -> Result<Option<End>, Memory>
+    requires keeping { Keeping journal.old process.old.locks.names }
+    ensures carries { Carries (unset name.now (mind_of process.old))
+        (λ end. turn_of end (mind_of process.new)) result
+        journal.old journal.new (D.told outside.old) (D.told outside.new) }
+    ensures keeping { Keeping journal.new process.new.locks.names }
 {
-    if name == b"LOCKFILE".as_slice() || name == b"SWITCHRC".as_slice() {
-        return Some(End::NotBuilt);
+    if name == b"SWITCHRC".as_slice() {
+        return Ok(Some(End::NotBuilt));
     }
     process.vars.unset(name);
-    None
+    if is_lockfile(name) {
+        drop_lock(alloc, process, outside, journal)
+    } else {
+        Ok(None)
+    }
 }

@@ -40,6 +40,7 @@ pub fn begin(
         base,
         host_name,
         locks: HeldLocks::new(alloc),
+        global: None,
     })
 }
 

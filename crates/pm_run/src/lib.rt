@@ -6,6 +6,7 @@
 mod assigning;
 mod falling_off;
 mod first_values;
+mod global_lock;
 mod process;
 mod statements;
 

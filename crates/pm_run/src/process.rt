@@ -7,7 +7,7 @@ ghost use Rattle.pm_message.specs.FromLine.{makes_line, prepared_of};
 ghost use Rattle.pm_recipe.specs.Build.{rc_of};
 ghost use Rattle.pm_meaning.specs.Changes.{entered};
 ghost use Rattle.pm_meaning.specs.Minds.{mind_of};
-ghost use Rattle.pm_meaning.specs.Running.{Arrived, Running, Over, ahead, step, renewal as renewal_of};
+ghost use Rattle.pm_meaning.specs.Running.{Arrived, Running, Over, Closing, ahead, step, renewal as renewal_of};
 ghost use Rattle.pm_meaning.specs.Running.{unread};
 ghost use Rattle.pm_meaning.specs.declared.process.Ending.{Ending};
 ghost use Rattle.pm_run.specs.Ends.{opening, opened_next};
@@ -15,6 +15,7 @@ ghost use Rattle.pm_run.specs.Stretches.{Walks};
 
 use crate::falling_off::fall_off;
 use crate::first_values::{begin, login};
+use crate::global_lock::give_lock;
 use crate::statements::run_statements;
 use pm_acts::{Outside, ask_moment, give_all, read, say};
 use pm_bytes::{Blob, Environ, Memory, Name};
@@ -51,7 +52,7 @@ pub fn run_process<D: Outside>(
     let mut process = arrive(alloc, &line, env, bytes.as_slice(), outside, journal)?;
     drop(bytes);
     let CommandLine { rcfile, .. } = line;
-    let ended = run_rcfile(alloc, rcfile, &mut process, outside, journal);
+    let ended = run_to_end(alloc, rcfile, &mut process, outside, journal);
     give_all(&mut process.locks, outside, journal);
     Ok(Ending { end: ended? })
 }
@@ -103,6 +104,24 @@ fn wants_line(bytes: &[u8], filter: bool) -> bool
     ensures { result ≡ makes_line bytes.now (renewal_of filter) }
 {
     needs_line(bytes, &renewal(filter))
+}
+
+// The process from the opening of its rcfile on, up to where LOCKFILE's lock was given back.
+fn run_to_end<D: Outside>(
+    alloc: Global,
+    name: Name,
+    process: &mut Process,
+    outside: &mut D,
+    journal: &mut Journal,
+) -> Result<End, Memory>
+    requires keeping { Keeping journal.old process.old.locks.names }
+    ensures walks { Walks (opening name (mind_of process.old)) (λ end. Closing end (mind_of process.new)) result
+        journal.old journal.new (D.told outside.old) (D.told outside.new) }
+    ensures keeping { Keeping journal.new process.new.locks.names }
+{
+    let end = run_rcfile(alloc, name, process, outside, journal)?;
+    give_lock(alloc, process, outside, journal)?;
+    Ok(end)
 }
 
 // The process from the opening of its rcfile on.

@@ -63,7 +63,9 @@ fn run_statement<D: Outside>(
             outside,
             journal,
         ),
-        Statement::Unset { name } => Ok(unset_variable(name.as_slice(), process)),
+        Statement::Unset { name } => {
+            unset_variable(alloc, name.as_slice(), process, outside, journal)
+        }
         Statement::Recipe(recipe) => perform(alloc, recipe, process, outside, journal),
         Statement::Defect { text, .. } => {
             skip_line(alloc, text.as_slice(), process, outside, journal)

@@ -1,6 +1,7 @@
 use Rattle.std.proofs.Common.{refl, rules}
 use Rattle.pm_journal.proofs.WantsMemory.{on_err, out_anywhere}
-use Rattle.pm_meaning.specs.Delivering.{refuse_name, deliver_named, deliver_to}
+use Rattle.pm_meaning.specs.Delivering.{deliver_named, deliver_to}
+use Rattle.pm_meaning.specs.Turns.{refuse_name}
 use Rattle.pm_meaning.specs.Locks.{blamed_text}
 use Rattle.pm_meaning.specs.Minds.{mind_of}
 use Rattle.pm_actions.proofs.DeliverLemmas.{carried, lock_unusable, lock_usable, no_destination, some_words, no_words}

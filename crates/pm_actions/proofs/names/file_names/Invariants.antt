@@ -1,6 +1,6 @@
 use Rattle.std.proofs.Common.{◌≡◌, true, take}
 use Rattle.std.specs.List.{list_all}
-use Rattle.pm_meaning.specs.Assigning.{is_file_text}
+use Rattle.pm_meaning.specs.Texts.{is_file_text}
 use Rattle.pm_actions.proofs.names.file_names.Given as goal
 
 abbrev pub invariant-loop-word : goal.invariant-loop-word
