@@ -28,10 +28,10 @@ use Rattle.pm_meaning.specs.declared.process.End.TheVariants.{NotBuilt}
 use Rattle.pm_meaning.specs.declared.process.Attempt.{Attempt}
 use Rattle.pm_actions.specs.Copies.{IsFreeLock, attempted_of}
 
-if_yes : {A : Type 0} (b : Bool) (p q : A) → b ≡ true → p ≡ (if b then p else q)
+pub if_yes : {A : Type 0} (b : Bool) (p q : A) → b ≡ true → p ≡ (if b then p else q)
 if_yes b p q e = ap (λ v. if v then p else q) (sym e)
 
-if_no : {A : Type 0} (b : Bool) (p q : A) → b ≡ false → q ≡ (if b then p else q)
+pub if_no : {A : Type 0} (b : Bool) (p q : A) → b ≡ false → q ≡ (if b then p else q)
 if_no b p q e = ap (λ v. if v then p else q) (sym e)
 
 -- a list that has words, or has none

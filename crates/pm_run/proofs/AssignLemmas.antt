@@ -12,17 +12,20 @@ use Rattle.pm_journal.specs.declared.acts.Reply.TheVariants.{Found}
 use Rattle.pm_vars.specs.Table.{Table}
 use Rattle.pm_vars.specs.Variables.{with_value}
 use Rattle.pm_subst.specs.declared.kinds.Mode.TheVariants.{One}
-use Rattle.pm_journal.specs.Plan.{Ends, and_then, ask}
+use Rattle.pm_journal.specs.Plan.{Plan, Ends, and_then, ask}
 use Rattle.pm_journal.specs.Executed.{Executes, OutOfMemory}
-use Rattle.pm_meaning.specs.Changes.{with_variable, with_base}
+use Rattle.pm_meaning.specs.Changes.{with_variable, without_variable, with_base}
 use Rattle.pm_meaning.specs.Turns.{Turn, GoesOn, Halts, say_then, not_built, is_too_long, skip_value}
-use Rattle.pm_meaning.specs.Assigning.{is_file_text, waits, leads_elsewhere, value_in, probed, change_folder, assigned, assign}
+use Rattle.pm_meaning.specs.Assigning.{waits, leads_elsewhere, value_in, probed, change_folder, assigned, assign, unset}
+use Rattle.pm_meaning.specs.GlobalLock.{drop_lock, change_lock}
+use Rattle.pm_meaning.specs.Texts.{is_file_text}
 use Rattle.pm_meaning.specs.Minds.{Mind}
 use Rattle.pm_meaning.specs.declared.process.End.TheVariants.{NotBuilt}
 use Rattle.pm_journal.proofs.ActPlans.{executes_then}
 use Rattle.pm_journal.proofs.WantsMemory.{executes_nothing, out_then, out_anywhere}
 use Rattle.pm_acts.specs.Acts.{Says}
 use Rattle.pm_actions.specs.Names.{file_name_of}
+use Rattle.pm_actions.proofs.DeliverLemmas.{if_yes, if_no}
 use Rattle.pm_actions.proofs.Choices.{choose_then, choose_else, then_out, else_out, line_told, line_out}
 
 probed_other : (name : List ℕ) (p : Mind) (looked : Looked) → looked ≢ Folder → say_then p (couldnt_chdir_line name) (GoesOn p) ≡ probed name p (Found looked)
@@ -96,32 +99,61 @@ unusable_out value line p x y a b none is h =
     else_out (is_file_text value) (and_then (ask (Probe (full_name p.base value))) (probed (full_name p.base value) p)) (say_then p (unusable_name_line value) (GoesOn p)) x y a b (unusable_then value none)
     (line_out p (unusable_name_line value) line (GoesOn p) x y a b is h)
 
--- a value that leads elsewhere, a plain one, and that of MAILDIR
-pub led_away : (name value : List ℕ) (p : Mind) (x : JournalState) (s : View) → leads_elsewhere name value p ≡ true → Executes (assigned name value p) (Halts NotBuilt p) x x s s
-led_away name value p x s e =
-    choose_then (leads_elsewhere name value p) (not_built p) (if bytes_eq name (codes "MAILDIR") then change_folder value (with_variable name value p) else Ends (GoesOn (with_variable name value p))) (Halts NotBuilt p) x x s s e
-    (executes_nothing (Halts NotBuilt p) x x s refl)
+-- a plan that is over ends so
+pub ended : {R : Type 0} (r : R) (plan : Plan R) (x : JournalState) (s : View) → Ends r ≡ plan → Executes plan r x x s s
+ended r plan x s e = subst (λ q. Executes q r x x s s) e (executes_nothing r x x s refl)
 
-pub set_plainly : (name value : List ℕ) (p q : Mind) (x : JournalState) (s : View) → leads_elsewhere name value p ≡ false → bytes_eq name (codes "MAILDIR") ≡ false → q ≡ with_variable name value p
-    → Executes (assigned name value p) (GoesOn q) x x s s
-set_plainly name value p q x s here plain is =
-    choose_else (leads_elsewhere name value p) (not_built p) (if bytes_eq name (codes "MAILDIR") then change_folder value (with_variable name value p) else Ends (GoesOn (with_variable name value p))) (GoesOn q) x x s s here
-    (choose_else (bytes_eq name (codes "MAILDIR")) (change_folder value (with_variable name value p)) (Ends (GoesOn (with_variable name value p))) (GoesOn q) x x s s plain
-    (subst (λ r. Executes (Ends (GoesOn r)) (GoesOn q) x x s s) is (executes_nothing (GoesOn q) x x s refl)))
+-- what an assignment does once its variable is set
+abbrev lock_effect : List ℕ → List ℕ → Mind → Plan Turn
+lock_effect name value q = if bytes_eq name (codes "LOCKFILE") then change_lock value q else Ends (GoesOn q)
 
-pub folder_changed : (name value copy : List ℕ) (p q : Mind) (turn : Turn) (x y : JournalState) (a b : View) → leads_elsewhere name value p ≡ false → bytes_eq name (codes "MAILDIR") ≡ true → copy ≡ value
-    → q ≡ with_variable name value p → Executes (change_folder copy q) turn x y a b → Executes (assigned name value p) turn x y a b
-folder_changed name value copy p q turn x y a b here folder same is h =
-    choose_else (leads_elsewhere name value p) (not_built p) (if bytes_eq name (codes "MAILDIR") then change_folder value (with_variable name value p) else Ends (GoesOn (with_variable name value p))) turn x y a b here
-    (choose_then (bytes_eq name (codes "MAILDIR")) (change_folder value (with_variable name value p)) (Ends (GoesOn (with_variable name value p))) turn x y a b folder
-    (subst (λ v. Executes (change_folder v (with_variable name value p)) turn x y a b) same (subst (λ r. Executes (change_folder copy r) turn x y a b) is h)))
+abbrev effect : List ℕ → List ℕ → Mind → Plan Turn
+effect name value q = if bytes_eq name (codes "MAILDIR") then change_folder value q else lock_effect name value q
 
-pub folder_changed_out : (name value copy : List ℕ) (p q : Mind) (x y : JournalState) (a b : View) → leads_elsewhere name value p ≡ false → bytes_eq name (codes "MAILDIR") ≡ true → copy ≡ value
-    → q ≡ with_variable name value p → OutOfMemory (change_folder copy q) x y a b → OutOfMemory (assigned name value p) x y a b
-folder_changed_out name value copy p q x y a b here folder same is h =
-    else_out (leads_elsewhere name value p) (not_built p) (if bytes_eq name (codes "MAILDIR") then change_folder value (with_variable name value p) else Ends (GoesOn (with_variable name value p))) x y a b here
-    (then_out (bytes_eq name (codes "MAILDIR")) (change_folder value (with_variable name value p)) (Ends (GoesOn (with_variable name value p))) x y a b folder
-    (subst (λ v. OutOfMemory (change_folder v (with_variable name value p)) x y a b) same (subst (λ r. OutOfMemory (change_folder copy r) x y a b) is h)))
+-- a value that leads elsewhere, that of MAILDIR, that of LOCKFILE, and a plain one
+pub led_away : (name value : List ℕ) (p : Mind) → leads_elsewhere name value p ≡ true → not_built p ≡ assigned name value p
+led_away name value p e = if_yes (leads_elsewhere name value p) (not_built p) (effect name value (with_variable name value p)) e
+
+pub folder_changed : (name value copy : List ℕ) (p q : Mind) → leads_elsewhere name value p ≡ false → bytes_eq name (codes "MAILDIR") ≡ true → copy ≡ value → q ≡ with_variable name value p → change_folder copy q ≡ assigned name value p
+folder_changed name value copy p q here folder same is =
+    ap (λ v. change_folder v q) same ∙ (ap (change_folder value) is
+    ∙ (if_yes (bytes_eq name (codes "MAILDIR")) (change_folder value (with_variable name value p)) (lock_effect name value (with_variable name value p)) folder
+    ∙ if_no (leads_elsewhere name value p) (not_built p) (effect name value (with_variable name value p)) here))
+
+pub lock_changed : (name value copy : List ℕ) (p q : Mind) → leads_elsewhere name value p ≡ false → bytes_eq name (codes "MAILDIR") ≡ false → bytes_eq name (codes "LOCKFILE") ≡ true → copy ≡ value
+    → q ≡ with_variable name value p → change_lock copy q ≡ assigned name value p
+lock_changed name value copy p q here other lock same is =
+    ap (λ v. change_lock v q) same ∙ (ap (change_lock value) is
+    ∙ (if_yes (bytes_eq name (codes "LOCKFILE")) (change_lock value (with_variable name value p)) (Ends (GoesOn (with_variable name value p))) lock
+    ∙ (if_no (bytes_eq name (codes "MAILDIR")) (change_folder value (with_variable name value p)) (lock_effect name value (with_variable name value p)) other
+    ∙ if_no (leads_elsewhere name value p) (not_built p) (effect name value (with_variable name value p)) here)))
+
+pub set_plainly : (name value : List ℕ) (p q : Mind) → leads_elsewhere name value p ≡ false → bytes_eq name (codes "MAILDIR") ≡ false → bytes_eq name (codes "LOCKFILE") ≡ false → q ≡ with_variable name value p
+    → Ends (GoesOn q) ≡ assigned name value p
+set_plainly name value p q here other plain is =
+    ap (λ r. Ends (GoesOn r)) is
+    ∙ (if_no (bytes_eq name (codes "LOCKFILE")) (change_lock value (with_variable name value p)) (Ends (GoesOn (with_variable name value p))) plain
+    ∙ (if_no (bytes_eq name (codes "MAILDIR")) (change_folder value (with_variable name value p)) (lock_effect name value (with_variable name value p)) other
+    ∙ if_no (leads_elsewhere name value p) (not_built p) (effect name value (with_variable name value p)) here))
+
+-- an unsetting of SWITCHRC, that of LOCKFILE, and a plain one
+abbrev after_unsetting : List ℕ → Mind → Plan Turn
+after_unsetting name q = if bytes_eq name (codes "LOCKFILE") then drop_lock q else Ends (GoesOn q)
+
+pub switch_unset : (name : List ℕ) (p : Mind) → bytes_eq name (codes "SWITCHRC") ≡ true → not_built p ≡ unset name p
+switch_unset name p e = if_yes (bytes_eq name (codes "SWITCHRC")) (not_built p) (after_unsetting name (without_variable name p)) e
+
+pub lock_unset : (name : List ℕ) (p q : Mind) → bytes_eq name (codes "SWITCHRC") ≡ false → bytes_eq name (codes "LOCKFILE") ≡ true → q ≡ without_variable name p → drop_lock q ≡ unset name p
+lock_unset name p q other lock is =
+    ap drop_lock is
+    ∙ (if_yes (bytes_eq name (codes "LOCKFILE")) (drop_lock (without_variable name p)) (Ends (GoesOn (without_variable name p))) lock
+    ∙ if_no (bytes_eq name (codes "SWITCHRC")) (not_built p) (after_unsetting name (without_variable name p)) other)
+
+pub unset_plainly : (name : List ℕ) (p q : Mind) → bytes_eq name (codes "SWITCHRC") ≡ false → bytes_eq name (codes "LOCKFILE") ≡ false → q ≡ without_variable name p → Ends (GoesOn q) ≡ unset name p
+unset_plainly name p q other plain is =
+    ap (λ r. Ends (GoesOn r)) is
+    ∙ (if_no (bytes_eq name (codes "LOCKFILE")) (drop_lock (without_variable name p)) (Ends (GoesOn (without_variable name p))) plain
+    ∙ if_no (bytes_eq name (codes "SWITCHRC")) (not_built p) (after_unsetting name (without_variable name p)) other)
 
 -- the text of an assignment
 pub assignment_waits : (name text : List ℕ) (p : Mind) (x : JournalState) (s : View) → waits name text ≡ true → Executes (assign name text p) (Halts NotBuilt p) x x s s

@@ -1,3 +1,4 @@
 pub mod AssignLemmas
 pub mod EnvironmentLemmas
 pub mod ProcessLemmas
+mod GlobalLemmas

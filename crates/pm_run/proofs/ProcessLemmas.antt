@@ -8,8 +8,6 @@ use Rattle.pm_message.specs.declared.head.Message.{Message}
 use Rattle.pm_recipe.specs.Tree.{Trees}
 use Rattle.pm_recipe.specs.View.{tree_of, trees_of}
 use Rattle.pm_recipe.specs.declared.tree.Statement.{Statement}
-use Rattle.pm_recipe.specs.declared.tree.Statement.TheVariants.{Unset}
-use Rattle.pm_meaning.specs.Assigning.{unset}
 use Rattle.pm_recipe.specs.Build.{rc_of}
 use Rattle.pm_append.specs.ReadsFile.{content_of}
 use Rattle.pm_journal.specs.JournalState.{JournalState}
@@ -20,11 +18,12 @@ use Rattle.pm_journal.specs.declared.acts.Reply.{Reply}
 use Rattle.pm_journal.specs.declared.acts.Reply.TheVariants.{Content, Now}
 use Rattle.pm_journal.specs.Plan.{Ends, and_then, ask}
 use Rattle.pm_journal.specs.Executed.{Executes, OutOfMemory, GivesEach}
+use Rattle.pm_meaning.specs.GlobalLock.{give_named}
 use Rattle.pm_meaning.specs.FirstValues.{login_name, first_process}
 use Rattle.pm_meaning.specs.Changes.{entered}
 use Rattle.pm_meaning.specs.Turns.{Turn, GoesOn, Halts, say_then}
 use Rattle.pm_journal.specs.Walking.{Next, Stop, Go, Means, IsUnfinished, Reaches, Completes, Interrupted}
-use Rattle.pm_meaning.specs.Running.{State, Arrived, Running, FallingOff, Over, Item, Do, step, renewal, begun, dated, unread, ahead, after_read, default_mailboxes, deliver_default, next_default, statement, next_of}
+use Rattle.pm_meaning.specs.Running.{State, Arrived, Running, FallingOff, Over, Closing, Item, Do, step, renewal, begun, dated, unread, ahead, after_read, default_mailboxes, deliver_default, next_default, statement, next_of}
 use Rattle.pm_meaning.specs.declared.command_line.CommandLine.{CommandLine}
 use Rattle.pm_meaning.specs.Minds.{Mind}
 use Rattle.pm_meaning.specs.declared.process.End.{End}
@@ -199,16 +198,11 @@ by_text item shown p turn x y a b e h = subst (λ i. Executes (statement (tree_o
 pub by_text_out : (item shown : Statement) (p : Mind) (x y : JournalState) (a b : View) → item ≡ shown → OutOfMemory (statement (tree_of shown) p) x y a b → OutOfMemory (statement (tree_of item) p) x y a b
 by_text_out item shown p x y a b e h = subst (λ i. OutOfMemory (statement (tree_of i) p) x y a b) (sym e) h
 
-pub unset_done : (item : Statement) (name shown : List ℕ) (p : Mind) (turn : Turn) (x : JournalState) (s : View) → item ≡ Unset name → shown ≡ name → unset shown p ≡ Ends turn → Executes (statement (tree_of item) p) turn x x s s
-unset_done item name shown p turn x s e same is =
-    subst (λ i. Executes (statement (tree_of i) p) turn x x s s) (sym e)
-    (subst (λ n. Executes (unset n p) turn x x s s) same (subst (λ q. Executes q turn x x s s) (sym is) (executes_nothing turn x x s refl)))
-
 -- a process that is over, and gave its locks back
-pub over_completes : (s : State) (end : End) (q : Mind) (x y z : JournalState) (a b c : View) → Reaches {X = Ending} step s (Over end q) x y a b → GivesEach q.locks y z b c
+pub over_completes : (s : State) (end : End) (q : Mind) (x y z : JournalState) (a b c : View) → Reaches {X = Ending} step s (Closing end q) x y a b → GivesEach q.locks y z b c
     → Completes step s (record { end = end }) x z a c
 over_completes s end q x y z a b c h k =
-    completes_then step s (Over end q) (record { end = end }) x y z a b c h (record {
+    completes_then step s (Closing end q) (record { end = end }) x y z a b c h (record {
       more = k.given;
       entries = k.entries;
       plays = unlocks_played q.locks (Stop (record { end = end })) k.given k.accounts.groups k.unlocks k.accounts.honest;
@@ -218,3 +212,13 @@ over_completes s end q x y z a b c h k =
 pub none_left : (o : Option End) → ((end : End) → o ≢ Some end) → o ≡ None
 none_left None h = refl
 none_left (Some end) h = absurd (h end refl)
+
+-- the lock of LOCKFILE was given back, and memory may have been wanting in it
+pub over_closes : (s : State) (end : End) (p q : Mind) (x y z : JournalState) (a b c : View) → Reaches {X = Ending} step s (Over end p) x y a b → Executes (give_named p.global p) q y z b c
+    → Reaches {X = Ending} step s (Closing end q) x z a c
+over_closes s end p q x y z a b c h k =
+    reaches_then step s (Over end p) (Closing end q) x y z a b c h
+    (executes_then (give_named p.global p) (λ r. Ends (Go (Closing end r))) q (Go (Closing end q)) y z z b c c k (executes_nothing (Go (Closing end q)) z z c refl))
+
+pub closing_wants : (s : State) (end : End) (p : Mind) (x y z : JournalState) (a b c : View) → Reaches {X = Ending} step s (Over end p) x y a b → OutOfMemory (give_named p.global p) y z b c → Interrupted {X = Ending} step s x z a c
+closing_wants s end p x y z a b c h k = interrupted_then step s (Over end p) x y z a b c h (out_front (give_named p.global p) (λ r. Ends (Go (Closing end r))) y z b c k)

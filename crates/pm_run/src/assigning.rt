@@ -188,7 +188,7 @@ pub fn unset_variable<D: Outside>(
         journal.old journal.new (D.told outside.old) (D.told outside.new) }
     ensures keeping { Keeping journal.new process.new.locks.names }
 {
-    if name == b"SWITCHRC".as_slice() {
+    if is_switchrc(name) {
         return Ok(Some(End::NotBuilt));
     }
     process.vars.unset(name);
@@ -197,4 +197,11 @@ pub fn unset_variable<D: Outside>(
     } else {
         Ok(None)
     }
+}
+
+// Whether the variable is SWITCHRC.
+fn is_switchrc(name: &[u8]) -> bool
+    ensures { result ≡ bytes_eq name.now (codes "SWITCHRC") }
+{
+    name == b"SWITCHRC".as_slice()
 }

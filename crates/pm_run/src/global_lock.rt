@@ -159,7 +159,7 @@ fn ask_lock<D: Outside>(
             process.global = Some(name);
             tell_forced(alloc, forced, &shown, process, outside, journal)
         }
-        LockEnd::Busy | LockEnd::Failed => tell_not_got(alloc, &shown, process, outside, journal),
+        _ => tell_not_got(alloc, &shown, process, outside, journal),
     }
 }
 
