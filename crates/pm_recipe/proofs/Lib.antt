@@ -20,5 +20,6 @@ pub mod ConditionForms
 pub mod OpenWords
 pub mod LineEnds
 pub mod Saying
-pub mod OneRc
 pub mod Listing
+pub mod Parsing
+pub mod OneRc

@@ -21,7 +21,7 @@ pub mod Quotes
 pub mod Spells
 pub mod Conditions
 pub mod Says
+pub mod Lists
 pub mod Rc
 pub mod Listed
 pub mod Letters
-pub mod Lists

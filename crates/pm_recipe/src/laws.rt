@@ -11,9 +11,6 @@ ghost use Rattle.pm_recipe.specs.Tree.{Trees};
 ghost use Rattle.pm_recipe.specs.Rc.{IsRc};
 ghost use Rattle.pm_recipe.specs.Listed.{rc_of};
 ghost use Rattle.pm_recipe.specs.Letters.{AreLetters};
-ghost use Rattle.pm_recipe.specs.Item.{Item};
-ghost use Rattle.pm_recipe.specs.Lists.{Lists};
-ghost use Rattle.pm_recipe.specs.Build.{tree_of_items};
 
 /// A text has one cut into pieces.
 pub fn one_cut()
@@ -40,9 +37,4 @@ pub fn colon_line_law()
 /// Each letter sets its flag.
 pub fn letters_law()
     ensures { AreLetters }
-{}
-
-/// What the grammar of items lists is the tree that they have.
-pub fn statements_law()
-    ensures { (items : List Item) (trees : Trees) → Lists items trees → tree_of_items items ≡ trees }
 {}

@@ -16,7 +16,7 @@ mod quotes;
 mod reader;
 mod tree;
 
-pub use laws::{colon_line_law, letters_law, one_cut, one_rc, statements_law};
+pub use laws::{colon_line_law, letters_law, one_cut, one_rc};
 pub use reader::{RcRefused, read_rc};
 pub use tree::{
     Action, Condition, Flags, Rc, Recipe, Statement, Statements, Weight, copy_statements,
