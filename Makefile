@@ -31,9 +31,10 @@ demo: build
 cases:
 	@bash tests/cases.sh
 
-# How long searches take. It isn't part of the check.
+# How long searches and the reading of rcfiles take. It isn't part of the check.
 bench:
 	@bash bench/egrep.sh
+	@bash bench/rcfiles.sh
 
 # The merge gate.
 check:

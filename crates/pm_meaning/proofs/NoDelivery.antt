@@ -6,7 +6,7 @@ use Rattle.pm_bytes.specs.declared.environment.Environ.{Environ}
 use Rattle.pm_host.specs.declared.answers.Looked.TheVariants.{Folder as LookedFolder}
 use Rattle.pm_message.specs.FromLine.{makes_line, prepared_of}
 use Rattle.pm_message.specs.Split.{split_of}
-use Rattle.pm_recipe.specs.Build.{rc_of}
+use Rattle.pm_recipe.specs.Listed.{rc_of}
 use Rattle.pm_subst.specs.declared.kinds.Mode.{Mode}
 use Rattle.pm_subst.specs.declared.kinds.Mode.TheVariants.{One}
 use Rattle.pm_journal.specs.LogText.{couldnt_read_line, no_delivery_line, unusable_name_line, couldnt_chdir_line}

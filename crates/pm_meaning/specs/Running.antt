@@ -7,7 +7,7 @@ use Rattle.pm_message.specs.declared.head.Message.{Message}
 use Rattle.pm_message.specs.declared.renewal.Renew.{Renew}
 use Rattle.pm_message.specs.declared.renewal.Renew.TheVariants.{Keep, AddMissing}
 use Rattle.pm_recipe.specs.Tree.{Trees, nil, cons, Tree, Assign, Unset, Recipe, Defect}
-use Rattle.pm_recipe.specs.Build.{rc_of}
+use Rattle.pm_recipe.specs.Listed.{rc_of}
 use Rattle.pm_journal.specs.LogText.{couldnt_read_line, no_delivery_line}
 use Rattle.pm_journal.specs.declared.acts.Act.TheVariants.{ReadFile, Unlock, Moment}
 use Rattle.pm_journal.specs.declared.acts.Reply.{Reply}

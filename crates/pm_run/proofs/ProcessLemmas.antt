@@ -10,7 +10,7 @@ use Rattle.pm_recipe.specs.View.{tree_of, trees_of}
 use Rattle.pm_recipe.specs.declared.tree.Statement.{Statement}
 use Rattle.pm_recipe.specs.declared.tree.Statement.TheVariants.{Unset}
 use Rattle.pm_meaning.specs.Assigning.{unset}
-use Rattle.pm_recipe.specs.Build.{rc_of}
+use Rattle.pm_recipe.specs.Listed.{rc_of}
 use Rattle.pm_append.specs.ReadsFile.{content_of}
 use Rattle.pm_journal.specs.JournalState.{JournalState}
 use Rattle.pm_journal.specs.Entries.{View}
