@@ -4,3 +4,4 @@ pub mod JobLemmas
 pub mod RunLemmas
 pub mod EndLemmas
 pub mod GoneLemmas
+mod Rows
