@@ -1,6 +1,6 @@
 #!/usr/bin/env bash
-# The built program lockfile on real files: what it makes, waits for, forces and removes again, its words, its lines and its
-# statuses.
+# The built program lockfile on real files: what it makes, waits for, forces and removes again, its words, its lines and
+# its statuses.
 set -eu
 . "$(dirname "$0")/common.bash"
 program=$programs/lockfile

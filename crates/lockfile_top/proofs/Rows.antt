@@ -20,7 +20,6 @@ use Rattle.lockfile_top.specs.declared.tasks.Ending.TheVariants.{AllDone, GaveUp
 abbrev asked_by : List (List ℕ) → Option (List Task)
 asked_by words = tasks_in (codes "m") first_rule None words
 
-
 -- `lockfile a`
 one_name : asked_by (codes "a" ∷ []) ≡ Some (Take (codes "a") (lock_rule 8 0 16 1000000) ∷ [])
 one_name = refl

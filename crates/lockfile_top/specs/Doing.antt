@@ -26,7 +26,8 @@ say_then text next = and_then (ask (SayErr text)) (λ reply. Ends next)
 -- after a lock was asked for: its file is one more that was made, and where one was removed by force, this is said
 abbrev pub after_take : List ℕ → List (List ℕ) → Reply → Plan (Option (List (List ℕ)))
 after_take name made (Held sleeps forced) =
-    if nat_eq forced 0 then Ends (Some (with_name name made)) else say_then (forcing_line name) (Some (with_name name made))
+    if nat_eq forced 0 then Ends (Some (with_name name made))
+    else say_then (forcing_line name) (Some (with_name name made))
 after_take name made other = Ends None
 
 -- after a lock was given back: its file is none that was made any more
@@ -57,4 +58,7 @@ give_up name made = remove_each (reverse made) (say_then (sorry_line name) GaveU
 -- the tasks in order, up to one that isn't done
 abbrev pub do_tasks : List Task → List (List ℕ) → Plan Ending
 do_tasks [] made = Ends AllDone
-do_tasks (task ∷ tasks) made = and_then (one_task task made) (λ now. elim now [ Some names ↦ do_tasks tasks names | None ↦ give_up (name_of task) made ])
+do_tasks (task ∷ tasks) made = and_then (one_task task made) (λ now. elim now [
+  | Some names ↦ do_tasks tasks names
+  | None ↦ give_up (name_of task) made
+])

@@ -50,8 +50,8 @@ about (Lock name sleep limit suspend tries) = name
 about (Unlock name) = name
 about act = []
 
--- A run that begins with these lock files stopped: of its entries those in front succeeded, and the next one didn't. Then
--- the removal of each lock file that was made by then was tried, the last one made first, and the name was told.
+-- A run that begins with these lock files stopped: of its entries those in front succeeded, and the next one didn't.
+-- Then the removal of each lock file that was made by then was tried, the last one made first, and the name was told.
 pub record StopsFrom (made : List (List ℕ)) (entries : List Entry) : Type 0 where
   pub front : List Entry
   pub failed : Entry

@@ -31,7 +31,12 @@ AllFit (task ∷ tasks) = IsFitTask task × AllFit tasks
 
 -- the task with its name once more, for the lock files that were made, and the lines that may be said of it
 abbrev pub job_for : Task → Job
-job_for task = record { task = task; again = name_of task; forcing = forcing_line (name_of task); sorry = sorry_line (name_of task) }
+job_for task = record {
+  task = task;
+  again = name_of task;
+  forcing = forcing_line (name_of task);
+  sorry = sorry_line (name_of task);
+}
 
 -- the job has what is wanted for its task
 pub record IsReady (job : Job) : Type 0 where

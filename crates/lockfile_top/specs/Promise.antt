@@ -50,7 +50,7 @@ pub data Outcome (run : Run) : Type 0 where
   not_begun : NotBegun run → Outcome run
   does_tasks : DoesTasks run → Outcome run
 
--- A run that stopped tried the removal of each lock file that it had made, and where that didn't fail none stands there.
+-- A run that stopped tried the removal of each lock file that it had made, and where that didn't fail none stands.
 pub record Stopped (run : Run) (h : DoesTasks run) : Type 0 where
   pub from : StopsFrom [] h.entries
   pub gone : Tells (λ old new. AllGone from.given new) run.before.host.world run.after.host.world
@@ -58,7 +58,8 @@ pub record Stopped (run : Run) (h : DoesTasks run) : Type 0 where
 -- what is left by tasks that were done
 pub record Leaves (run : Run) (h : DoesTasks run) : Type 0 where
   -- the tree of files is what the entries make of the tree at the beginning
-  pub tree : Tells (λ old new. new ≡ after_entries h.entries h.accounts.groups old) run.before.host.world run.after.host.world
+  pub tree : Tells (λ old new. new ≡ after_entries h.entries h.accounts.groups old)
+      run.before.host.world run.after.host.world
   -- where all were done, each lock was got, and each that was to be given back was
   pub succeeded : h.ending ≡ AllDone → AllSucceed h.entries
   -- where one wasn't, the lock files that were made are removed again

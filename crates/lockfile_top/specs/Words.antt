@@ -32,7 +32,8 @@ tries_for (negsuc below) = if nat_eq below 0 then Some 1000000 else None
 -- the rule with this setting changed; None where the value isn't a number in its range
 abbrev pub with_value : Setting → List ℕ → LockRule → Option LockRule
 with_value Sleep text rule = option_map (λ seconds. record rule { sleep = seconds }) (seconds_of text)
-with_value Retries text rule = option_map (λ tries. record rule { tries = tries }) (option_and_then tries_for (number_of text))
+with_value Retries text rule =
+    option_map (λ tries. record rule { tries = tries }) (option_and_then tries_for (number_of text))
 with_value Limit text rule = option_map (λ seconds. record rule { limit = seconds }) (seconds_of text)
 with_value Suspend text rule = option_map (λ seconds. record rule { suspend = seconds }) (seconds_of text)
 
@@ -91,7 +92,8 @@ abbrev pub mailbox_lock : Environ → List ℕ
 mailbox_lock env = codes "/var/mail/" ++ login_name env ++ codes ".lock"
 
 -- what the words ask for by this one and those behind it, where these ask for that by their settings
-abbrev pub by_word : List ℕ → LockRule → List ℕ → (LockRule → Option Setting → Option (List Task)) → Word → Option (List Task)
+abbrev pub by_word : List ℕ → LockRule → List ℕ → (LockRule → Option Setting → Option (List Task)) → Word
+    → Option (List Task)
 by_word mailbox rule word behind (Sets now) = behind now None
 by_word mailbox rule word behind (Awaits setting) = behind rule (Some setting)
 by_word mailbox rule word behind Takes = option_map (λ tasks. Take word rule ∷ tasks) (behind rule None)
@@ -104,8 +106,10 @@ by_word mailbox rule word behind Unread = None
 abbrev pub tasks_in : List ℕ → LockRule → Option Setting → List (List ℕ) → Option (List Task)
 tasks_in mailbox rule None [] = Some []
 tasks_in mailbox rule (Some setting) [] = None
-tasks_in mailbox rule (Some setting) (word ∷ words) = option_and_then (λ now. tasks_in mailbox now None words) (with_value setting word rule)
-tasks_in mailbox rule None (word ∷ words) = by_word mailbox rule word (λ now waiting. tasks_in mailbox now waiting words) (word_of rule word)
+tasks_in mailbox rule (Some setting) (word ∷ words) =
+    option_and_then (λ now. tasks_in mailbox now None words) (with_value setting word rule)
+tasks_in mailbox rule None (word ∷ words) =
+    by_word mailbox rule word (λ now waiting. tasks_in mailbox now waiting words) (word_of rule word)
 
 -- `-!` stands among the words
 abbrev pub is_inverted : List (List ℕ) → Bool
@@ -118,7 +122,8 @@ line_of inverted (task ∷ tasks) = Some (record { tasks = task ∷ tasks; inver
 
 -- what the words ask for, where they are read
 abbrev pub command_line : Environ → List (List ℕ) → Option CommandLine
-command_line env words = option_and_then (line_of (is_inverted words)) (tasks_in (mailbox_lock env) first_rule None words)
+command_line env words =
+    option_and_then (line_of (is_inverted words)) (tasks_in (mailbox_lock env) first_rule None words)
 
 -- the words as bytes
 abbrev pub all_bytes : List (String Global) → List (List ℕ)
@@ -130,6 +135,8 @@ abbrev pub asked : List ℕ → LockRule → Option Setting → List Task → Li
 asked mailbox rule waiting tasks words = option_map (λ more. tasks ++ more) (tasks_in mailbox rule waiting words)
 
 -- The first of the words was read, and now the settings and what was asked for are those behind it; or it isn't read.
-abbrev pub ReadsOn : List ℕ → List ℕ → Bool → LockRule → Option Setting → List Task → LockRule → Option Setting → List Task → Type 0
+abbrev pub ReadsOn : List ℕ → List ℕ → Bool → LockRule → Option Setting → List Task
+    → LockRule → Option Setting → List Task → Type 0
 ReadsOn mailbox word is_read rule waiting tasks rule' waiting' tasks' =
-    (rest : List (List ℕ)) → asked mailbox rule waiting tasks (word ∷ rest) ≡ (if is_read then asked mailbox rule' waiting' tasks' rest else None)
+    (rest : List (List ℕ)) → asked mailbox rule waiting tasks (word ∷ rest)
+    ≡ (if is_read then asked mailbox rule' waiting' tasks' rest else None)

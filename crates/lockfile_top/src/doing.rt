@@ -1,6 +1,7 @@
 //! The tasks are done in order, up to one that can't be; then the lock files that were made are removed again. Nothing
 //! here takes memory.
-ghost use Rattle.std.specs.Prelude.{◌≡◌, ◌+◌, ◌*◌, ◌<◌, ◌≤◌, ℕ, List, Option, length, reverse, nat_eq, vec_capacity, if◌then◌else◌};
+ghost use Rattle.std.specs.Prelude.{◌≡◌, ◌+◌, ◌*◌, ◌<◌, ◌≤◌, ℕ, List, Option, length, reverse};
+ghost use Rattle.std.specs.Prelude.{nat_eq, vec_capacity, if◌then◌else◌};
 ghost use Rattle.std.specs.Bool.{OnFalse};
 ghost use Rattle.pm_journal.specs.Executed.{Executes};
 ghost use Rattle.pm_journal.specs.Locking.{lock_act};
