@@ -1,7 +1,7 @@
 -- How runs end.
-use Rattle.std.proofs.Common.{◌≡◌, Bool, true, false, Some, None, Option, List, ℕ, [], ◌∷◌, ◌++◌, reverse, refl, sym, ap, ◌∙◌, subst}
+use Rattle.std.proofs.Common.{◌≡◌, Bool, true, false, Some, List, ℕ, [], ◌∷◌, ◌++◌, reverse, refl, sym, ap, ◌∙◌, subst}
 use Rattle.std.specs.Prelude.{nat_eq, if◌then◌else◌}
-use Rattle.pm_journal.specs.Plan.{Plan, Ends, and_then, ask, Plays}
+use Rattle.pm_journal.specs.Plan.{Ends, and_then, Plays}
 use Rattle.pm_journal.specs.Held.{AreUnlocks}
 use Rattle.pm_journal.specs.Locking.{lock_act}
 use Rattle.pm_journal.specs.declared.locking.LockRule.{LockRule}
@@ -15,7 +15,6 @@ use Rattle.lockfile_top.specs.Doing.{without_name, with_name, say_then, after_ta
 use Rattle.lockfile_top.specs.Ends.{made_from, made_after, Succeeds, AllSucceed, about, StopsFrom}
 use Rattle.lockfile_top.specs.declared.tasks.Task.{Task}
 use Rattle.lockfile_top.specs.declared.tasks.Task.TheVariants.{Take, Give}
-use Rattle.lockfile_top.specs.declared.tasks.Ending.{Ending}
 use Rattle.lockfile_top.specs.declared.tasks.Ending.TheVariants.{AllDone, GaveUp}
 use Rattle.lockfile_top.proofs.TaskLemmas.{behind}
 

@@ -1,5 +1,5 @@
 -- What stands behind removals that were tried.
-use Rattle.std.proofs.Common.{◌≡◌, Bool, true, false, cond, Some, None, Option, List, ℕ, [], ◌∷◌, ◌++◌, refl, sym, ap, ◌∙◌, subst, bytes_eq}
+use Rattle.std.proofs.Common.{◌≡◌, true, false, cond, Some, None, Option, List, ℕ, [], ◌∷◌, ◌++◌, refl, sym, ap, subst, bytes_eq}
 use Rattle.pm_host.specs.Told.{Tells}
 use Rattle.pm_host.specs.World.{World, after_remove, RemovesRight}
 use Rattle.pm_host.specs.Runs.{after_calls, AllRight, Steps, logged}
@@ -13,7 +13,6 @@ use Rattle.pm_host.proofs.RunsJoin.{after_calls-append, tells_map}
 use Rattle.pm_host.proofs.Put.{same_name}
 use Rattle.pm_journal.specs.Entries.{View, Accounts, Protocol, Honest, joined, UnlockGroup, unlock_reply}
 use Rattle.pm_journal.specs.Held.{AreUnlocks, IsRemoval}
-use Rattle.pm_journal.specs.declared.acts.Act.{Act}
 use Rattle.pm_journal.specs.declared.acts.Act.TheVariants.{Unlock, SayErr}
 use Rattle.pm_journal.specs.declared.acts.Entry.{Entry}
 use Rattle.lockfile_top.specs.Ends.{IfRemoved, AllGone, StopsFrom}

@@ -8,7 +8,6 @@ use Rattle.pm_journal.specs.declared.acts.Reply.{Reply}
 use Rattle.pm_journal.specs.declared.acts.Reply.TheVariants.{Held, Busy, Removed, Wrote}
 use Rattle.pm_journal.specs.declared.acts.Counts.{Counts}
 use Rattle.pm_journal.specs.declared.acts.Entry.{Entry}
-use Rattle.pm_journal.specs.declared.locking.LockRule.{LockRule}
 use Rattle.lockfile_top.specs.Words.{first_rule, tasks_in, is_inverted}
 use Rattle.lockfile_top.specs.Doing.{do_tasks}
 use Rattle.lockfile_top.specs.Status.{status_number, end_status}

@@ -9,13 +9,11 @@ use Rattle.lockfile_top.specs.Doing.{do_tasks}
 use Rattle.lockfile_top.specs.Promise.{Run, BadWords, NotBegun, DoesTasks, Outcome, bad_words, not_begun, does_tasks, Leaves, LeavesRight, Promise, Did, RunsLine}
 use Rattle.lockfile_top.specs.Status.{status_number, end_status}
 use Rattle.lockfile_top.specs.Words.{command_line}
-use Rattle.lockfile_top.specs.declared.status.Status.{Status}
-use Rattle.lockfile_top.specs.declared.status.Status.TheVariants.{Usage, SystemError}
+use Rattle.lockfile_top.specs.declared.status.Status.TheVariants.{SystemError}
 use Rattle.lockfile_top.specs.declared.tasks.CommandLine.{CommandLine}
 use Rattle.lockfile_top.specs.declared.tasks.Ending.TheVariants.{AllDone, GaveUp}
 use Rattle.lockfile_top.proofs.EndLemmas.{tasks_stop, tasks_succeed}
 use Rattle.lockfile_top.proofs.GoneLemmas.{stopped_gone}
-use Rattle.pm_bytes.specs.declared.environment.Environ.{Environ}
 use Rattle.pm_journal.proofs.AccountsJoin.{accounts_effect}
 use Rattle.lockfile_top.specs.declared.tasks.Task.{Task}
 use Rattle.lockfile_top.specs.declared.tasks.Ending.{Ending}

@@ -1,5 +1,5 @@
 -- What the program asks of the outside: its tasks, one after the other.
-use Rattle.std.specs.Prelude.{ℕ, Bool, not, ◌++◌, List, [], ◌∷◌, reverse, filter, Option, Some, None, nat_eq, bytes_eq, if◌then◌else◌}
+use Rattle.std.specs.Prelude.{ℕ, not, ◌++◌, List, [], ◌∷◌, reverse, filter, Option, Some, None, nat_eq, bytes_eq, if◌then◌else◌}
 use Rattle.pm_journal.specs.Locking.{lock_act}
 use Rattle.pm_journal.specs.Plan.{Plan, Ends, and_then, ask}
 use Rattle.pm_journal.specs.declared.acts.Act.TheVariants.{Unlock, SayErr}

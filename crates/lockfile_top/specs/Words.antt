@@ -1,5 +1,5 @@
 -- What the words of the command line ask for (lockfile(1)).
-use Rattle.std.specs.Prelude.{◌≡◌, ℕ, ℤ, pos, negsuc, Bool, true, false, ◌+◌, ◌&&◌, not, List, [], ◌∷◌, ◌++◌, length, drop, map, Option, Some, None, option_map, option_and_then, codes, String, string_bytes, nat_eq, nat_le, bytes_eq, if◌then◌else◌}
+use Rattle.std.specs.Prelude.{◌≡◌, ℕ, ℤ, pos, negsuc, Bool, false, ◌+◌, ◌&&◌, not, List, [], ◌∷◌, ◌++◌, length, drop, map, Option, Some, None, option_map, option_and_then, codes, String, string_bytes, nat_eq, nat_le, bytes_eq, if◌then◌else◌}
 use Rattle.std.specs.List.{starts_with, list_any}
 use Rattle.std.specs.declared.alloc.Global.{Global}
 use Rattle.pm_bytes.specs.Name.{has_zero}

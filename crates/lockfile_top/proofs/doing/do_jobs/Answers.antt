@@ -1,5 +1,4 @@
-use Rattle.std.proofs.Common.{◌≡◌, ◌≤◌, ◌+◌, ℕ, suc, [], ◌∷◌, true, false, rules, length, sym, ap, ◌∙◌, subst, arith}
-use Rattle.std.proofs.lemmas.Grind.{common_steps}
+use Rattle.std.proofs.Common.{◌≡◌, suc, [], true, false, rules, length, ap, subst, arith}
 use Rattle.pm_journal.proofs.PlanLeads.{leads_itself}
 use Rattle.lockfile_top.specs.Jobs.{AllReady}
 use Rattle.lockfile_top.proofs.TaskLemmas.{task_on, task_stops, tasks_over}

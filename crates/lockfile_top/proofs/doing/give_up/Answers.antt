@@ -1,4 +1,4 @@
-use Rattle.std.proofs.Common.{◌≡◌, ℕ, ◌+◌, [], ◌∷◌, rules, arith}
+use Rattle.std.proofs.Common.{◌≡◌, [], rules, arith}
 use Rattle.pm_journal.proofs.PlanLeads.{leads_itself}
 use Rattle.lockfile_top.proofs.TaskLemmas.{one_removed, all_removed}
 use Rattle.lockfile_top.proofs.doing.give_up.Goals as goal

@@ -1,4 +1,3 @@
-use Rattle.std.proofs.Common.{◌≡◌, sym, ap, ◌∙◌, subst}
 use Rattle.lockfile_top.proofs.TaskLemmas.{lock_taken}
 use Rattle.lockfile_top.proofs.doing.take.Goals as goal
 

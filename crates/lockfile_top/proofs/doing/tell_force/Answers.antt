@@ -1,5 +1,5 @@
 use Rattle.std.specs.Prelude.{nat_eq}
-use Rattle.std.proofs.Common.{rules, subst, sym, refl}
+use Rattle.std.proofs.Common.{rules}
 use Rattle.lockfile_top.proofs.TaskLemmas.{not_said}
 use Rattle.lockfile_top.proofs.doing.tell_force.Goals as goal
 

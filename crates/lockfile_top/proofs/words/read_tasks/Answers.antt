@@ -1,4 +1,4 @@
-use Rattle.std.proofs.Common.{◌≡◌, true, false, rules, arith}
+use Rattle.std.proofs.Common.{◌≡◌, true, false, arith}
 use Rattle.std.specs.Prelude.{is_some}
 use Rattle.std.proofs.lemmas.Grind.{common_steps}
 use Rattle.lockfile_top.proofs.WordLemmas.{word_on, word_stops, words_over, words_wait}

@@ -1,4 +1,4 @@
-use Rattle.std.proofs.Common.{◌≡◌, None, [], ◌∷◌, ◌++◌, rules, arith, ap, ◌∙◌}
+use Rattle.std.proofs.Common.{◌≡◌, None, [], ◌∷◌, ◌++◌, arith, ap, ◌∙◌}
 use Rattle.std.proofs.lemmas.Grind.{common_steps}
 use Rattle.lockfile_top.specs.declared.tasks.Task.TheVariants.{Take, Give}
 use Rattle.lockfile_top.proofs.WordLemmas.{reads_takes, reads_mailbox, reads_gives}
