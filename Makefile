@@ -1,6 +1,6 @@
 # Each target works on a fresh checkout with nothing built, says at once how long it may take, and keeps a log in bin/.
 
-.PHONY: build build-cases demo cases bench check bugs clean
+.PHONY: build build-formail build-cases demo cases bench check bugs clean
 
 # bin/procmail, built once its crates are proved. The build ends by starting the program without words, which is a
 # usage error (64).
@@ -11,6 +11,14 @@ build:
 	@cd crates/procmail_cli && { bash ../../.ci/watch ../../bin/build.log rt run; status=$$?; \
 	    if [ $$status -ne 64 ]; then tail -n 40 ../../bin/build.log >&2; exit 1; fi; }
 	@cp crates/procmail_cli/out/procmail_cli bin/procmail
+
+# bin/formail, built once its crates are proved. The build ends by starting the program on no input.
+build-formail:
+	@mkdir -p bin
+	@echo "Building bin/formail. Its crates are proved first. The log is bin/build-formail.log."
+	@cd crates/formail_cli && { bash ../../.ci/watch ../../bin/build-formail.log rt run || \
+	    { tail -n 40 ../../bin/build-formail.log >&2; exit 1; }; }
+	@cp crates/formail_cli/out/formail_cli bin/formail
 
 # bin/pm_cases, built once its crates are proved. The build ends by giving it no cases.
 build-cases:
@@ -31,9 +39,10 @@ demo: build
 cases:
 	@bash tests/cases.sh
 
-# How long searches take. It isn't part of the check.
+# How long searches take, and formail beside formail 3.22. It isn't part of the check.
 bench:
 	@bash bench/egrep.sh
+	@bash bench/formail.sh
 
 # The merge gate.
 check:
