@@ -1,8 +1,8 @@
 # Each target works on a fresh checkout with nothing built, says at once how long it may take, and keeps a log in bin/.
 
-.PHONY: build build-procmail build-lockfile build-cases demo cases bench check bugs clean
+.PHONY: build build-procmail build-lockfile build-formail build-cases demo cases bench check bugs clean
 
-build: build-procmail build-lockfile
+build: build-procmail build-lockfile build-formail
 
 # bin/procmail, built once its crates are proved. The build ends by starting the program without words, which is a
 # usage error (64).
@@ -21,6 +21,14 @@ build-lockfile:
 	@cd crates/lockfile_cli && { bash ../../.ci/watch ../../bin/build-lockfile.log rt run; status=$$?; \
 	    if [ $$status -ne 64 ]; then tail -n 40 ../../bin/build-lockfile.log >&2; exit 1; fi; }
 	@cp crates/lockfile_cli/out/lockfile_cli bin/lockfile
+
+# bin/formail, built once its crates are proved. The build ends by starting the program on no input.
+build-formail:
+	@mkdir -p bin
+	@echo "Building bin/formail. Its crates are proved first. The log is bin/build-formail.log."
+	@cd crates/formail_cli && { bash ../../.ci/watch ../../bin/build-formail.log rt run || \
+	    { tail -n 40 ../../bin/build-formail.log >&2; exit 1; }; }
+	@cp crates/formail_cli/out/formail_cli bin/formail
 
 # bin/pm_cases, built once its crates are proved. The build ends by giving it no cases.
 build-cases:
@@ -41,10 +49,13 @@ demo: build-procmail
 cases:
 	@bash tests/cases.sh
 
-# How long searches and the reading of rcfiles take. It isn't part of the check.
+# How long searches and the reading of rcfiles take, what a delivery costs, and formail beside formail 3.22. It isn't part of
+# the check.
 bench:
 	@bash bench/egrep.sh
 	@bash bench/rcfiles.sh
+	@bash bench/deliver.sh
+	@bash bench/formail.sh
 
 # The merge gate.
 check:

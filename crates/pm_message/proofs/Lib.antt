@@ -1,4 +1,5 @@
 pub mod DayLemmas
+mod FieldLemmas
 pub mod HeadLemmas
 pub mod LineLemmas
 pub mod SplitLemmas

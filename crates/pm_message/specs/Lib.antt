@@ -1,5 +1,6 @@
 pub mod Calendar
 pub mod Date
+pub mod Field
 pub mod FromLine
 pub mod Lines
 pub mod Piece
