@@ -1,4 +1,6 @@
+pub mod CutLemmas
 pub mod DayLemmas
+pub mod FoldLemmas
 pub mod HeadLemmas
 pub mod LineLemmas
 pub mod SplitLemmas
