@@ -230,11 +230,11 @@ by_reading : (text after : List ℕ) (ts : List Token) → Expands text after �
     IsReadOrNot text
 by_reading text after ts x room is (Some w) e = inl (w, record { after = after; tokens = ts; expands = x; room = room; cut = is; spelled = reads_whole ts w e })
 by_reading text after ts x room is None e = inr (λ w r. (
-  let same = one_text text r.after after r.expands x in
-  let tokens = one_tokens after r.tokens ts (subst (λ z. IsTokens z r.tokens) same r.cut) is in
-  let spelled : Some w ≡ None = sym (whole_reads r.tokens w r.spelled) ∙ ap reading tokens ∙ e in
-  cc
-))
+    let same = one_text text r.after after r.expands x in
+    let tokens = one_tokens after r.tokens ts (subst (λ z. IsTokens z r.tokens) same r.cut) is in
+    let spelled : Some w ≡ None = sym (whole_reads r.tokens w r.spelled) ∙ ap reading tokens ∙ e in
+    cc
+    ))
 
 pub read_or_not : (text : List ℕ) → IsReadOrNot text
 read_or_not text =
