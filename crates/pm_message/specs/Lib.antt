@@ -1,3 +1,4 @@
+pub mod Area
 pub mod Calendar
 pub mod Date
 pub mod Field
