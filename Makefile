@@ -1,16 +1,34 @@
 # Each target works on a fresh checkout with nothing built, says at once how long it may take, and keeps a log in bin/.
 
-.PHONY: build build-cases demo cases bench check bugs clean
+.PHONY: build build-procmail build-lockfile build-formail build-cases demo cases bench check bugs clean
+
+build: build-procmail build-lockfile build-formail
 
 # bin/procmail, built once its crates are proved. The build ends by starting the program without words, which is a
 # usage error (64).
-build:
+build-procmail:
 	@mkdir -p bin
 	@echo "Building bin/procmail. Its crates are proved first: from nothing about a quarter of an hour on four processors,"
 	@echo "with nothing changed some seconds. The log is bin/build.log."
 	@cd crates/procmail_cli && { bash ../../.ci/watch ../../bin/build.log rt run; status=$$?; \
 	    if [ $$status -ne 64 ]; then tail -n 40 ../../bin/build.log >&2; exit 1; fi; }
 	@cp crates/procmail_cli/out/procmail_cli bin/procmail
+
+# bin/lockfile, in the same way.
+build-lockfile:
+	@mkdir -p bin
+	@echo "Building bin/lockfile. Its crates are proved first. The log is bin/build-lockfile.log."
+	@cd crates/lockfile_cli && { bash ../../.ci/watch ../../bin/build-lockfile.log rt run; status=$$?; \
+	    if [ $$status -ne 64 ]; then tail -n 40 ../../bin/build-lockfile.log >&2; exit 1; fi; }
+	@cp crates/lockfile_cli/out/lockfile_cli bin/lockfile
+
+# bin/formail, built once its crates are proved. The build ends by starting the program on no input.
+build-formail:
+	@mkdir -p bin
+	@echo "Building bin/formail. Its crates are proved first. The log is bin/build-formail.log."
+	@cd crates/formail_cli && { bash ../../.ci/watch ../../bin/build-formail.log rt run || \
+	    { tail -n 40 ../../bin/build-formail.log >&2; exit 1; }; }
+	@cp crates/formail_cli/out/formail_cli bin/formail
 
 # bin/pm_cases, built once its crates are proved. The build ends by giving it no cases.
 build-cases:
@@ -21,7 +39,7 @@ build-cases:
 	@cp crates/pm_cases/out/pm_cases bin/pm_cases
 
 # The example message goes where the example rcfile says, in a fresh folder.
-demo: build
+demo: build-procmail
 	@echo "Delivering examples/message by examples/copies.rc into a fresh folder, which then has these files and this mail:"
 	@folder=$$(mktemp -d) && cp examples/copies.rc $$folder/rc && cd $$folder && \
 	    $(CURDIR)/bin/procmail ./rc < $(CURDIR)/examples/message && ls && cat mbox && cmp mbox archive-mbox; \
@@ -31,9 +49,13 @@ demo: build
 cases:
 	@bash tests/cases.sh
 
-# How long searches take. It isn't part of the check.
+# How long searches and the reading of rcfiles take, what a delivery costs, and formail beside formail 3.22. It isn't part of
+# the check.
 bench:
 	@bash bench/egrep.sh
+	@bash bench/rcfiles.sh
+	@bash bench/deliver.sh
+	@bash bench/formail.sh
 
 # The merge gate.
 check:

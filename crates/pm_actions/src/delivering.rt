@@ -40,7 +40,7 @@ struct Order<'a> {
     text: &'a [u8],
 }
 
-/// Carries a recipe out that is matched without conditions.
+/// Carries a recipe out whose conditions hold.
 pub fn perform<D: Outside>(
     alloc: Global,
     recipe: &Recipe,
@@ -71,13 +71,12 @@ pub fn perform<D: Outside>(
     }
 }
 
-// Whether the recipe has no condition, and isn't tied to the recipes before it.
+// Whether the recipe isn't tied to the recipes before it.
 fn is_plain(recipe: &Recipe) -> bool
     ensures { result ≡ is_plain_top (top_of recipe.now) }
 {
     let flags = recipe.flags;
-    recipe.conditions.is_empty()
-        && !(flags.and_chain || flags.and_ok || flags.or_else || flags.on_error)
+    !(flags.and_chain || flags.and_ok || flags.or_else || flags.on_error)
 }
 
 /// Delivers to a default mailbox, under its automatic lock file.

@@ -19,3 +19,6 @@ pub mod EngineLemmas
 pub mod CountLemmas
 pub mod JoinLemmas
 pub mod FinalLemmas
+pub mod Deciding
+pub mod MatchOrNot
+pub mod FoundOrNot

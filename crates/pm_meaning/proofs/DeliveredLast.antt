@@ -8,7 +8,10 @@ use Rattle.pm_recipe.specs.Tree.{Top, Act as Action, Mailbox, Tree, Assign, Unse
 use Rattle.pm_recipe.specs.declared.tree.Flags.{Flags}
 use Rattle.pm_subst.specs.Words.{words_in}
 use Rattle.pm_subst.specs.declared.kinds.Mode.TheVariants.{One, Many}
-use Rattle.pm_journal.specs.LogText.{skipped_line, unusable_name_line}
+use Rattle.pm_conds.specs.declared.question.Verdict.TheVariants.{Matched, Unmatched, Defective, TooLong, NotBuilt}
+use Rattle.pm_meaning.specs.Changes.{overflowed}
+use Rattle.pm_meaning.specs.Judging.{is_tied, judgement, behind_conditions, by_verdict, judge_first}
+use Rattle.pm_journal.specs.LogText.{skipped_line, unusable_name_line, defective_condition_line, value_too_long_line}
 use Rattle.pm_journal.specs.declared.acts.Entry.{Entry}
 use Rattle.pm_journal.specs.Held.{without}
 use Rattle.pm_journal.specs.Locking.{lock_act}
@@ -36,7 +39,7 @@ use Rattle.pm_meaning.specs.declared.process.Ending.{Ending}
 use Rattle.pm_meaning.proofs.OneOutcome.{not_over}
 use Rattle.pm_meaning.proofs.Unlocks.{all_given, global_given, closing_join}
 use Rattle.pm_meaning.proofs.StoredDone.{stored_is_done}
-use Rattle.pm_meaning.proofs.NoDelivery.{parts_of, is_delivered, delivers, never_built, never_told, never_skipped, never_assign, never_unset, is_last, never_ends, never_prepared, never_read, never_lost}
+use Rattle.pm_meaning.proofs.NoDelivery.{parts_of, is_delivered, delivers, never_built, never_goes, never_said, never_told, never_skipped, never_assign, never_unset, is_last, never_ends, never_prepared, never_read, never_lost}
 
 -- what a delivery for good did, in its own entries
 record DeliversHere (flags : Flags) (words : List (List ℕ)) (p : Mind) (es : List Entry) : Type 0 where
@@ -49,7 +52,8 @@ record DeliversTree (tree : Tree) (p : Mind) (es : List Entry) : Type 0 where
   text : List ℕ
   is : tree ≡ Recipe top (Mailbox text)
   plain : is_plain top ≡ true
-  here : DeliversHere top.flags (words_in Many p.vars [] text) p es
+  holds : (judgement top p).verdict ≡ Matched
+  here : DeliversHere top.flags (words_in Many (behind_conditions top p).vars [] text) (behind_conditions top p) es
 
 record DeliversState (s : State) (es : List Entry) : Type 0 where
   flags : Flags
@@ -222,21 +226,45 @@ delivered_by flags lock text p es turn h passes =
     (if_last P (is_too_long Many text p.vars) (skip_value Many text p) last es turn (λ l. absurd (never_skipped Many text p es turn l passes))
     (λ l. delivered_to flags lock value text words p es turn l passes))) h
 
-by_act : (top : Top) (act : Action) (p : Mind) (es : List Entry) (turn : Turn) → is_plain top ≡ true → Plays (act_on top act p) es turn → delivers turn ≡ true → DeliversTree (Recipe top act) p es
-by_act top (Mailbox text) p es turn plain h passes = record { top = top; text = text; is = refl; plain = plain; here = delivered_by top.flags top.lock text p es turn h passes }
+-- a recipe that is tied to none delivered so
+record DeliversPlain (top : Top) (act : Action) (p : Mind) (es : List Entry) : Type 0 where
+  text : List ℕ
+  is : act ≡ Mailbox text
+  plain : is_plain top ≡ true
+  here : DeliversHere top.flags (words_in Many p.vars [] text) p es
+
+by_act : (top : Top) (act : Action) (p : Mind) (es : List Entry) (turn : Turn) → is_plain top ≡ true → Plays (act_on top act p) es turn → delivers turn ≡ true → DeliversPlain top act p es
+by_act top (Mailbox text) p es turn plain h passes = record { text = text; is = refl; plain = plain; here = delivered_by top.flags top.lock text p es turn h passes }
 by_act top other p es turn plain h passes = absurd (never_built p es turn h passes)
 
-by_recipe : (top : Top) (act : Action) (p : Mind) (es : List Entry) (turn : Turn) → Plays (run_recipe top act p) es turn → delivers turn ≡ true → DeliversTree (Recipe top act) p es
+by_recipe : (top : Top) (act : Action) (p : Mind) (es : List Entry) (turn : Turn) → Plays (run_recipe top act p) es turn → delivers turn ≡ true → DeliversPlain top act p es
 by_recipe top act p es turn h passes =
-    elim (is_plain top) as (λ b. is_plain top ≡ b → Plays (if b then act_on top act p else not_built p) es turn → DeliversTree (Recipe top act) p es) [
+    elim (is_plain top) as (λ b. is_plain top ≡ b → Plays (if b then act_on top act p else not_built p) es turn → DeliversPlain top act p es) [
       | true ↦ λ plain k. by_act top act p es turn plain k passes
       | false ↦ λ plain k. absurd (never_built p es turn k passes)
     ] refl h
 
+with_conditions : (top : Top) (act : Action) (p : Mind) (es : List Entry) → (judgement top p).verdict ≡ Matched → DeliversPlain top act (behind_conditions top p) es → DeliversTree (Recipe top act) p es
+with_conditions top act p es holds d = record { top = top; text = d.text; is = ap (Recipe top) d.is; plain = d.plain; holds = holds; here = d.here }
+
+by_conditions : (top : Top) (act : Action) (p : Mind) (es : List Entry) (turn : Turn) → Plays (judge_first top (λ q. run_recipe top act q) p) es turn → delivers turn ≡ true → DeliversTree (Recipe top act) p es
+by_conditions top act p es turn h passes =
+    let q = behind_conditions top p in
+    let P = DeliversTree (Recipe top act) p es in
+    let judged : Plan Turn = by_verdict (judgement top p).verdict q (run_recipe top act q) in
+    if_last P (is_tied top.flags) (not_built p) judged es turn (λ k. absurd (never_built p es turn k passes))
+    (elim (judgement top p).verdict as (λ v. (judgement top p).verdict ≡ v → Plays (by_verdict v q (run_recipe top act q)) es turn → DeliversTree (Recipe top act) p es) [
+      | Matched ↦ λ holds k. with_conditions top act p es holds (by_recipe top act q es turn k passes)
+      | Unmatched ↦ λ holds k. absurd (never_goes q es turn k passes)
+      | Defective text ↦ λ holds k. absurd (never_told q (defective_condition_line text) es turn k passes)
+      | TooLong size ↦ λ holds k. absurd (never_said delivers q (value_too_long_line size) (GoesOn (overflowed q)) refl es turn k passes)
+      | NotBuilt ↦ λ holds k. absurd (never_built q es turn k passes)
+    ] refl) h
+
 by_statement : (tree : Tree) (p : Mind) (es : List Entry) (turn : Turn) → Plays (statement tree p) es turn → delivers turn ≡ true → DeliversTree tree p es
 by_statement (Assign name text) p es turn h passes = absurd (never_assign name text p es turn h passes)
 by_statement (Unset name) p es turn h passes = absurd (never_unset name p es turn h passes)
-by_statement (Recipe top act) p es turn h passes = by_recipe top act p es turn h passes
+by_statement (Recipe top act) p es turn h passes = by_conditions top act p es turn h passes
 by_statement (Defect line text) p es turn h passes = absurd (never_told p (skipped_line text) es turn h passes)
 
 -- after a step that is the last, the turn delivered
@@ -255,13 +283,16 @@ by_turn rest turn tree p front [] next h k passes =
 by_turn rest turn tree p front (e ∷ later) next h k passes = absurd k
 
 by_tree : (tree : Tree) (rest : List Item) (p : Mind) (es : List Entry) → DeliversTree tree p es → DeliversState (Running (Do tree ∷ rest) p) es
-by_tree tree rest p es d = record {
-  flags = d.top.flags;
-  words = words_in Many p.vars [] d.text;
-  mind = p;
-  delivers = subst (λ t. DeliversAt (Running (Do t ∷ rest) p) d.top.flags (words_in Many p.vars [] d.text) p) (sym d.is) (d.plain, refl, refl, refl);
-  here = d.here;
-}
+by_tree tree rest p es d =
+    let q = behind_conditions d.top p in
+    let words = words_in Many q.vars [] d.text in
+    record {
+      flags = d.top.flags;
+      words = words;
+      mind = q;
+      delivers = subst (λ t. DeliversAt (Running (Do t ∷ rest) p) d.top.flags words q) (sym d.is) (d.plain, d.holds, refl, refl, refl);
+      here = d.here;
+    }
 
 by_default : (mailbox : List ℕ) (rest : List (List ℕ)) (p : Mind) (turn : Turn) (front later : List Entry) (next : Next State Ending)
     → Plays (deliver_default mailbox p) front turn → Plays (Ends (next_default rest turn)) later next → is_last next ≡ true → DeliversState (FallingOff (mailbox ∷ rest) p) (front ++ later)

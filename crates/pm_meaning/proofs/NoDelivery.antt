@@ -6,7 +6,7 @@ use Rattle.pm_bytes.specs.declared.environment.Environ.{Environ}
 use Rattle.pm_host.specs.declared.answers.Looked.TheVariants.{Folder as LookedFolder}
 use Rattle.pm_message.specs.FromLine.{makes_line, prepared_of}
 use Rattle.pm_message.specs.Split.{split_of}
-use Rattle.pm_recipe.specs.Build.{rc_of}
+use Rattle.pm_recipe.specs.Listed.{rc_of}
 use Rattle.pm_subst.specs.declared.kinds.Mode.{Mode}
 use Rattle.pm_subst.specs.declared.kinds.Mode.TheVariants.{One}
 use Rattle.pm_journal.specs.LogText.{couldnt_read_line, no_delivery_line, unusable_name_line, couldnt_chdir_line, couldnt_lock_line, forcing_lock_line}
@@ -61,7 +61,7 @@ never_asked : {R : Type 0} (test : R → Bool) (act : Act) (f : Reply → Plan R
 never_asked test act f never [] end h passes = h
 never_asked test act f never (e ∷ es) end h passes = never e.reply es end h.2 passes
 
-never_said : {R : Type 0} (test : R → Bool) (p : Mind) (text : List ℕ) (next : R) → test next ≡ false → Never test (say_then p text next)
+pub never_said : {R : Type 0} (test : R → Bool) (p : Mind) (text : List ℕ) (next : R) → test next ≡ false → Never test (say_then p text next)
 never_said test p text next fails [] end h passes = h
 never_said test p text next fails (e ∷ es) end h passes = never_ends test next fails es end h.2 passes
 

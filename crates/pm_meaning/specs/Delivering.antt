@@ -29,11 +29,9 @@ use Rattle.pm_meaning.specs.declared.process.Filed.TheVariants.{Stored, Unwritte
 use Rattle.pm_meaning.specs.declared.process.Attempt.{Attempt}
 use Rattle.pm_meaning.specs.declared.process.Attempt.TheVariants.{Unlocked, NotLocked, Locked}
 
--- conditions and the flags that tie a recipe to those before it aren't built yet
+-- the flags that tie a recipe to those before it aren't built yet
 abbrev pub is_plain : Top → Bool
-is_plain top =
-    length top.conditions == 0
-    && not (top.flags.and_chain || top.flags.and_ok || top.flags.or_else || top.flags.on_error)
+is_plain top = not (top.flags.and_chain || top.flags.and_ok || top.flags.or_else || top.flags.on_error)
 
 -- one of the flags h and b feeds that part alone
 abbrev pub feed_of : Flags → Feed

@@ -8,6 +8,7 @@ pub mod Locks
 pub mod GlobalLock
 pub mod Assigning
 pub mod Delivering
+pub mod Judging
 pub mod Running
 pub mod Status
 pub mod Laws

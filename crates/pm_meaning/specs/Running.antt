@@ -7,7 +7,7 @@ use Rattle.pm_message.specs.declared.head.Message.{Message}
 use Rattle.pm_message.specs.declared.renewal.Renew.{Renew}
 use Rattle.pm_message.specs.declared.renewal.Renew.TheVariants.{Keep, AddMissing}
 use Rattle.pm_recipe.specs.Tree.{Trees, nil, cons, Tree, Assign, Unset, Recipe, Defect}
-use Rattle.pm_recipe.specs.Build.{rc_of}
+use Rattle.pm_recipe.specs.Listed.{rc_of}
 use Rattle.pm_journal.specs.LogText.{couldnt_read_line, no_delivery_line}
 use Rattle.pm_journal.specs.declared.acts.Act.TheVariants.{ReadFile, Unlock, Moment}
 use Rattle.pm_journal.specs.declared.acts.Reply.{Reply}
@@ -19,6 +19,7 @@ use Rattle.pm_meaning.specs.Changes.{entered}
 use Rattle.pm_meaning.specs.Turns.{Turn, GoesOn, Halts, say_then}
 use Rattle.pm_meaning.specs.Assigning.{assign, unset, skip_defect}
 use Rattle.pm_meaning.specs.Delivering.{deliver_to, run_recipe}
+use Rattle.pm_meaning.specs.Judging.{judge_first}
 use Rattle.pm_meaning.specs.GlobalLock.{give_named}
 use Rattle.pm_meaning.specs.Locks.{value_or}
 use Rattle.pm_meaning.specs.Texts.{is_empty}
@@ -80,8 +81,21 @@ after_read name rest p other = unread name rest p
 -- the flags of a recipe that has no letters
 abbrev pub no_flags : Flags
 no_flags = record {
-  search_head = false; search_body = false; distinguish = false; feed_head = false; feed_body = false; filter = false; copy = false; wait = false;
-  wait_quiet = false; ignore = false; raw = false; and_chain = false; and_ok = false; or_else = false; on_error = false;
+  search_head = false;
+  search_body = false;
+  distinguish = false;
+  feed_head = false;
+  feed_body = false;
+  filter = false;
+  copy = false;
+  wait = false;
+  wait_quiet = false;
+  ignore = false;
+  raw = false;
+  and_chain = false;
+  and_ok = false;
+  or_else = false;
+  on_error = false;
 }
 
 -- the mail goes to this mailbox as by a recipe `:0:`, under its automatic lock file
@@ -101,7 +115,7 @@ default_mailboxes vars =
 abbrev pub statement : Tree → Mind → Plan Turn
 statement (Assign name text) p = assign name text p
 statement (Unset name) p = unset name p
-statement (Recipe top act) p = run_recipe top act p
+statement (Recipe top act) p = judge_first top (λ q. run_recipe top act q) p
 statement (Defect line text) p = skip_defect text p
 
 -- the process goes on with what is left, or is over

@@ -1,4 +1,7 @@
+pub mod CutLemmas
 pub mod DayLemmas
+mod FieldLemmas
+pub mod FoldLemmas
 pub mod HeadLemmas
 pub mod LineLemmas
 pub mod SplitLemmas

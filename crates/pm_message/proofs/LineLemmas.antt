@@ -33,7 +33,7 @@ unfolding line_len
 line_len-on b bs ne = rw (ne_eqb b 10 ne) refl
 
 -- the first line is as long as bstr says
-first_line : (b : ℕ) (bs : List ℕ) → lines (b ∷ bs) ≡ take (line_len (b ∷ bs)) (b ∷ bs) ∷ lines (drop (line_len (b ∷ bs)) (b ∷ bs))
+pub first_line : (b : ℕ) (bs : List ℕ) → lines (b ∷ bs) ≡ take (line_len (b ∷ bs)) (b ∷ bs) ∷ lines (drop (line_len (b ∷ bs)) (b ∷ bs))
 unfolding line_len
 first_line b [] = ⊎_elim
     (λ e. rw (line_len-break b [] e) (lines-break b [] e))

@@ -1,6 +1,5 @@
 pub mod Append
 pub mod Cut
-pub mod Covers
 pub mod Joined
 pub mod Trim
 pub mod Digits
@@ -13,3 +12,14 @@ pub mod Taking
 pub mod Shapes
 pub mod Pieces
 pub mod OneCut
+pub mod ColonText
+pub mod Unjoined
+pub mod WeightForms
+pub mod LeadForms
+pub mod ConditionForms
+pub mod OpenWords
+pub mod LineEnds
+pub mod Saying
+pub mod Listing
+pub mod Parsing
+pub mod OneRc

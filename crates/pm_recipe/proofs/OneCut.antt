@@ -8,19 +8,18 @@ use Rattle.pm_recipe.specs.declared.fronts.Kind.{Kind}
 use Rattle.pm_recipe.specs.declared.fronts.Kind.TheVariants as kind
 use Rattle.pm_recipe.specs.Places.{far}
 use Rattle.pm_recipe.specs.Front.{front_of}
-use Rattle.pm_recipe.specs.Spans.{span_of, newlines, line_past, situation_after, start}
-use Rattle.pm_recipe.specs.Build.{rc_of}
+use Rattle.pm_recipe.specs.Spans.{span_of, newlines, situation_after, start}
 use Rattle.pm_recipe.specs.Words.{IsLine}
-use Rattle.pm_recipe.specs.Spells.{HasNone, IsBroken, IsSkipped, IsMailbox, IsJunk, goes_on, Spells, Piece, IsCut, pieces, pieces_of, tree_of_pieces}
+use Rattle.pm_recipe.specs.Spells.{HasNone, IsBroken, IsSkipped, IsMailbox, IsJunk, goes_on, Spells, Piece, IsCut}
 use Rattle.pm_recipe.specs.Spells.IsSkipped.{Broken, Other}
-use Rattle.pm_recipe.proofs.Cut.{line-newlines}
 use Rattle.pm_recipe.proofs.WordRuns.{rest-length, tail-length, true-false}
 use Rattle.pm_recipe.proofs.Taking.{Takes, taken, line-far}
 use Rattle.pm_recipe.proofs.Shapes.{front-stands, front-spells}
-use Rattle.pm_recipe.proofs.Pieces.{tree-text}
+use Rattle.pm_recipe.specs.Listed.{pieces, pieces_of}
+use Rattle.pm_recipe.proofs.Pieces.{pieces-drop}
 
 -- two ways to part a text at one place
-same-first : (xs ys zs ws : List ℕ) → xs ++ ys ≡ zs ++ ws → length xs ≡ length zs → xs ≡ zs
+pub same-first : (xs ys zs ws : List ℕ) → xs ++ ys ≡ zs ++ ws → length xs ≡ length zs → xs ≡ zs
 same-first xs ys zs ws e n = sym (take_at xs ys (length zs) n) ∙ ap (take (length zs)) e ∙ take_at zs ws (length zs) refl
 
 same-last : (xs ys zs ws : List ℕ) → xs ++ ys ≡ zs ++ ws → length xs ≡ length zs → ys ≡ ws
@@ -177,15 +176,6 @@ front-is situation kind.Assign name text bytes last some s = from-taken _ kind.A
 front-is situation kind.Unset name text bytes last some s = from-taken _ kind.Unset name text bytes last (taken situation kind.Unset name text bytes last s)
 front-is situation kind.Missing name text bytes last some s = absurd s
 
--- bytes that are passed over end lines and give no piece
-pieces-drop : (skip line : ℕ) (situation : Situation) (text : List ℕ)
-    → pieces skip line situation text ≡ pieces zero (line + newlines (take skip text)) situation (drop skip text)
-pieces-drop zero line situation text = let e : line ≡ line + newlines (take zero text) = omega arith in ap (λ n. pieces zero n situation text) e
-pieces-drop (suc skip) line situation [] = refl
-pieces-drop (suc skip) line situation (byte ∷ bytes) =
-    pieces-drop skip (line_past byte line) situation bytes
-    ∙ ap (λ n. pieces zero n situation (drop skip bytes)) (line-newlines byte line (take skip bytes))
-
 abbrev pub piece_at : Kind → ℕ → List ℕ → List ℕ → List ℕ → Piece
 piece_at sort line name text bytes = record { span = record { kind = sort; line = line; name = name; text = text }; bytes = bytes }
 
@@ -231,6 +221,3 @@ one-cut line situation (p ∷ ps) text c = by c.0 c.1 c.2 c.3 c.4 (one-cut (line
 
 pub one-cut-text : (text : List ℕ) (ps : List Piece) → IsCut 1 start ps text → ps ≡ pieces_of text
 one-cut-text text ps c = one-cut 1 start ps text c
-
-pub one-tree-text : (text : List ℕ) (ps : List Piece) → IsCut 1 start ps text → rc_of text ≡ tree_of_pieces ps
-one-tree-text text ps c = tree-text text ∙ ap tree_of_pieces (sym (one-cut-text text ps c))

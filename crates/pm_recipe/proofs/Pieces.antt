@@ -1,26 +1,58 @@
--- The pieces of a text are a cut of it, and their spans are the text's.
-use Rattle.std.proofs.Common.{◌≡◌, ◌+◌, ◌-◌, ◌<◌, ℕ, zero, suc, List, [], ◌∷◌, ◌++◌, refl, ap, sym, ◌∙◌, length, take, drop, map, arith, subst}
-use Rattle.std.proofs.lemmas.List.{take-append-drop}
+-- The pieces of a text, and that they are a cut of it.
+use Rattle.std.proofs.Common.{◌≡◌, ◌+◌, ◌-◌, ◌<◌, ℕ, zero, suc, List, [], ◌∷◌, refl, ap, sym, ◌∙◌, length, take, drop, arith, subst, length-drop}
+use Rattle.std.proofs.lemmas.List.{take-append-drop, drop-drop}
+use Rattle.pm_recipe.specs.declared.fronts.Front.{Front}
 use Rattle.pm_recipe.specs.declared.fronts.Situation.{Situation}
 use Rattle.pm_recipe.specs.Front.{front_of}
-use Rattle.pm_recipe.specs.Spans.{span_of, spans, line_past, newlines, situation_after, closings, start}
-use Rattle.pm_recipe.specs.Build.{rc_of, tree_of_spans}
-use Rattle.pm_recipe.specs.Spells.{IsCut, pieces, pieces_of, end_of, tree_of_pieces}
+use Rattle.pm_recipe.specs.Spans.{Span, span_of, line_past, newlines, situation_after, start}
+use Rattle.pm_recipe.specs.Spells.{IsCut, spans_from}
+use Rattle.pm_recipe.specs.Listed.{pieces, pieces_of}
 use Rattle.pm_recipe.proofs.Cut.{line-newlines}
 use Rattle.pm_recipe.proofs.Shapes.{front-stands, front-spells}
 
--- the spans of a text are those of its pieces
-spans-pieces : (skip line : ℕ) (situation : Situation) (text : List ℕ)
-    → spans skip line situation text ≡ map (λ piece. piece.span) (pieces skip line situation text) ++ closings (end_of situation (pieces skip line situation text))
-spans-pieces zero line situation [] = refl
-spans-pieces (suc skip) line situation [] = refl
-spans-pieces (suc skip) line situation (byte ∷ bytes) = spans-pieces skip (line_past byte line) situation bytes
-spans-pieces zero line situation (byte ∷ bytes) =
-    let front = front_of situation (byte ∷ bytes) in
-    ap (λ rest. span_of front line (byte ∷ bytes) ∷ rest) (spans-pieces (front.taken - 1) (line_past byte line) (situation_after front.kind line situation) bytes)
+-- the spans of a text from a line and a situation on
+abbrev pub spans : ℕ → Situation → List ℕ → List Span
+spans line situation text = spans_from situation (pieces zero line situation text)
 
-pub tree-text : (text : List ℕ) → rc_of text ≡ tree_of_pieces (pieces_of text)
-tree-text text = ap tree_of_spans (spans-pieces 0 1 start text)
+-- bytes that are passed over end lines and give no piece
+pub pieces-drop : (skip line : ℕ) (situation : Situation) (text : List ℕ)
+    → pieces skip line situation text ≡ pieces zero (line + newlines (take skip text)) situation (drop skip text)
+pieces-drop zero line situation text = let e : line ≡ line + newlines (take zero text) = omega arith in ap (λ n. pieces zero n situation text) e
+pieces-drop (suc skip) line situation [] = refl
+pieces-drop (suc skip) line situation (byte ∷ bytes) =
+    pieces-drop skip (line_past byte line) situation bytes
+    ∙ ap (λ n. pieces zero n situation (drop skip bytes)) (line-newlines byte line (take skip bytes))
+
+-- the first span, and the spans behind it
+spans-turn : (line : ℕ) (situation : Situation) (text : List ℕ) (front : Front)
+    → 0 < length text → front ≡ front_of situation text → 0 < front.taken
+    → spans line situation text
+    ≡ span_of front line text ∷ spans (line + newlines (take front.taken text)) (situation_after front.kind line situation) (drop front.taken text)
+spans-turn line situation [] front h is some = absurd (omega arith)
+spans-turn line situation (byte ∷ bytes) front h is some =
+    let P : Front → Type 0 = λ f. span_of f line (byte ∷ bytes)
+    ∷ spans_from (situation_after f.kind line situation) (pieces (f.taken - 1) (line_past byte line) (situation_after f.kind line situation) bytes)
+    ≡ span_of front line (byte ∷ bytes) ∷ spans (line + newlines (take front.taken (byte ∷ bytes))) (situation_after front.kind line situation) (drop front.taken (byte ∷ bytes)) in
+    subst P is (ap (λ ps. span_of front line (byte ∷ bytes) ∷ spans_from (situation_after front.kind line situation) ps) (by front.taken some))
+  where
+    by : (n : ℕ) → 0 < n
+        → pieces (n - 1) (line_past byte line) (situation_after front.kind line situation) bytes
+        ≡ pieces zero (line + newlines (take n (byte ∷ bytes))) (situation_after front.kind line situation) (drop n (byte ∷ bytes))
+    by zero pos = absurd (omega arith)
+    by (suc n) pos =
+        let e : suc n - 1 ≡ n = omega arith in
+        ap (λ k. pieces k (line_past byte line) (situation_after front.kind line situation) bytes) e
+        ∙ pieces-drop (suc n) line (situation_after front.kind line situation) (byte ∷ bytes)
+
+-- a turn at a place of the text
+pub turned : (line : ℕ) (situation : Situation) (text : List ℕ) (at : ℕ) (here : List ℕ) (front : Front) (line_now : ℕ) (situation_now : Situation)
+    → at < length text → drop at text ≡ here → front ≡ front_of situation here → 0 < front.taken
+    → line_now ≡ line + newlines (take front.taken here) → situation_now ≡ situation_after front.kind line situation
+    → spans line situation (drop at text)
+    ≡ span_of front line here ∷ spans line_now situation_now (drop (at + front.taken) text)
+turned line situation text at here front line_now situation_now h here_is front_is some line_is situation_is =
+    let some_left : 0 < length here = subst (λ xs. 0 < length xs) here_is (omega (arith, length-drop at text)) in
+    rw (line_is, situation_is, ← drop-drop front.taken at text, here_is) (spans-turn line situation here front some_left front_is some)
 
 -- the pieces behind bytes that are passed over cut what follows these
 cut-behind : (skip line : ℕ) (situation : Situation) (text : List ℕ)

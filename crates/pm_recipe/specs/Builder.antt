@@ -6,10 +6,10 @@ use Rattle.pm_recipe.specs.declared.building.Level as level
 use Rattle.pm_recipe.specs.declared.building.Begun as begun
 use Rattle.pm_recipe.specs.declared.fronts.Situation.{Situation}
 use Rattle.pm_recipe.specs.declared.tree.Condition.{Condition}
-use Rattle.pm_recipe.specs.Spans.{Span}
 use Rattle.pm_recipe.specs.Tree.{Trees, Tree, nil, cons, ◌⧺◌}
 use Rattle.pm_recipe.specs.Tree as tree
 use Rattle.pm_recipe.specs.Build.{Ahead, ahead_of, first, others, put, recipe_of, top_of}
+use Rattle.pm_recipe.specs.Item.{Item}
 
 -- a block that is open, with what stands before it, and its recipe's head
 pub record Level : Type 0 where
@@ -43,9 +43,9 @@ pub record Built : Type 0 where
   pub done : Trees
   pub begun : Option Begun
 
--- the whole tree, where these spans follow
-abbrev pub whole : Built → List Span → Trees
-whole built spans = joined built.levels built.done (settled built.begun (ahead_of spans))
+-- the whole tree, where these items follow
+abbrev pub whole : Built → List Item → Trees
+whole built items = joined built.levels built.done (settled built.begun (ahead_of items))
 
 -- a level of the code
 abbrev pub level_of : level.Level → Level

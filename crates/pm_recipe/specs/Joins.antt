@@ -1,49 +1,32 @@
 -- Texts without the joins of their lines.
-use Rattle.std.specs.Prelude.{ℕ, List, [], ◌∷◌, if◌then◌else◌, nat_eq, Bool, false, true, ◌&&◌, ◌||◌}
+use Rattle.std.specs.Prelude.{ℕ, List, [], ◌∷◌, if◌then◌else◌, nat_eq, Bool, false, true, ◌&&◌}
 use Rattle.pm_bytes.specs.Letter.{is_blank_byte}
 use Rattle.pm_recipe.specs.Bytes.{begins_with, is_empty}
-use Rattle.pm_recipe.specs.Places.{behind}
 use Rattle.pm_bytes.specs.Alphabet.{NEWLINE, BACKSLASH}
-use Rattle.pm_recipe.specs.declared.joins.Side.{Side}
-use Rattle.pm_recipe.specs.declared.joins.Side.TheVariants.{Text, Newline, Indent}
-use Rattle.pm_recipe.specs.declared.places.Place.TheVariants.{Blanks}
 
 -- whether a backslash stands before a newline
 abbrev pub is_join : ℕ → List ℕ → Bool
 is_join byte bytes = nat_eq byte BACKSLASH && begins_with NEWLINE bytes
 
--- whether a byte is dropped: one of a join, or a blank behind one
-abbrev pub is_dropped : Side → ℕ → List ℕ → Bool
-is_dropped Text byte bytes = is_join byte bytes
-is_dropped Newline byte bytes = true
-is_dropped Indent byte bytes = is_blank_byte byte || is_join byte bytes
-
--- where the next byte stands
-abbrev pub side_after : Bool → Side → ℕ → List ℕ → Side
-side_after indents Text byte bytes = if is_join byte bytes then Newline else Text
-side_after indents Newline byte bytes = if indents then Indent else Text
-side_after indents Indent byte bytes = if is_blank_byte byte then Indent else if is_join byte bytes then Newline else Text
-
--- the bytes that are kept; the blanks behind a join are dropped too, where they are an indent
-abbrev pub kept : Bool → Side → List ℕ → List ℕ
-kept indents side [] = []
-kept indents side (byte ∷ bytes) =
-    let rest = kept indents (side_after indents side byte bytes) bytes in
-    if is_dropped side byte bytes then rest else byte ∷ rest
-
--- one line of lines that are joined
+-- one line of lines that are joined: each backslash before a newline is gone, and that newline
 abbrev pub unjoined : List ℕ → List ℕ
-unjoined text = kept false Text text
+unjoined [] = []
+unjoined (byte ∷ []) = byte ∷ []
+unjoined (byte ∷ (next ∷ bytes)) = if is_join byte (next ∷ bytes) then unjoined bytes else byte ∷ unjoined (next ∷ bytes)
 
--- the same without the blanks behind each join
+-- the same without the blanks behind each join; behind one, or not
+abbrev pub without_indents : Bool → List ℕ → List ℕ
+without_indents behind [] = []
+without_indents behind (byte ∷ []) = if behind && is_blank_byte byte then [] else byte ∷ []
+without_indents behind (byte ∷ (next ∷ bytes)) =
+    if is_join byte (next ∷ bytes) then without_indents true bytes else
+    if behind && is_blank_byte byte then without_indents true (next ∷ bytes) else byte ∷ without_indents false (next ∷ bytes)
+
+-- one line of lines that are joined, without the blanks at the beginnings of the later ones
 abbrev pub unindented : List ℕ → List ℕ
-unindented text = kept true Text text
+unindented text = without_indents false text
 
 -- without the blanks at the end
 abbrev pub before_blanks : List ℕ → List ℕ
 before_blanks [] = []
 before_blanks (byte ∷ bytes) = if is_blank_byte byte && is_empty (before_blanks bytes) then [] else byte ∷ before_blanks bytes
-
--- without the blanks at both ends
-abbrev pub trimmed : List ℕ → List ℕ
-trimmed text = before_blanks (behind Blanks text)

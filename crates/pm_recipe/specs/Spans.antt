@@ -5,7 +5,6 @@ use Rattle.pm_recipe.specs.declared.fronts.Front.{Front}
 use Rattle.pm_recipe.specs.declared.fronts.Situation.{Situation}
 use Rattle.pm_recipe.specs.declared.fronts.Kind.{Kind}
 use Rattle.pm_recipe.specs.declared.fronts.Kind.TheVariants.{Gap, Colon, Condition, Open, TooDeep, Close, Missing}
-use Rattle.pm_recipe.specs.Front.{front_of}
 
 -- a span: its kind, the line that it begins on, its name and its text
 pub record Span : Type 0 where
@@ -71,30 +70,6 @@ missed situation = if nat_eq situation.depth 0 || situation.stopped then [] else
 abbrev pub closings : Situation → List Span
 closings situation = ends situation.depth situation.outermost ++ missed situation
 
--- the spans behind so many bytes that are passed over
-abbrev pub spans : ℕ → ℕ → Situation → List ℕ → List Span
-spans skip line situation [] = closings situation
-spans (suc skip) line situation (byte ∷ bytes) = spans skip (line_past byte line) situation bytes
-spans zero line situation (byte ∷ bytes) =
-    let front = front_of situation (byte ∷ bytes) in
-    span_of front line (byte ∷ bytes) ∷ spans (front.taken - 1) (line_past byte line) (situation_after front.kind line situation) bytes
-
 -- before the first byte
 abbrev pub start : Situation
 start = record { depth = 0; in_recipe = false; colon = 0; outermost = 0; stopped = false }
-
--- the spans of an rcfile
-abbrev pub spans_of : List ℕ → List Span
-spans_of bytes = spans 0 1 start bytes
-
--- the bytes that each span takes
-abbrev pub covers : ℕ → ℕ → Situation → List ℕ → List (List ℕ)
-covers skip line situation [] = []
-covers (suc skip) line situation (byte ∷ bytes) = covers skip (line_past byte line) situation bytes
-covers zero line situation (byte ∷ bytes) =
-    let front = front_of situation (byte ∷ bytes) in
-    (byte ∷ take (front.taken - 1) bytes) ∷ covers (front.taken - 1) (line_past byte line) (situation_after front.kind line situation) bytes
-
--- all of an rcfile's
-abbrev pub covers_of : List ℕ → List (List ℕ)
-covers_of bytes = covers 0 1 start bytes

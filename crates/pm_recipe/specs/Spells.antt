@@ -1,11 +1,9 @@
 -- How each span of an rcfile is spelled (procmailrc(5)), and what a cut of a text into spans is.
-use Rattle.std.specs.Prelude.{ℕ, ◌+◌, ◌-◌, ◌≤◌, ◌<◌, zero, suc, List, [], ◌∷◌, ◌++◌, map, ◌≡◌, Bool, true, false, not, ◌&&◌, ◌||◌, take, length}
+use Rattle.std.specs.Prelude.{ℕ, ◌+◌, ◌≤◌, ◌<◌, List, [], ◌∷◌, ◌++◌, map, ◌≡◌, Bool, true, false, not, ◌&&◌, ◌||◌, length}
 use Rattle.pm_bytes.specs.Letter.{is_name_start, is_space_byte}
 use Rattle.pm_recipe.specs.Bytes.{begins_with}
-use Rattle.pm_recipe.specs.Front.{front_of, ends_name, most_blocks}
-use Rattle.pm_recipe.specs.Spans.{Span, span_of, line_past, newlines, situation_after, start, closings}
-use Rattle.pm_recipe.specs.Build.{tree_of_spans}
-use Rattle.pm_recipe.specs.Tree.{Trees}
+use Rattle.pm_recipe.specs.Front.{ends_name, most_blocks}
+use Rattle.pm_recipe.specs.Spans.{Span, newlines, situation_after, closings}
 use Rattle.pm_recipe.specs.Words.{IsLine, AreBlanks, IsName, AreJoins, AreWords, in_flags, IsRest, IsTail}
 use Rattle.pm_recipe.specs.Quotes.{IsValue}
 use Rattle.pm_bytes.specs.Alphabet.{NEWLINE, HASH, STAR, OPEN_BRACE, CLOSE_BRACE, COLON, EQUALS, BAR, BANG, BACKSLASH, ZERO}
@@ -162,19 +160,6 @@ abbrev pub end_of : Situation → List Piece → Situation
 end_of situation [] = situation
 end_of situation (piece ∷ pieces) = end_of (situation_after piece.span.kind piece.span.line situation) pieces
 
--- the statements that pieces spell
-abbrev pub tree_of_pieces : List Piece → Trees
-tree_of_pieces pieces = tree_of_spans (map (λ piece. piece.span) pieces ++ closings (end_of start pieces))
-
--- the pieces behind so many bytes that are passed over
-abbrev pub pieces : ℕ → ℕ → Situation → List ℕ → List Piece
-pieces skip line situation [] = []
-pieces (suc skip) line situation (byte ∷ bytes) = pieces skip (line_past byte line) situation bytes
-pieces zero line situation (byte ∷ bytes) =
-    let front = front_of situation (byte ∷ bytes) in
-    (record { span = span_of front line (byte ∷ bytes); bytes = take front.taken (byte ∷ bytes) })
-    ∷ pieces (front.taken - 1) (line_past byte line) (situation_after front.kind line situation) bytes
-
--- the pieces of an rcfile
-abbrev pub pieces_of : List ℕ → List Piece
-pieces_of bytes = pieces 0 1 start bytes
+-- the spans of pieces from a situation on, with the ends of the blocks that are open behind them
+abbrev pub spans_from : Situation → List Piece → List Span
+spans_from situation pieces = map (λ piece. piece.span) pieces ++ closings (end_of situation pieces)

@@ -4,7 +4,8 @@ use Rattle.std.specs.List.{list_any}
 use Rattle.pm_bytes.specs.Letter.{is_blank_byte, is_digit_byte}
 use Rattle.pm_recipe.specs.Bytes.{begins_with}
 use Rattle.pm_recipe.specs.Places.{far, behind, rest_of}
-use Rattle.pm_recipe.specs.Joins.{unjoined, unindented, trimmed}
+use Rattle.pm_recipe.specs.Joins.{unjoined, unindented}
+use Rattle.pm_recipe.specs.Kept.{trimmed}
 use Rattle.pm_bytes.specs.Alphabet.{DOLLAR, DOT, PLUS, MINUS, CARET, ZERO}
 use Rattle.pm_recipe.specs.declared.places.Place.{Place}
 use Rattle.pm_recipe.specs.declared.places.Place.TheVariants.{Blanks, Sign, Dollar, Lead}

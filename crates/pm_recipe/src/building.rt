@@ -6,11 +6,14 @@ ghost use Rattle.pm_recipe.specs.Tree.{Trees, nil};
 ghost use Rattle.pm_recipe.specs.View.{tree_of, act_of};
 ghost use Rattle.pm_recipe.specs.Joins.{unjoined};
 ghost use Rattle.pm_recipe.specs.Weights.{condition_of};
-ghost use Rattle.pm_recipe.specs.Build.{Ahead, put, recipe_of, ended, top_of, head_of, missing, with_condition};
-ghost use Rattle.pm_recipe.specs.Build.{with_junk, first, others, program_line, acts, fails, plain};
+ghost use Rattle.pm_recipe.specs.Colon.{has_junk};
+ghost use Rattle.pm_recipe.specs.Item.{Item};
+ghost use Rattle.pm_recipe.specs.Reads.{head_of, missing, program_line, item_of};
+ghost use Rattle.pm_recipe.specs.Build.{Ahead, put, recipe_of, ended, top_of, with_condition};
+ghost use Rattle.pm_recipe.specs.Build.{with_junk, first, others, acts, fails, plain};
 ghost use Rattle.pm_recipe.specs.Build.Ending.{Acts};
 ghost use Rattle.pm_recipe.specs.Builder.{built_of, begun_of, joins, joined, level_of, settled, whole, Suits};
-ghost use Rattle.pm_recipe.specs.Spans.{Span, situation_after};
+ghost use Rattle.pm_recipe.specs.Spans.{situation_after};
 ghost use Rattle.pm_recipe.specs.declared.fronts.Situation.{Situation};
 
 use crate::colon_line::{is_junked, read_flags, read_lock};
@@ -241,7 +244,7 @@ impl Builder {
         ensures levels { self.new.levels.items ≡ self.old.levels.items }
         ensures begun { self.new.begun ≡ self.old.begun }
         ensures joins { IfOk result (λ _. (lists : List Trees)
-            → joins self.new lists ≡ joins self.old (with_junk line text.now lists)) }
+            → joins self.new lists ≡ joins self.old (with_junk (head_of line text.now) (has_junk text.now) lists)) }
     {
         if is_junked(text) {
             let text = Blob::from_slice(self.alloc, text)?;
@@ -256,7 +259,7 @@ impl Builder {
         ensures levels { self.new.levels.items ≡ self.old.levels.items }
         ensures begun { IfOk result (λ _. is_some self.new.begun ≡ true) }
         ensures joins { IfOk result (λ _. (ahead : Ahead) → joins self.new (settled (begun_of self.new.begun) ahead)
-            ≡ joins self.old (with_junk line text.now
+            ≡ joins self.old (with_junk (head_of line text.now) (has_junk text.now)
             (put (recipe_of (head_of line text.now) [] ahead.recipe) ahead.lists))) }
     {
         self.tell_junk(line, text)?;
@@ -394,7 +397,8 @@ impl Builder {
         ensures begun { IfOk result (λ _. is_some self.new.begun ≡ true) }
         ensures joins { IfOk result (λ _. (ahead : Ahead) → joins self.new (settled (begun_of self.new.begun) ahead)
             ≡ joins self.old (settled (begun_of self.old.begun)
-            (plain (with_junk line text.now (put (recipe_of (head_of line text.now) [] ahead.recipe) ahead.lists))))) }
+            (plain (with_junk (head_of line text.now) (has_junk text.now)
+            (put (recipe_of (head_of line text.now) [] ahead.recipe) ahead.lists))))) }
     {
         self.give_up()?;
         self.begin(line, text)?;
@@ -407,9 +411,9 @@ impl Builder {
         requires block { kind ≡ Kind.Close → 0 < length self.old.levels.items }
         ensures suits { IfOk result (λ _. (situation : Situation) → Suits self.old situation
             → Suits self.new (situation_after kind line situation)) }
-        ensures whole { IfOk result (λ _. (spans : List Span) → whole (built_of self.new) spans
-            ≡ whole (built_of self.old) (record { kind = kind; line = line; name = name.now; text = text.now }
-            ∷ spans)) }
+        ensures whole { IfOk result (λ _. (items : List Item) → whole (built_of self.new) items
+            ≡ whole (built_of self.old)
+            (item_of (record { kind = kind; line = line; name = name.now; text = text.now }) kind ∷ items)) }
     {
         match kind {
             Kind::Gap => Ok(()),

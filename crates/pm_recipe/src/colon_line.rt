@@ -2,12 +2,12 @@
 ghost use Rattle.std.specs.Prelude.{◌≡◌, ◌≤◌, ◌<◌, ◌+◌, ◌-◌, length, IfOk, nat_lt, drop, [], ◌∷◌};
 ghost use Rattle.pm_recipe.specs.Places.{far};
 ghost use Rattle.pm_recipe.specs.declared.places.Place.TheVariants.{Letters};
-ghost use Rattle.pm_recipe.specs.Colon.{word_length, is_unclosed, ends_statement, begins_recipe, behind_zero};
+ghost use Rattle.pm_recipe.specs.Colon.{word_length, ends_statement, begins_recipe, behind_zero};
 ghost use Rattle.pm_recipe.specs.Colon.{flags_part, behind_flags, has_lock, lock_part, behind_lock, behind_colon};
 ghost use Rattle.pm_recipe.specs.Colon.{lock_of, has_junk, has_letter, flags_of};
 
 use crate::bytes::starts_with;
-use crate::places::{Place, in_quote, past, past_first, reach};
+use crate::places::{Place, past, past_first, reach};
 use crate::tree::Flags;
 use pm_bytes::{Blob, COLON, HASH, Memory, NEWLINE};
 use std::alloc::Global;
@@ -21,12 +21,6 @@ pub fn word_in(text: &[u8]) -> usize
     } else {
         reach(Place::Word, text).length
     }
-}
-
-pub fn leaves_quote(text: &[u8]) -> bool
-    ensures { result ≡ is_unclosed text.now }
-{
-    !starts_with(HASH, text) && in_quote(reach(Place::Word, text).place)
 }
 
 fn at_end(text: &[u8]) -> bool

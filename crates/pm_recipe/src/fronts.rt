@@ -1,12 +1,13 @@
 //! What stands at the front of an rcfile's text: the next span, by its first bytes and the situation.
 ghost use Rattle.std.specs.Prelude.{◌≡◌, ◌≤◌, ◌<◌, ◌^◌, ◌+◌, length, true};
 ghost use Rattle.pm_recipe.specs.Front.{front_of, gap, line_front, Within};
-ghost use Rattle.pm_recipe.specs.Spans.{situation_after, in_statements, newlines};
+ghost use Rattle.pm_recipe.specs.Spans.{situation_after, in_statements};
+ghost use Rattle.pm_recipe.specs.Opens.{Knows};
 
 use crate::bytes::starts_with;
 use crate::lines::recipe_line_at;
 use crate::names::statement_at;
-use crate::places::{Place, reach};
+use crate::newlines::line_end;
 use pm_bytes::{BACKSLASH, CLOSE_BRACE, COLON, HASH, NEWLINE, is_space};
 
 /// What a span is. `Missing` stands where the text ends inside blocks.
@@ -78,10 +79,11 @@ pub fn line_of(kind: Kind, from: usize, taken: usize) -> Front
     }
 }
 
-/// What stands at the front.
-pub fn front_at(situation: &Situation, text: &[u8]) -> Front
+/// What stands at the front, where `known` tells of some of the text's words whether they leave a quote open.
+pub fn front_at(known: &[bool], situation: &Situation, text: &[u8]) -> Front
     requires some { 0 < length text.now }
     requires room { length text.now < 2 ^ 63 }
+    requires knows { Knows known.now text.now }
     ensures front { result ≡ front_of situation.now text.now }
     ensures open { result.kind ≡ Kind.Open → situation.now.in_recipe ≡ true }
     ensures close { result.kind ≡ Kind.Close → 0 < situation.now.depth }
@@ -95,12 +97,12 @@ pub fn front_at(situation: &Situation, text: &[u8]) -> Front
         return gap_of(2);
     }
     if byte == HASH {
-        return gap_of(reach(Place::Comment, &text[1..]).length + 1);
+        return gap_of(line_end(&text[1..]) + 1);
     }
     if situation.in_recipe && byte != CLOSE_BRACE && byte != COLON {
         recipe_line_at(situation.depth >= MOST_BLOCKS, text)
     } else {
-        statement_at(situation.depth > 0, text)
+        statement_at(known, situation.depth > 0, text)
     }
 }
 
@@ -155,18 +157,4 @@ pub fn situation_behind(kind: Kind, line: u64, situation: Situation) -> Situatio
         Kind::Close => with_statements(situation, depth.saturating_sub(1), stopped),
         _ => with_statements(situation, depth, stopped),
     }
-}
-
-/// How many lines end in a text.
-pub fn newlines_in(text: &[u8]) -> u64
-    ensures count { result ≡ newlines text.now }
-    ensures within { result ≤ length text.now }
-{
-    let mut count: u64 = 0;
-    for byte in text {
-        if *byte == NEWLINE {
-            count += 1;
-        }
-    }
-    count
 }

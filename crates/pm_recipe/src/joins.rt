@@ -1,8 +1,8 @@
 //! Texts without the joins of their lines, and without the blanks at their ends.
 ghost use Rattle.std.specs.Prelude.{◌≡◌, ◌+◌, ◌<◌, IfOk, length, drop, if◌then◌else◌, List, ℕ, ◌++◌, ◌∷◌};
 ghost use Rattle.pm_recipe.specs.declared.joins.Side.TheVariants as Side;
-ghost use Rattle.pm_recipe.specs.Joins.{is_join, is_dropped, side_after, kept, unjoined, unindented, before_blanks};
-ghost use Rattle.pm_recipe.specs.Joins.{trimmed};
+ghost use Rattle.pm_recipe.specs.Joins.{is_join, unjoined, unindented, before_blanks};
+ghost use Rattle.pm_recipe.specs.Kept.{is_dropped, side_after, kept, trimmed};
 
 use crate::places::{Place, newline_behind, reach};
 use pm_bytes::{BACKSLASH, Blob, Memory, is_blank};

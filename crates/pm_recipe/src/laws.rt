@@ -1,17 +1,40 @@
-//! Laws on the cut of an rcfile into spans, in the words of the language.
-ghost use Rattle.std.specs.Prelude.{List, ℕ, ◌≡◌};
-ghost use Rattle.pm_recipe.specs.Spells.{IsCut, Piece, pieces_of, tree_of_pieces};
-ghost use Rattle.pm_recipe.specs.Build.{rc_of};
+//! Laws on the reading of an rcfile, in the words of the language.
+ghost use Rattle.std.specs.Prelude.{List, ℕ, ◌≡◌, ◌++◌, Bool, Option, Some, None, false};
+ghost use Rattle.pm_bytes.specs.Alphabet.{COLON};
+ghost use Rattle.pm_recipe.specs.Bytes.{begins_with};
+ghost use Rattle.pm_recipe.specs.Colon.{lock_of, flags_part, has_junk};
+ghost use Rattle.pm_recipe.specs.Quotes.{IsValue};
+ghost use Rattle.pm_recipe.specs.Spells.{IsCut, Piece, IsHead, IsLockHead};
+ghost use Rattle.pm_recipe.specs.Says.{IsColonText};
 ghost use Rattle.pm_recipe.specs.Spans.{start};
+ghost use Rattle.pm_recipe.specs.Tree.{Trees};
+ghost use Rattle.pm_recipe.specs.Rc.{IsRc};
+ghost use Rattle.pm_recipe.specs.Listed.{rc_of};
+ghost use Rattle.pm_recipe.specs.Letters.{AreLetters};
 
-/// The pieces of a text are a cut of it.
-pub fn spans_cut()
-    ensures { (text : List ℕ) → IsCut 1 start (pieces_of text) text }
+/// A text has one cut into pieces.
+pub fn one_cut()
+    ensures { (text : List ℕ) (pieces others : List Piece) → IsCut 1 start pieces text → IsCut 1 start others text
+        → pieces ≡ others }
 {}
 
-/// A text has no other cut, and its statements are those that its cut spells.
-pub fn one_cut()
-    ensures cut { (text : List ℕ) (pieces : List Piece) → IsCut 1 start pieces text → pieces ≡ pieces_of text }
-    ensures tree { (text : List ℕ) (pieces : List Piece) → IsCut 1 start pieces text
-        → rc_of text ≡ tree_of_pieces pieces }
+/// A text has a list of statements, and no other.
+pub fn one_rc()
+    ensures some { (text : List ℕ) → IsRc text (rc_of text) }
+    ensures once { (text : List ℕ) (statements : Trees) → IsRc text statements → statements ≡ rc_of text }
+{}
+
+/// What is read out of a colon line is what its form says.
+pub fn colon_line_law()
+    ensures flags { (text after : List ℕ) → (h : IsHead text after) → flags_part text ≡ h.flags }
+    ensures none { (text after : List ℕ) → IsHead text after → begins_with COLON after ≡ false → lock_of text ≡ None }
+    ensures lock { (text lock tail : List ℕ) → IsLockHead text (lock ++ tail) → IsValue lock tail
+        → lock_of text ≡ Some lock }
+    ensures junk { (text flags : List ℕ) (lock : Option (List ℕ)) (junk : Bool) → IsColonText text flags lock junk
+        → junk ≡ has_junk text }
+{}
+
+/// Each letter sets its flag.
+pub fn letters_law()
+    ensures { AreLetters }
 {}

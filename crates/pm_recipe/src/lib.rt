@@ -10,12 +10,14 @@ mod joins;
 mod laws;
 mod lines;
 mod names;
+mod newlines;
 mod places;
+mod quotes;
 mod reader;
 mod tree;
 
-pub use laws::{one_cut, spans_cut};
-pub use reader::{RcRefused, read_rc, spans_cover};
+pub use laws::{colon_line_law, letters_law, one_cut, one_rc};
+pub use reader::{RcRefused, read_rc};
 pub use tree::{
     Action, Condition, Flags, Rc, Recipe, Statement, Statements, Weight, copy_statements,
 };

@@ -4,11 +4,14 @@ ghost use Rattle.pm_recipe.specs.Places.{far};
 ghost use Rattle.pm_recipe.specs.declared.places.Place.TheVariants.{Name};
 ghost use Rattle.pm_recipe.specs.Front.{skipped, unclosed, assignment, ends_name, behind_name, name_width, named};
 ghost use Rattle.pm_recipe.specs.Front.{colon_front, statement_of, Within};
+ghost use Rattle.pm_recipe.specs.Opens.{Knows};
 
 use crate::bytes::starts_with;
-use crate::colon_line::{from_lock, is_locked, is_recipe, leaves_quote, past_colon_line, word_in};
+use crate::colon_line::{from_lock, is_locked, is_recipe, past_colon_line, word_in};
 use crate::fronts::{Front, Kind, line_of};
+use crate::newlines::line_end;
 use crate::places::{Place, past, past_first, reach};
+use crate::quotes::leaves_quote;
 use pm_bytes::{CLOSE_BRACE, EQUALS, begins_name, is_space};
 
 fn skip(text: &[u8]) -> Front
@@ -32,14 +35,11 @@ fn skip_line(text: &[u8]) -> Front
     ensures kind { result.kind ≡ Kind.Skipped }
     ensures within { Within result (length text.now) }
 {
-    line_of(
-        Kind::Skipped,
-        0,
-        reach(Place::Comment, past_first(text)).length + 1,
-    )
+    line_of(Kind::Skipped, 0, line_end(past_first(text)) + 1)
 }
 
-fn assignment_at(text: &[u8], mid: usize, before: usize, behind: &[u8]) -> Front
+fn assignment_at(known: &[bool], text: &[u8], mid: usize, before: usize, behind: &[u8]) -> Front
+    requires knows { Knows known.now behind.now }
     requires room { length text.now < 2 ^ 63 }
     requires before { mid < before }
     requires sum { before + length behind.now ≡ length text.now }
@@ -50,7 +50,7 @@ fn assignment_at(text: &[u8], mid: usize, before: usize, behind: &[u8]) -> Front
 {
     let from = before + reach(Place::Blanks, behind).length;
     let value = past(Place::Blanks, behind);
-    if leaves_quote(value) {
+    if leaves_quote(known, value) {
         return skip_line(text);
     }
     let to = from + word_in(value);
@@ -81,7 +81,8 @@ pub fn past_name(text: &[u8]) -> &[u8]
     past(Place::Blanks, past(Place::Name, text))
 }
 
-fn named_at(text: &[u8]) -> Front
+fn named_at(known: &[bool], text: &[u8]) -> Front
+    requires knows { Knows known.now text.now }
     requires some { 0 < length text.now }
     requires start { 0 < far Name text.now }
     requires room { length text.now < 2 ^ 63 }
@@ -95,7 +96,7 @@ fn named_at(text: &[u8]) -> Front
     let rest = past_name(text);
     if starts_with(EQUALS, rest) {
         let before = mid + reach(Place::Blanks, behind).length + 1;
-        return assignment_at(text, mid, before, past_first(rest));
+        return assignment_at(known, text, mid, before, past_first(rest));
     }
     if is_name_end(behind) {
         Front {
@@ -110,7 +111,8 @@ fn named_at(text: &[u8]) -> Front
     }
 }
 
-fn colon_line_at(text: &[u8]) -> Front
+fn colon_line_at(known: &[bool], text: &[u8]) -> Front
+    requires knows { Knows known.now text.now }
     requires some { 0 < length text.now }
     requires room { length text.now < 2 ^ 63 }
     ensures front { result ≡ colon_front text.now }
@@ -118,14 +120,15 @@ fn colon_line_at(text: &[u8]) -> Front
     ensures no_close { result.kind ≡ Kind.Close → ⊥ }
     ensures within { Within result (length text.now) }
 {
-    if is_locked(text) && leaves_quote(from_lock(text)) {
+    if is_locked(text) && leaves_quote(known, from_lock(text)) {
         return skip_line(text);
     }
     line_of(Kind::Colon, 0, text.len() - past_colon_line(text).len())
 }
 
 /// A statement at its first byte.
-pub fn statement_at(in_block: bool, text: &[u8]) -> Front
+pub fn statement_at(known: &[bool], in_block: bool, text: &[u8]) -> Front
+    requires knows { Knows known.now text.now }
     requires some { 0 < length text.now }
     requires room { length text.now < 2 ^ 63 }
     ensures front { result ≡ statement_of in_block text.now }
@@ -144,10 +147,10 @@ pub fn statement_at(in_block: bool, text: &[u8]) -> Front
         };
     }
     if is_recipe(text) {
-        return colon_line_at(text);
+        return colon_line_at(known, text);
     }
     if begins_name(byte) {
-        named_at(text)
+        named_at(known, text)
     } else {
         skip(text)
     }

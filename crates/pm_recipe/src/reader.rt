@@ -1,12 +1,17 @@
 //! Reading of an rcfile, once over its bytes.
-ghost use Rattle.std.specs.Prelude.{◌≡◌, ◌<◌, ◌≤◌, IfOk, length, List, ℕ, flat_map, IfErr, OnOk, None, []};
+ghost use Rattle.std.specs.Prelude.{◌≡◌, ◌<◌, ◌≤◌, IfOk, length, IfErr, OnOk, []};
 ghost use Rattle.pm_recipe.specs.Refusal.{IsRefusal, most_length};
-ghost use Rattle.pm_recipe.specs.Spans.{closings, missed, covers_of};
-ghost use Rattle.pm_recipe.specs.Build.{rc_of};
+ghost use Rattle.pm_recipe.specs.Rc.{IsRc};
+ghost use Rattle.pm_recipe.specs.Listed.{rc_of};
+ghost use Rattle.pm_recipe.specs.Opens.{Knows};
+ghost use Rattle.pm_recipe.specs.Reads.{items_of};
+ghost use Rattle.pm_recipe.specs.Spans.{closings, missed};
 ghost use Rattle.pm_recipe.specs.Builder.{built_of, whole, Suits};
 
 use crate::building::Builder;
-use crate::fronts::{Kind, Situation, front_at, newlines_in, situation_behind};
+use crate::fronts::{Kind, Situation, front_at, situation_behind};
+use crate::newlines::newlines_in;
+use crate::quotes::open_words;
 use crate::tree::{Rc, Statements};
 use pm_bytes::Memory;
 use std::alloc::Global;
@@ -33,7 +38,7 @@ impl From<Memory> for RcRefused {
 
 /// The statements of an rcfile (procmailrc(5)).
 pub fn read_rc(alloc: Global, bytes: &[u8]) -> Result<Rc, RcRefused>
-    ensures statements { IfOk result (λ rc. rc.statements ≡ rc_of bytes.now) }
+    ensures statements { IfOk result (λ rc. IsRc bytes.now rc.statements) }
     ensures fits { OnOk result (length bytes.now ≤ most_length) }
     ensures refused { IfErr result (λ refused. IsRefusal (length bytes.now) refused) }
 {
@@ -57,11 +62,13 @@ fn read_statements(alloc: Global, bytes: &[u8]) -> Result<Statements, Memory>
         outermost: 0,
         stopped: false,
     };
+    let mut known = Vec::new(alloc);
     let mut line = 1;
     let mut at = 0;
     while at < bytes.len() {
         let rest = &bytes[at..];
-        let front = front_at(&situation, rest);
+        let front = front_at(&known, &situation, rest);
+        learn(alloc, front.kind, bytes, &mut known)?;
         builder.take(
             front.kind,
             line,
@@ -75,15 +82,29 @@ fn read_statements(alloc: Global, bytes: &[u8]) -> Result<Statements, Memory>
     finish(builder, situation)
 }
 
-/// The spans of a text cover it, each byte once.
-pub fn spans_cover()
-    ensures { (bytes : List ℕ) → flat_map (λ cover. cover) (covers_of bytes) ≡ bytes }
-{}
+// The first text that isn't understood may have a quote that isn't closed: from then on it is known which words do.
+fn learn(alloc: Global, kind: Kind, text: &[u8], known: &mut Vec<bool>) -> Result<(), Memory>
+    requires { Knows known.old.items text.now }
+    ensures { IfOk result (λ _. Knows known.new.items text.now) }
+{
+    if is_skipped(kind) && known.is_empty() {
+        let found = open_words(alloc, text)?;
+        *known = found;
+    }
+    Ok(())
+}
+
+fn is_skipped(kind: Kind) -> bool {
+    match kind {
+        Kind::Skipped => true,
+        _ => false,
+    }
+}
 
 // The statements where the text ends.
 fn finish(builder: Builder, situation: Situation) -> Result<Statements, Memory>
     requires { Suits builder situation }
-    ensures { IfOk result (λ statements. statements ≡ whole (built_of builder) (closings situation)) }
+    ensures { IfOk result (λ statements. statements ≡ whole (built_of builder) (items_of (closings situation))) }
 {
     let mut builder = builder;
     let mut depth = situation.depth;
@@ -99,7 +120,7 @@ fn miss(builder: &mut Builder, situation: Situation) -> Result<(), Memory>
     requires { length builder.old.levels.items ≡ 0 }
     ensures levels { IfOk result (λ _. length builder.new.levels.items ≡ 0) }
     ensures whole { IfOk result (λ _. whole (built_of builder.new) []
-        ≡ whole (built_of builder.old) (missed situation)) }
+        ≡ whole (built_of builder.old) (items_of (missed situation))) }
 {
     if situation.depth > 0 && !situation.stopped {
         builder.take(Kind::Missing, situation.outermost, b"", b"")?;

@@ -7,3 +7,4 @@ pub mod ExprLemmas
 pub mod GroupLemmas
 pub mod ReaderLemmas
 pub mod ReadLemmas
+pub mod ReadOrNot

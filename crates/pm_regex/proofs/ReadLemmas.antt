@@ -29,7 +29,7 @@ pub record HasFirst (text : List ℕ) (ts : List Token) : Type 0 where
   pub first : First text token rest
   pub behind : IsTokens rest others
 
-has_first : (text : List ℕ) (ts : List Token) → 0 < length text → IsTokens text ts → HasFirst text ts
+pub has_first : (text : List ℕ) (ts : List Token) → 0 < length text → IsTokens text ts → HasFirst text ts
 has_first text ts some none = absurd (omega (arith, some))
 has_first text ts some (next _ rest t us f is) = record { token = t; rest = rest; others = us; are = refl; first = f; behind = is }
 

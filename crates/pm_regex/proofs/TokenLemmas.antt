@@ -41,7 +41,7 @@ negated_there : (u : List ℕ) (rs : List (ℕ × ℕ)) (rest : List ℕ) → be
 negated_there [] rs rest is b = cc
 negated_there (a ∷ u) rs rest is b = subst (λ z. First (91 ∷ z ∷ u) (bracket true rs) rest) (sym (eqb-true a 94 is)) (others u rest rs b)
 
-set_token : (text : List ℕ) (n : Bool) (rs : List (ℕ × ℕ)) (rest : List ℕ) → begins_with 91 text ≡ true → begins_with 94 (drop 1 text) ≡ n →
+pub set_token : (text : List ℕ) (n : Bool) (rs : List (ℕ × ℕ)) (rest : List ℕ) → begins_with 91 text ≡ true → begins_with 94 (drop 1 text) ≡ n →
     Body (behind n text) rs rest → First text (bracket n rs) rest
 set_token text true rs rest there is b =
     subst (λ z. First z (bracket true rs) rest) (sym (bracket_begins text there))
@@ -118,7 +118,7 @@ abbrev front : List ℕ → Option (Token × List ℕ)
 front [] = None
 front (b ∷ u) = front_of b u (sign_of b)
 
-sign_front : (text : List ℕ) (t : Token) (rest : List ℕ) → First text t rest → begins_with 91 text ≡ false → front text ≡ Some (t, rest)
+pub sign_front : (text : List ℕ) (t : Token) (rest : List ℕ) → First text t rest → begins_with 91 text ≡ false → front text ≡ Some (t, rest)
 sign_front text t rest (plain b s _ is) other = ap (front_of b rest) is
 sign_front text t rest (escape b _) other = refl
 sign_front text t rest (edge _) other = refl

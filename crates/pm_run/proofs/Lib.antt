@@ -1,4 +1,5 @@
 pub mod AssignLemmas
 pub mod EnvironmentLemmas
+pub mod JudgeLemmas
 pub mod ProcessLemmas
 mod GlobalLemmas

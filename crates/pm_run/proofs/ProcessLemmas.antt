@@ -8,7 +8,7 @@ use Rattle.pm_message.specs.declared.head.Message.{Message}
 use Rattle.pm_recipe.specs.Tree.{Trees}
 use Rattle.pm_recipe.specs.View.{tree_of, trees_of}
 use Rattle.pm_recipe.specs.declared.tree.Statement.{Statement}
-use Rattle.pm_recipe.specs.Build.{rc_of}
+use Rattle.pm_recipe.specs.Listed.{rc_of}
 use Rattle.pm_append.specs.ReadsFile.{content_of}
 use Rattle.pm_journal.specs.JournalState.{JournalState}
 use Rattle.pm_journal.specs.Entries.{View}

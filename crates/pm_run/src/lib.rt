@@ -7,6 +7,7 @@ mod assigning;
 mod falling_off;
 mod first_values;
 mod global_lock;
+mod judging;
 mod process;
 mod statements;
 

@@ -4,7 +4,7 @@ ghost use Rattle.pm_journal.specs.Executed.{Carries};
 ghost use Rattle.pm_journal.specs.Held.{Keeping};
 ghost use Rattle.pm_journal.specs.Walking.{Go, Completes, Abandoned};
 ghost use Rattle.pm_message.specs.FromLine.{makes_line, prepared_of};
-ghost use Rattle.pm_recipe.specs.Build.{rc_of};
+ghost use Rattle.pm_recipe.specs.Listed.{rc_of};
 ghost use Rattle.pm_meaning.specs.Changes.{entered};
 ghost use Rattle.pm_meaning.specs.Minds.{mind_of};
 ghost use Rattle.pm_meaning.specs.Running.{Arrived, Running, Over, Closing, ahead, step, renewal as renewal_of};
@@ -22,7 +22,7 @@ use pm_bytes::{Blob, Environ, Memory, Name};
 use pm_journal::{HeldLocks, Journal, couldnt_read};
 use pm_meaning::{CommandLine, End, Ending, Process};
 use pm_message::{Message, Renew, needs_line, prepare, split};
-use pm_recipe::{Rc, RcRefused, Statements, read_rc};
+use pm_recipe::{Rc, RcRefused, Statements, one_rc, read_rc};
 use std::alloc::Global;
 
 // What came of opening an rcfile.
@@ -192,6 +192,7 @@ fn read_statements(alloc: Global, rc: &[u8]) -> Result<Statements, Memory>
     requires { length rc.now ≤ 1048576 }
     ensures { IfOk result (λ statements. statements ≡ rc_of rc.now) }
 {
+    one_rc();
     match read_rc(alloc, rc) {
         Ok(rc) => {
             let Rc { statements } = rc;

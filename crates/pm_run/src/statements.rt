@@ -11,7 +11,7 @@ ghost use Rattle.pm_run.specs.Ends.{stands_at};
 ghost use Rattle.pm_run.specs.Stretches.{Walks};
 
 use crate::assigning::{assign_text, unset_variable};
-use pm_actions::perform;
+use crate::judging::run_recipe;
 use pm_acts::{Outside, say};
 use pm_bytes::Memory;
 use pm_journal::{Journal, skipped};
@@ -66,7 +66,7 @@ fn run_statement<D: Outside>(
         Statement::Unset { name } => {
             unset_variable(alloc, name.as_slice(), process, outside, journal)
         }
-        Statement::Recipe(recipe) => perform(alloc, recipe, process, outside, journal),
+        Statement::Recipe(recipe) => run_recipe(alloc, recipe, process, outside, journal),
         Statement::Defect { text, .. } => {
             skip_line(alloc, text.as_slice(), process, outside, journal)
         }

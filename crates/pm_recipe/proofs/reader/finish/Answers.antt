@@ -1,7 +1,7 @@
 use Rattle.std.proofs.Common.{◌-◌, ◌++◌, refl, ap, ◌∙◌, arith, is_some, false, List}
 use Rattle.pm_recipe.specs.declared.fronts.Situation.{Situation}
-use Rattle.pm_recipe.specs.Builder.{whole}
-use Rattle.pm_recipe.specs.Builder.{built_of}
+use Rattle.pm_recipe.specs.Builder.{whole, built_of}
+use Rattle.pm_recipe.specs.Reads.{items_of}
 use Rattle.pm_recipe.specs.Spans.{Span, ends, missed}
 use Rattle.pm_recipe.proofs.Cut.{ends-more}
 use Rattle.pm_recipe.proofs.reader.finish.Goals as goal
@@ -13,7 +13,7 @@ loop-depth-preserved c =
     let line = c.args.situation.outermost in
     record {
       levels = (c.in_ok-take.ensures.suits here (record { begun = refl; levels = c.loop-depth.invariant.levels })).levels;
-      goes_on = c.in_ok-take.ensures.whole (ends (c.loop-depth.depth - 1) line ++ after)
-          ∙ ap (whole (built_of c.loop-depth.builder)) (ends-more c.loop-depth.depth line after (omega arith))
+      goes_on = c.in_ok-take.ensures.whole (items_of (ends (c.loop-depth.depth - 1) line ++ after))
+          ∙ ap (λ ss. whole (built_of c.loop-depth.builder) (items_of ss)) (ends-more c.loop-depth.depth line after (omega arith))
           ∙ c.loop-depth.invariant.goes_on;
     }

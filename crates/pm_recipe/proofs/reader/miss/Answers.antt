@@ -1,7 +1,7 @@
 use Rattle.std.proofs.Common.{[], refl, ap, sym, ◌∙◌, is_some, false}
 use Rattle.pm_recipe.specs.declared.fronts.Situation.{Situation}
-use Rattle.pm_recipe.specs.Builder.{whole}
-use Rattle.pm_recipe.specs.Builder.{built_of}
+use Rattle.pm_recipe.specs.Builder.{whole, built_of}
+use Rattle.pm_recipe.specs.Reads.{items_of}
 use Rattle.pm_recipe.proofs.Cut.{missed-some, turned-false}
 use Rattle.pm_recipe.proofs.reader.miss.Goals as goal
 
@@ -12,4 +12,4 @@ returns-in_ok-take-clause-levels c =
 
 pub returns-in_ok-take-clause-whole : goal.returns-in_ok-take-clause-whole
 returns-in_ok-take-clause-whole c =
-    c.in_ok-take.ensures.whole [] ∙ ap (whole (built_of c.args.builder.now)) (sym (missed-some c.args.situation c.if-situation-gt0.true (turned-false c.args.situation.stopped c.if-not-situation.true)))
+    c.in_ok-take.ensures.whole [] ∙ ap (λ ss. whole (built_of c.args.builder.now) (items_of ss)) (sym (missed-some c.args.situation c.if-situation-gt0.true (turned-false c.args.situation.stopped c.if-not-situation.true)))

@@ -1,0 +1,189 @@
+//! What formail writes of one mail.
+ghost use Rattle.std.specs.Prelude.{◌≡◌, ◌≤◌, ◌+◌, ◌++◌, length, IfOk, option_copied};
+ghost use Rattle.std.specs.List.{flat_map, concat, prefix_len, suffix_len};
+ghost use Rattle.bstr.specs.Text.{lines_of};
+ghost use Rattle.pm_bytes.specs.Letter.{is_space_byte};
+ghost use Rattle.pm_message.specs.Piece.{ended};
+ghost use Rattle.formail_edit.specs.Keyed.{keyed, keyed_as};
+ghost use Rattle.formail_edit.specs.Output.{prefixed_line, body_for, trimmed, content_for, extraction, taken_from, taken, front_of, mail_of, edited};
+
+use crate::application::edit_fields;
+use crate::meaning::is_meant;
+use crate::{Edits, Take};
+use bstr::ByteSlice;
+use pm_bytes::{Blob, Memory, is_space};
+use pm_message::{Message, field_texts, read_key};
+use std::alloc::Global;
+
+// The text with the lines behind it, each that would begin a mail in a mailbox with the prefix.
+fn with_prefixed(mut text: Blob, prefix: &[u8], body: &[u8]) -> Result<Blob, Memory>
+    ensures { IfOk result (λ whole. whole ≡ text ++ flat_map (prefixed_line prefix.now) (lines_of body.now)) }
+{
+    for line in body.lines_with_terminator() {
+        if line.starts_with(b"From ") {
+            text.push_slice(prefix)?;
+        }
+        text.push_slice(line)?;
+    }
+    Ok(text)
+}
+
+/// The text with the body behind it, its lines `From ` as the edits ask.
+pub fn with_body(mut text: Blob, body: &[u8], edits: &Edits) -> Result<Blob, Memory>
+    ensures { IfOk result (λ whole. whole ≡ text ++ body_for edits.now body.now) }
+{
+    if edits.keep_body {
+        text.push_slice(body)?;
+        return Ok(text);
+    }
+    with_prefixed(text, edits.prefix.as_slice(), body)
+}
+
+// Ends the last line, and puts an empty line behind it.
+fn end(mut text: Blob) -> Result<Blob, Memory>
+    ensures { IfOk result (λ whole. whole ≡ ended text) }
+{
+    if !text.as_slice().ends_with(b"\n") {
+        text.push_slice(b"\n")?;
+    }
+    if !text.as_slice().ends_with(b"\n\n") {
+        text.push_slice(b"\n")?;
+    }
+    Ok(text)
+}
+
+fn with_fields(mut text: Blob, fields: &[Blob]) -> Result<Blob, Memory>
+    ensures { IfOk result (λ whole. whole ≡ text ++ concat fields.now) }
+{
+    for field in fields {
+        text.push_slice(field.as_slice())?;
+    }
+    Ok(text)
+}
+
+fn mail(
+    alloc: Global,
+    fields: &[Blob],
+    body: &[u8],
+    edits: &Edits,
+    from: Option<&[u8]>,
+) -> Result<Blob, Memory>
+    ensures { IfOk result (λ mail. mail ≡ mail_of edits.now fields.now body.now (option_copied from.entry)) }
+{
+    let mut text = Blob::from_slice(alloc, from.unwrap_or(b""))?;
+    text = with_fields(text, fields)?;
+    text.push_slice(b"\n")?;
+    text = with_body(text, body, edits)?;
+    if edits.keep_from {
+        return Ok(text);
+    }
+    end(text)
+}
+
+// How many bytes the margin at the front has.
+fn front_margin(text: &[u8]) -> usize
+    ensures margin { result ≡ prefix_len is_space_byte text.now }
+    ensures within { result ≤ length text.now }
+{
+    text.iter().take_while(|byte| is_space(**byte)).count()
+}
+
+// Where the margin at the end begins.
+fn text_end(text: &[u8]) -> usize
+    ensures { result + suffix_len is_space_byte text.now ≡ length text.now }
+{
+    let mut end = text.len();
+    while end > 0 && is_space(text[end - 1]) {
+        end -= 1;
+    }
+    end
+}
+
+// The text without its margins.
+fn trim(text: &[u8]) -> &[u8]
+    ensures { result.now ≡ trimmed text.now }
+{
+    let (_, rest) = text.split_at(front_margin(text));
+    let (inner, _) = rest.split_at(text_end(rest));
+    inner
+}
+
+// The text with a field's content behind it.
+fn with_content(mut text: Blob, content: &[u8], zap: bool) -> Result<Blob, Memory>
+    ensures { IfOk result (λ whole. whole ≡ text ++ content_for zap content.now) }
+{
+    if !zap {
+        text.push_slice(content)?;
+        return Ok(text);
+    }
+    text.push_slice(trim(content))?;
+    text.push_slice(b"\n")?;
+    Ok(text)
+}
+
+// The text with what one `-x` or `-X` gives of the field behind it.
+fn with_one(
+    mut text: Blob,
+    field: &[u8],
+    first: bool,
+    wanted: &Take,
+    zap: bool,
+) -> Result<Blob, Memory>
+    ensures { IfOk result (λ whole. whole ≡ text ++ extraction zap (keyed_as first field.now) wanted.now) }
+{
+    if !is_meant(field, first, wanted.name.as_slice()) {
+        return Ok(text);
+    }
+    if wanted.whole {
+        text.push_slice(field)?;
+        return Ok(text);
+    }
+    let (_, content) = field.split_at(read_key(field, first).length);
+    with_content(text, content, zap)
+}
+
+// The text with what the field gives behind it.
+fn with_taken(text: Blob, field: &[u8], first: bool, edits: &Edits) -> Result<Blob, Memory>
+    ensures { IfOk result (λ whole. whole ≡ text ++ taken_from edits.now (keyed_as first field.now)) }
+{
+    let mut text = text;
+    for wanted in edits.takes.as_slice() {
+        text = with_one(text, field, first, wanted, edits.zap)?;
+    }
+    Ok(text)
+}
+
+// What is taken of all fields, with the body where it is wanted too.
+fn take_all(alloc: Global, fields: &[Blob], body: &[u8], edits: &Edits) -> Result<Blob, Memory>
+    ensures { IfOk result (λ whole. whole ≡ taken edits.now fields.now body.now) }
+{
+    let mut text = Blob::empty(alloc);
+    for (place, field) in fields.iter().enumerate() {
+        text = with_taken(text, field.as_slice(), place == 0, edits)?;
+    }
+    if edits.with_body {
+        text.push_slice(b"\n")?;
+        text = with_body(text, body, edits)?;
+    }
+    Ok(text)
+}
+
+/// What formail writes of a mail. `from` is the line to put in front, where there is one; `Memory`
+/// is the only error.
+pub fn edit(
+    alloc: Global,
+    message: &Message,
+    edits: &Edits,
+    from: Option<&[u8]>,
+) -> Result<Blob, Memory>
+    ensures { IfOk result (λ text. text ≡ edited message.now edits.now (option_copied from.entry)) }
+{
+    let texts = field_texts(alloc, message)?;
+    let fields = edit_fields(alloc, texts, edits)?;
+    let body = message.body.as_slice();
+    if edits.takes.as_slice().is_empty() {
+        mail(alloc, fields.as_slice(), body, edits, from)
+    } else {
+        take_all(alloc, fields.as_slice(), body, edits)
+    }
+}

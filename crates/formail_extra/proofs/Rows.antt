@@ -1,0 +1,38 @@
+-- Worked examples, computed.
+use Rattle.std.proofs.Common.{◌≡◌, ℕ, List, [], ◌∷◌, Bool, true, false, Option, Some, None, codes, refl}
+use Rattle.pm_message.specs.Split.{split_of}
+use Rattle.formail_edit.specs.declared.edits.Edits.{Edits}
+use Rattle.formail_edit.specs.declared.edits.Put.{Put}
+use Rattle.formail_edit.specs.declared.edits.PutKind.TheVariants.{Old, Replace, IfNone, Always}
+use Rattle.formail_extra.specs.Seen.{identifier_of}
+use Rattle.formail_extra.specs.Reply.{reply_of, envelope_of}
+
+abbrev plain : Edits
+plain = record { renames = []; puts = []; uniques = []; takes = []; prefix = codes ">"; keep_from = false; keep_body = false; zap = false; join = false; with_body = false }
+
+abbrev mail : List ℕ
+mail = codes "From a@b Thu Jan  1 00:00:00 1970\nFrom: Joe <joe@x>\nReply-To: j@y\nSubject: hi\nMessage-ID: <1@x>\nReferences: <0@x>\n\nbody\n"
+
+to_the_envelope : reply_of (split_of mail) false plain ≡ codes "To: a@b\nSubject: Re: hi\nReferences: <0@x> <1@x>\nIn-Reply-To: <1@x>\n\n"
+to_the_envelope = refl
+
+to_the_header : reply_of (split_of mail) true (record plain { with_body = true }) ≡ codes "To: j@y\nSubject: Re: hi\nReferences: <0@x> <1@x>\nIn-Reply-To: <1@x>\n\nbody\n"
+to_the_header = refl
+
+kept_and_added : reply_of (split_of mail) false (record plain { puts = record { kind = Old; text = codes "From:" } ∷ record { kind = Always; text = codes "X-Loop: me" } ∷ [] }) ≡ codes "To: a@b\nSubject: Re: hi\nReferences: <0@x> <1@x>\nIn-Reply-To: <1@x>\nFrom: Joe <joe@x>\nX-Loop: me\n\n"
+kept_and_added = refl
+
+answers_already : reply_of (split_of (codes "Subject: RE: x\n\n")) false plain ≡ codes "To: unknown\nSubject: RE: x\n\n"
+answers_already = refl
+
+of_an_empty_mail : reply_of (split_of []) false plain ≡ codes "To: unknown\n\n"
+of_an_empty_mail = refl
+
+envelope_sender : envelope_of (split_of mail) ≡ Some (codes "a@b")
+envelope_sender = refl
+
+long_identifier : identifier_of (split_of (codes "Message-Id:  <b@x>\n (old)\n\nhi\n")) ≡ Some (codes "<b@x> (old)")
+long_identifier = refl
+
+no_identifier : identifier_of (split_of (codes "A: b\n\nhi\n")) ≡ None
+no_identifier = refl

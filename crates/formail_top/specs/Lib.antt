@@ -1,0 +1,4 @@
+pub mod Asked
+pub mod Outputs
+pub mod Run
+pub mod Words

@@ -1,0 +1,12 @@
+//! The program formail: its words, what it reads, what it writes, and its status.
+#![tactic(auto)]
+
+mod filtering;
+mod outputs;
+mod request;
+mod settings;
+mod words;
+
+pub use filtering::formail;
+pub use request::Request;
+pub use settings::{Setting, Waits};

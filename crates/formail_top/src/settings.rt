@@ -1,0 +1,53 @@
+//! What the words ask for, one by one.
+use formail_edit::{Put, Rename, Take, Unique};
+use pm_bytes::Blob;
+
+/// What one letter, or a number, asks for.
+#[derive(Drop)]
+pub enum Setting {
+    /// `-c`
+    Join,
+    /// `-z`
+    Zap,
+    /// `-f`
+    KeepFrom,
+    /// `-b`
+    KeepBody,
+    /// `-k`
+    WithBody,
+    /// `-p`
+    Prefix(Blob),
+    /// `-x` and `-X`
+    Take(Take),
+    /// `-i`, `-I`, `-a` and `-A`
+    Put(Put),
+    /// `-u` and `-U`
+    Unique(Unique),
+    /// `-R`
+    Rename(Rename),
+    /// `-r`
+    Reply,
+    /// `-t`
+    Trust,
+    /// `+N`
+    Skip(u64),
+    /// `-N`
+    Total(u64),
+    /// `-s`
+    Split,
+}
+
+/// What the next word is.
+#[derive(Drop)]
+pub enum Waits {
+    /// A word of letters, or a number.
+    Ready,
+    /// What this letter takes.
+    ForText(u8),
+    /// What this letter takes behind a first text.
+    ForMore(u8, Blob),
+    /// A program's: all words behind `-s`.
+    Program,
+    /// Nothing: some word isn't read.
+    Unread,
+}

@@ -1,0 +1,125 @@
+//! What stands before the test of a condition: `!`, and names with `??`.
+ghost use Rattle.std.specs.Prelude.{◌≡◌, ◌<◌, ◌≤◌, IfOk, IfSome, length, position, Some, None};
+ghost use Rattle.std.specs.List.{position_or_len};
+ghost use Rattle.pm_conds.specs.Leads.{is_no_blank, behind_blanks, ends_name, begins_name as name_begins};
+ghost use Rattle.pm_conds.specs.Leads.{name_length as length_of_name, is_named, behind_name, scope_of as scope_named};
+ghost use Rattle.pm_conds.specs.Leads.{Asking, next_asking, asked, asking_of};
+
+use crate::question::{Question, Scope};
+use pm_bytes::{Blob, Memory, begins_name, continues_name, is_blank};
+use pm_message::Part;
+use std::alloc::Global;
+
+/// The place of the first byte that is no blank.
+fn blanks_end(text: &[u8]) -> Option<usize>
+    ensures { result ≡ position is_no_blank text.now }
+{
+    text.iter().position(|byte| !is_blank(*byte))
+}
+
+/// The text without the blanks at its front.
+pub fn past_blanks(text: &[u8]) -> &[u8]
+    ensures value { result.now ≡ behind_blanks text.now }
+    ensures shorter { length result.now ≤ length text.now }
+{
+    &text[blanks_end(text).unwrap_or(text.len())..]
+}
+
+/// The place of the first byte that is in no name.
+fn name_end(text: &[u8]) -> Option<usize>
+    ensures { result ≡ position ends_name text.now }
+{
+    text.iter().position(|byte| !continues_name(*byte))
+}
+
+/// How many bytes stand before it.
+fn name_stop(text: &[u8]) -> usize
+    ensures value { result ≡ position_or_len ends_name text.now }
+    ensures within { result ≤ length text.now }
+{
+    name_end(text).unwrap_or(text.len())
+}
+
+/// Whether a name can begin here.
+fn has_name(text: &[u8]) -> bool
+    ensures { result ≡ name_begins text.now }
+{
+    match text.first() {
+        None => false,
+        Some(byte) => begins_name(*byte),
+    }
+}
+
+/// How long the name at the front is.
+fn name_length(text: &[u8]) -> usize
+    ensures value { result ≡ length_of_name text.now }
+    ensures within { result ≤ length text.now }
+{
+    if has_name(text) { name_stop(text) } else { 0 }
+}
+
+/// What stands behind the name at the front and blanks.
+fn past_name(text: &[u8]) -> &[u8]
+    ensures value { result.now ≡ behind_name text.now }
+    ensures shorter { length result.now ≤ length text.now }
+{
+    past_blanks(&text[name_length(text)..])
+}
+
+/// Where a condition looks that names this.
+fn scope_of(alloc: Global, name: &[u8]) -> Result<Scope, Memory>
+    ensures { IfOk result (λ scope. scope ≡ scope_named name.now) }
+{
+    if name == b"H".as_slice() {
+        return Ok(Scope::Mail(Part::Head));
+    }
+    if name == b"B".as_slice() {
+        return Ok(Scope::Mail(Part::Body));
+    }
+    if name == b"HB".as_slice() || name == b"BH".as_slice() {
+        return Ok(Scope::Mail(Part::Both));
+    }
+    Ok(Scope::Variable(Blob::from_slice(alloc, name)?))
+}
+
+/// Reads one `!` or one name with `??`, if it stands at the front, and answers what follows.
+fn pass<'a>(
+    alloc: Global,
+    text: &'a [u8],
+    question: &mut Question,
+) -> Result<Option<&'a [u8]>, Memory>
+    ensures some { IfOk result (λ more. IfSome more (λ rest.
+        next_asking (asking_of text.now question.old) ≡ Some (asking_of rest.now question.new))) }
+    ensures shorter { IfOk result (λ more. IfSome more (λ rest. length rest.now < length text.now)) }
+    ensures none { IfOk result (λ more. more ≡ None → next_asking (asking_of text.now question.old) ≡ None) }
+    ensures same { IfOk result (λ more. more ≡ None → question.new ≡ question.old) }
+{
+    if text.starts_with(b"!") {
+        question.inverted = !question.inverted;
+        return Ok(Some(past_blanks(&text[1..])));
+    }
+    if !has_name(text) {
+        return Ok(None);
+    }
+    let rest = past_name(text);
+    if !rest.starts_with(b"??") {
+        return Ok(None);
+    }
+    question.scope = scope_of(alloc, &text[..name_length(text)])?;
+    Ok(Some(past_blanks(&rest[2..])))
+}
+
+/// Reads all that stands before the test, and answers the test.
+pub fn read_lead<'a>(
+    alloc: Global,
+    text: &'a [u8],
+    question: &mut Question,
+) -> Result<&'a [u8], Memory>
+    ensures { IfOk result (λ rest. asked (asking_of text.now question.old) ≡ asking_of rest.now question.new) }
+{
+    let mut rest = text;
+    while let Some(more) = pass(alloc, rest, question)? {
+        rest = more;
+    }
+    Ok(rest)
+}

@@ -1,0 +1,215 @@
+//! Conditions that search for an expression.
+ghost use Rattle.std.specs.Prelude.{◌≡◌, ◌≤◌, not, IfOk, IfSome, length};
+ghost use Rattle.pm_message.specs.Area.{area_of};
+ghost use Rattle.pm_match.proofs.FoundOrNot.{found_of};
+ghost use Rattle.pm_conds.specs.Searching.{Sight, sight_of, part_of, area_in, match_text, found_outcome as outcome};
+ghost use Rattle.pm_conds.specs.Searching.{search_outcome, behind_newline, before_newline};
+ghost use Rattle.pm_conds.specs.Searching.{value_or_empty, expression_of, IsWithin};
+ghost use Rattle.pm_conds.specs.Judging.{compared_length};
+ghost use Rattle.pm_vars.specs.Variables.{value_of};
+
+use crate::question::{Outcome, Question, Scope};
+use crate::sizes::outcome_if;
+use pm_bytes::{Blob, Memory};
+use pm_match::{Engine, Found};
+use pm_message::{Message, Part, area};
+use pm_recipe::Flags;
+use pm_regex::{Expr, ReadRefused, read};
+use pm_vars::Vars;
+use std::alloc::Global;
+
+/// The part that the flags H and B ask for.
+fn searched_part(flags: Flags) -> Part
+    ensures { result ≡ part_of flags }
+{
+    if !flags.search_body {
+        Part::Head
+    } else if flags.search_head {
+        Part::Both
+    } else {
+        Part::Body
+    }
+}
+
+/// The value of a variable, empty where it isn't set.
+fn value_in<'a>(vars: &'a Vars, name: &[u8]) -> &'a [u8]
+    ensures { result.now ≡ value_or_empty (value_of name.now vars.now.variables) }
+{
+    match vars.get(name) {
+        None => b"",
+        Some(value) => value.as_slice(),
+    }
+}
+
+/// The text without a newline at its front.
+fn past_newline(text: &[u8]) -> &[u8]
+    ensures { result.now ≡ behind_newline text.now }
+{
+    if text.starts_with(b"\n") {
+        &text[1..]
+    } else {
+        text
+    }
+}
+
+/// The text without a newline at its end.
+fn to_newline(text: &[u8]) -> &[u8]
+    ensures { result.now ≡ before_newline text.now }
+{
+    if text.ends_with(b"\n") {
+        &text[..text.len() - 1]
+    } else {
+        text
+    }
+}
+
+/// What MATCH gets of these places.
+fn matched(alloc: Global, area: &[u8], start: usize, end: usize) -> Result<Blob, Memory>
+    requires start { start ≤ end }
+    requires end { end ≤ length area.now }
+    ensures { IfOk result (λ text. text ≡ match_text area.now start end) }
+{
+    Blob::from_slice(alloc, to_newline(past_newline(&area[start..end])))
+}
+
+/// The first match of the expression in the area.
+fn find(alloc: Global, expr: &Expr, fold: bool, area: &[u8]) -> Result<Option<Found>, Memory>
+    ensures found { IfOk result (λ found. found ≡ (found_of fold expr.now area.now).0) }
+    ensures within { IfOk result (λ found. IfSome found (IsWithin area.now)) }
+{
+    let mut engine = Engine::build(alloc, expr, fold)?;
+    Ok(engine.find(area))
+}
+
+/// What comes of what was found.
+fn found_outcome(
+    alloc: Global,
+    inverted: bool,
+    area: &[u8],
+    found: Option<Found>,
+) -> Result<Outcome, Memory>
+    requires { IfSome found (IsWithin area.now) }
+    ensures { IfOk result (λ come. come ≡ outcome inverted area.now found) }
+{
+    match found {
+        None => Ok(outcome_if(inverted)),
+        Some(found) => {
+            if inverted {
+                return Ok(Outcome::Fails);
+            }
+            match found.cut {
+                None => Ok(Outcome::Holds),
+                Some(cut) => Ok(Outcome::Matched(matched(alloc, area, cut, found.end)?)),
+            }
+        }
+    }
+}
+
+/// Searches the area for the expression that the text is.
+fn search_area(
+    alloc: Global,
+    inverted: bool,
+    distinguish: bool,
+    text: &[u8],
+    area: &[u8],
+) -> Result<Outcome, Memory>
+    ensures { IfOk result (λ come.
+        come ≡ search_outcome inverted distinguish area.now (expression_of text.now)) }
+{
+    match read(alloc, text) {
+        Err(ReadRefused::Defect) => Ok(Outcome::Defective),
+        Err(ReadRefused::Memory) => Err(Memory),
+        Ok(expr) => {
+            let found = find(alloc, &expr, !distinguish, area)?;
+            found_outcome(alloc, inverted, area, found)
+        }
+    }
+}
+
+/// Searches a part of the mail. The body is searched where it stands.
+fn search_part(
+    alloc: Global,
+    inverted: bool,
+    distinguish: bool,
+    text: &[u8],
+    message: &Message,
+    part: Part,
+) -> Result<Outcome, Memory>
+    ensures { IfOk result (λ come.
+        come ≡ search_outcome inverted distinguish (area_of message.now part) (expression_of text.now)) }
+{
+    match part {
+        Part::Body => search_area(alloc, inverted, distinguish, text, message.body.as_slice()),
+        Part::Head | Part::Both => {
+            let area = area(alloc, message, part)?;
+            search_area(alloc, inverted, distinguish, text, area.as_slice())
+        }
+    }
+}
+
+/// Searches what the question says for the expression that the text is.
+pub fn search(
+    alloc: Global,
+    text: &[u8],
+    question: &Question,
+    flags: Flags,
+    message: &Message,
+    vars: &Vars,
+) -> Result<Outcome, Memory>
+    ensures { IfOk result (λ come. come ≡ search_outcome question.now.inverted flags.distinguish
+        (area_in question.now.scope (sight_of flags message.now vars.now)) (expression_of text.now)) }
+{
+    let inverted = question.inverted;
+    let distinguish = flags.distinguish;
+    match &question.scope {
+        Scope::Flags => search_part(
+            alloc,
+            inverted,
+            distinguish,
+            text,
+            message,
+            searched_part(flags),
+        ),
+        Scope::Mail(part) => search_part(alloc, inverted, distinguish, text, message, *part),
+        Scope::Variable(name) => search_area(
+            alloc,
+            inverted,
+            distinguish,
+            text,
+            value_in(vars, name.as_slice()),
+        ),
+    }
+}
+
+/// How many bytes a part of the mail has, as it is searched.
+fn part_length(alloc: Global, message: &Message, part: Part) -> Result<u64, Memory>
+    ensures { IfOk result (λ size. size ≡ length (area_of message.now part)) }
+{
+    match part {
+        Part::Body => Ok(message.body.len() as u64),
+        Part::Head | Part::Both => {
+            let area = area(alloc, message, part)?;
+            Ok(area.len() as u64)
+        }
+    }
+}
+
+/// The length that `<` and `>` compare.
+pub fn length_of(
+    alloc: Global,
+    scope: &Scope,
+    flags: Flags,
+    message: &Message,
+    vars: &Vars,
+) -> Result<u64, Memory>
+    ensures { IfOk result (λ size. size ≡ compared_length scope.now (sight_of flags message.now vars.now)) }
+{
+    match scope {
+        Scope::Flags => {
+            let _ = flags;
+            Ok(message.head.as_slice().len() as u64 + message.body.as_slice().len() as u64)
+        }
+        Scope::Mail(part) => part_length(alloc, message, *part),
+        Scope::Variable(name) => Ok(value_in(vars, name.as_slice()).len() as u64),
+    }
+}

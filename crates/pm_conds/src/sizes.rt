@@ -1,0 +1,68 @@
+//! Conditions on sizes: `<` and `>` (procmailrc(5), "Conditions").
+ghost use Rattle.std.specs.Prelude.{◌≡◌, length, position};
+ghost use Rattle.std.specs.List.{list_all};
+ghost use Rattle.pm_bytes.specs.Letter.{is_blank_byte};
+ghost use Rattle.pm_conds.specs.Judging.{word_length as length_of_word, word_number as number_of_word};
+ghost use Rattle.pm_conds.specs.Judging.{number_between, inverted_if, size_outcome as outcome};
+ghost use Rattle.pm_conds.specs.Searching.{holds_if};
+
+use crate::leads::past_blanks;
+use crate::question::Outcome;
+use pm_bytes::{is_blank, read_count};
+
+/// The place of the first blank.
+fn word_end(text: &[u8]) -> Option<usize>
+    ensures { result ≡ position is_blank_byte text.now }
+{
+    text.iter().position(|byte| is_blank(*byte))
+}
+
+/// Whether there is nothing but blanks.
+fn is_all_blank(text: &[u8]) -> bool
+    ensures { result ≡ list_all is_blank_byte text.now }
+{
+    text.iter().all(|byte| is_blank(*byte))
+}
+
+/// The number that a word writes, where nothing but blanks stands behind it.
+fn word_number(text: &[u8]) -> Option<u64>
+    ensures { result ≡ number_of_word text.now }
+{
+    let end = word_end(text).unwrap_or(text.len());
+    if is_all_blank(&text[end..]) {
+        read_count(&text[..end])
+    } else {
+        None
+    }
+}
+
+/// The number between blanks.
+pub fn number_in(text: &[u8]) -> Option<u64>
+    ensures { result ≡ number_between text.now }
+{
+    word_number(past_blanks(text))
+}
+
+/// A condition that holds, or doesn't.
+pub fn outcome_if(holds: bool) -> Outcome
+    ensures { result ≡ holds_if holds }
+{
+    if holds {
+        Outcome::Holds
+    } else {
+        Outcome::Fails
+    }
+}
+
+/// A condition on a size: that it is above the number, or below it.
+pub fn size_outcome(inverted: bool, above: bool, size: u64, number: Option<u64>) -> Outcome
+    ensures { result ≡ outcome inverted above size number }
+{
+    match number {
+        None => Outcome::Defective,
+        Some(number) => {
+            let test = if above { number < size } else { size < number };
+            outcome_if(test != inverted)
+        }
+    }
+}

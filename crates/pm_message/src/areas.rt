@@ -1,0 +1,96 @@
+//! What of a mail conditions search (procmailrc(5), "Recipe flags").
+ghost use Rattle.std.specs.Prelude.{◌≡◌, ◌++◌, ◌∷◌, ◌<◌, IfOk, IfSome, codes, false, length};
+ghost use Rattle.std.specs.List.{list_any};
+ghost use Rattle.pm_bytes.specs.Alphabet.{NEWLINE as LF};
+ghost use Rattle.pm_message.specs.Area.{area_of, ends_empty, head_area, unfolded};
+ghost use Rattle.pm_message.specs.Area.{without_empty_line as without_last};
+ghost use Rattle.pm_message.specs.FromLine.{is_newline};
+
+use crate::Message;
+use memchr::memchr;
+use pm_bytes::{Blob, Memory, is_blank};
+use std::alloc::Global;
+
+/// Which parts of the mail are searched.
+#[derive(Clone, Copy)]
+pub enum Part {
+    Head,
+    Body,
+    Both,
+}
+
+/// The bytes before the first newline, and those behind it.
+fn cut_at_newline(bytes: &[u8]) -> Option<(&[u8], &[u8])>
+    ensures cut { IfSome result (λ cut. (bytes.now ≡ cut.0.now ++ LF ∷ cut.1.now)
+        × (list_any is_newline cut.0.now ≡ false)) }
+    ensures none { result ≡ None → list_any is_newline bytes.now ≡ false }
+{
+    let Some(place) = memchr(b'\n', bytes) else {
+        return None;
+    };
+    Some((&bytes[..place], &bytes[place + 1..]))
+}
+
+/// What goes on behind a newline and the blank there; None where no blank stands there.
+fn past_blank(behind: &[u8]) -> Option<&[u8]>
+    ensures folds { IfSome result (λ more. unfolded (LF ∷ behind.now) ≡ codes " " ++ unfolded more.now) }
+    ensures shorter { IfSome result (λ more. length more.now < length behind.now) }
+    ensures breaks { result ≡ None → unfolded (LF ∷ behind.now) ≡ codes "\n" ++ unfolded behind.now }
+{
+    match behind.split_first() {
+        None => None,
+        Some((first, more)) => { if is_blank(*first) { Some(more) } else { None } }
+    }
+}
+
+/// Each newline with the blank behind it as one space.
+#[tactic(auto, using(crate::proofs::FoldLemmas::folded_on, crate::proofs::FoldLemmas::folded_end))]
+fn unfold(alloc: Global, bytes: &[u8]) -> Result<Blob, Memory>
+    ensures { IfOk result (λ text. text ≡ unfolded bytes.now) }
+{
+    let mut text = Blob::empty(alloc);
+    let mut rest = bytes;
+    while let Some((line, behind)) = cut_at_newline(rest) {
+        text.push_slice(line)?;
+        match past_blank(behind) {
+            Some(more) => {
+                text.push_slice(b" ")?;
+                rest = more;
+            }
+            None => {
+                text.push_slice(b"\n")?;
+                rest = behind;
+            }
+        }
+    }
+    text.push_slice(rest)?;
+    Ok(text)
+}
+
+/// The head without the newline of the empty line that ends it.
+fn without_empty_line(head: &[u8]) -> &[u8]
+    ensures { result.now ≡ without_last head.now }
+{
+    if head == b"\n".as_slice() || head.ends_with(b"\n\n") {
+        &head[..head.len() - 1]
+    } else {
+        head
+    }
+}
+
+/// The area of a part of the mail. In the head's each newline reads as one space together with the blank behind it, so
+/// that a folded field is one line; that of both is the head's, a newline, and the body.
+pub fn area(alloc: Global, message: &Message, part: Part) -> Result<Blob, Memory>
+    ensures { IfOk result (λ area. area ≡ area_of message.now part) }
+{
+    match part {
+        Part::Body => message.body.copy(alloc),
+        Part::Head => unfold(alloc, without_empty_line(message.head.as_slice())),
+        Part::Both => {
+            let mut text = unfold(alloc, without_empty_line(message.head.as_slice()))?;
+            text.push_slice(b"\n")?;
+            text.push_slice(message.body.as_slice())?;
+            Ok(text)
+        }
+    }
+}

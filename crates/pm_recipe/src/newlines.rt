@@ -1,0 +1,36 @@
+//! The ends of lines.
+ghost use Rattle.std.specs.Prelude.{◌≡◌, ◌≤◌, length};
+ghost use Rattle.pm_recipe.specs.Places.{far};
+ghost use Rattle.pm_recipe.specs.declared.places.Place.TheVariants.{Comment};
+ghost use Rattle.pm_recipe.specs.Spans.{newlines};
+
+use memchr::memchr;
+use pm_bytes::NEWLINE;
+
+/// How far it is to the end of the line as written.
+pub fn line_end(text: &[u8]) -> usize
+    ensures length { result ≡ far Comment text.now }
+    ensures within { result ≤ length text.now }
+{
+    match memchr(NEWLINE, text) {
+        Some(end) => end,
+        None => text.len(),
+    }
+}
+
+/// How many lines end in a text.
+pub fn newlines_in(text: &[u8]) -> u64
+    ensures count { result ≡ newlines text.now }
+    ensures within { result ≤ length text.now }
+{
+    let mut count: u64 = 0;
+    let mut at = 0;
+    while at < text.len() {
+        let Some(end) = memchr(NEWLINE, &text[at..]) else {
+            return count;
+        };
+        count += 1;
+        at += end + 1;
+    }
+    count
+}
