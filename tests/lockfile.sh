@@ -116,6 +116,17 @@ for words in -x -m -r -l -s '-r x' '-r -2' '-r 1000000' '-l 1234567890' -1234567
 done
 ends 64 "$none" '' a "$(printf 'b\377')"
 
+# Where memory is wanting, nothing is done or said.
+if command -v prlimit > /dev/null; then
+    status=0
+    prlimit --data=1000000 "$program" -r0 $(seq -f 'n%05g' 20000) > said 2>&1 || status=$?
+    [ "$status" -eq 71 ] && [ ! -s said ] || fail "20,000 names in a megabyte: status $status, said $(head -c 200 said)"
+    rm said
+    [ -z "$(ls)" ] || fail "20,000 names in a megabyte: some were made"
+else
+    echo "$name: no limit on memory can be set here: skipped"
+fi
+
 # Twenty programs at once take turns at one lock.
 for number in 1 2 3 4 5 6 7 8 9 10 11 12 13 14 15 16 17 18 19 20; do
     (
