@@ -97,7 +97,7 @@ sorts else .
 sorts yes 'B ?? ^^hi$^^'
 : > message
 sorts else .
-sorts yes 'HB ?? ^^^^$'
+sorts yes 'HB ?? ^^$^^'
 
 # Defects are told, and the recipe is passed over.
 printf 'A: b\n\nhi\n' > message
