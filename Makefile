@@ -55,6 +55,7 @@ bench:
 	@bash bench/egrep.sh
 	@bash bench/rcfiles.sh
 	@bash bench/deliver.sh
+	@bash bench/conditions.sh
 	@bash bench/formail.sh
 
 # The merge gate.
