@@ -1,11 +1,11 @@
 -- Lines that end in a text, and where a text ends inside blocks.
-use Rattle.std.proofs.Common.{◌≡◌, ◌<◌, ◌≤◌, ◌+◌, ◌-◌, ℕ, suc, zero, Bool, true, false, not, cond, nat_eq, List, ◌∷◌, ◌++◌, [], refl, ap, sym, length, drop, arith, length-drop, slice_range}
+use Rattle.std.proofs.Common.{◌≡◌, ◌<◌, ◌≤◌, ◌+◌, ◌-◌, ℕ, suc, zero, Bool, true, false, cond, nat_eq, List, ◌∷◌, ◌++◌, ap, length, drop, arith, length-drop, slice_range}
 use Rattle.std.proofs.lemmas.List.{take_all}
-use Rattle.std.proofs.lemmas.Bool.Decides.{nat_tests}
-use Rattle.pm_recipe.specs.declared.fronts.Situation.{Situation}
 use Rattle.pm_bytes.specs.Alphabet.{NEWLINE}
-use Rattle.pm_recipe.specs.declared.fronts.Kind.TheVariants.{Close, Missing}
-use Rattle.pm_recipe.specs.Spans.{Span, line_past, newlines, bare, ends, missed}
+use Rattle.pm_recipe.specs.Spans.{line_past, newlines}
+use Rattle.pm_recipe.specs.Item.{Item}
+use Rattle.pm_recipe.specs.Item.Item.{Closes}
+use Rattle.pm_recipe.specs.Ends.{ends}
 
 pub line-newlines : (byte line : ℕ) (bytes : List ℕ) → line_past byte line + newlines bytes ≡ line + newlines (byte ∷ bytes)
 line-newlines byte line bytes = by (nat_eq byte NEWLINE)
@@ -18,13 +18,6 @@ line-newlines byte line bytes = by (nat_eq byte NEWLINE)
 pub range-to_end : (text : List ℕ) (at : ℕ) → slice_range text at (length text) ≡ drop at text
 range-to_end text at = let whole : length (drop at text) ≤ length text - at = omega (arith, length-drop at text) in take_all (length text - at) (drop at text) whole
 
-pub ends-more : (depth line : ℕ) (after : List Span) → 0 < depth → bare Close line ∷ (ends (depth - 1) line ++ after) ≡ ends depth line ++ after
-ends-more zero line after h = absurd (omega arith)
-ends-more (suc depth) line after h = let e : suc depth - 1 ≡ depth = omega arith in ap (λ n. bare Close line ∷ (ends n line ++ after)) e
-
-pub missed-some : (situation : Situation) → 0 < situation.depth → situation.stopped ≡ false → missed situation ≡ bare Missing situation.outermost ∷ []
-missed-some situation h read = grind (arith, nat_tests)
-
-pub turned-false : (b : Bool) → not b ≡ true → b ≡ false
-turned-false false h = refl
-turned-false true h = sym h
+pub ends-more : (depth : ℕ) (after : List Item) → 0 < depth → Closes ∷ (ends (depth - 1) ++ after) ≡ ends depth ++ after
+ends-more zero after h = absurd (omega arith)
+ends-more (suc depth) after h = let e : suc depth - 1 ≡ depth = omega arith in ap (λ n. Closes ∷ (ends n ++ after)) e

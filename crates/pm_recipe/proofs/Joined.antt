@@ -1,10 +1,9 @@
 -- What is done and what is ahead, one statement further.
-use Rattle.std.proofs.Common.{◌≡◌, ap, sym, ◌∙◌, List, [], ◌∷◌, ◌++◌, append-nil, length, map, arith}
+use Rattle.std.proofs.Common.{◌≡◌, ap, sym, ◌∙◌, List, [], ◌∷◌, length, map, arith}
 use Rattle.pm_recipe.specs.declared.tree.Condition.{Condition}
 use Rattle.pm_recipe.specs.declared.building.Head.{Head}
 use Rattle.pm_recipe.specs.Tree.{Trees, Tree, Recipe, Block, nil, cons, ◌⧺◌}
-use Rattle.pm_recipe.specs.Build.{put, first, others, top_of, ended}
-use Rattle.pm_recipe.specs.Build.Ending.{Acts}
+use Rattle.pm_recipe.specs.Build.{put, first, others, top_of}
 use Rattle.pm_recipe.specs.Builder.{Level, joined, block_of}
 use Rattle.pm_recipe.proofs.Append.{assoc, to_nil}
 
@@ -16,10 +15,8 @@ joined-put (level ∷ levels) done tree lists =
 
 pub joined-open : (levels : List Level) (done : Trees) (head : Head) (conditions : List Condition) (lists : List Trees)
     → joined (record { done = done; head = head; conditions = conditions } ∷ levels) nil lists
-    ≡ joined levels done (put (ended head (conditions ++ []) (Acts (Block (first lists)))) (others lists))
-joined-open levels done head conditions lists =
-    joined-put levels done (Recipe (top_of head conditions) (Block (first lists))) (others lists)
-    ∙ ap (λ cs. joined levels done (put (Recipe (top_of head cs) (Block (first lists))) (others lists))) (sym (append-nil conditions))
+    ≡ joined levels done (put (Recipe (top_of head conditions) (Block (first lists))) (others lists))
+joined-open levels done head conditions lists = joined-put levels done (Recipe (top_of head conditions) (Block (first lists))) (others lists)
 
 pub joined-close : (levels : List Level) (level : Level) (done : Trees) (lists : List Trees)
     → joined levels level.done (put (block_of level done) lists) ≡ joined (level ∷ levels) done (nil ∷ lists)

@@ -1,6 +1,8 @@
 pub mod Append
 pub mod Cut
+pub mod Ended
 pub mod Joined
+pub mod Steps
 pub mod Trim
 pub mod Digits
 pub mod Runs
@@ -14,6 +16,7 @@ pub mod Pieces
 pub mod OneCut
 pub mod ColonText
 pub mod Unjoined
+pub mod JoinLaws
 pub mod WeightForms
 pub mod LeadForms
 pub mod ConditionForms

@@ -1,5 +1,5 @@
 -- A text has one cut.
-use Rattle.std.proofs.Common.{◌≡◌, ◌+◌, ◌-◌, ◌<◌, ℕ, zero, suc, false, List, [], ◌∷◌, ◌++◌, refl, ap, sym, ◌∙◌, length, take, drop, arith, subst, slice_range}
+use Rattle.std.proofs.Common.{◌≡◌, ◌+◌, ◌<◌, ℕ, zero, suc, false, List, [], ◌∷◌, ◌++◌, refl, ap, sym, ◌∙◌, length, take, drop, arith, subst, slice_range}
 use Rattle.std.proofs.lemmas.List.{take-append-drop, take_at, drop_at}
 use Rattle.pm_recipe.specs.declared.places.Place.TheVariants as place
 use Rattle.pm_recipe.specs.declared.fronts.Front.{Front}
@@ -8,7 +8,7 @@ use Rattle.pm_recipe.specs.declared.fronts.Kind.{Kind}
 use Rattle.pm_recipe.specs.declared.fronts.Kind.TheVariants as kind
 use Rattle.pm_recipe.specs.Places.{far}
 use Rattle.pm_recipe.specs.Front.{front_of}
-use Rattle.pm_recipe.specs.Spans.{span_of, newlines, situation_after, start}
+use Rattle.pm_recipe.specs.Spans.{newlines, situation_after, start}
 use Rattle.pm_recipe.specs.Words.{IsLine}
 use Rattle.pm_recipe.specs.Spells.{HasNone, IsBroken, IsSkipped, IsMailbox, IsJunk, goes_on, Spells, Piece, IsCut}
 use Rattle.pm_recipe.specs.Spells.IsSkipped.{Broken, Other}
@@ -16,7 +16,7 @@ use Rattle.pm_recipe.proofs.WordRuns.{rest-length, tail-length, true-false}
 use Rattle.pm_recipe.proofs.Taking.{Takes, taken, line-far}
 use Rattle.pm_recipe.proofs.Shapes.{front-stands, front-spells}
 use Rattle.pm_recipe.specs.Listed.{pieces, pieces_of}
-use Rattle.pm_recipe.proofs.Pieces.{pieces-drop}
+use Rattle.pm_recipe.proofs.Pieces.{pieces-turn}
 
 -- two ways to part a text at one place
 pub same-first : (xs ys zs ws : List ℕ) → xs ++ ys ≡ zs ++ ws → length xs ≡ length zs → xs ≡ zs
@@ -113,7 +113,6 @@ module _ (situation : Situation) (front : Front) (name text bytes last : List �
   mailbox-front kind.Close e s m none = absurd (none kind.Close _ _ _ _ parts s)
   mailbox-front kind.Assign e s m none = absurd (none kind.Assign _ _ _ _ parts s)
   mailbox-front kind.Unset e s m none = absurd (none kind.Unset _ _ _ _ parts s)
-  mailbox-front kind.Missing e s m none = absurd s
 
   skipped-front : (sort : Kind) → front.kind ≡ sort → spelled sort → IsJunk situation name text bytes last → HasNone situation (bytes ++ last)
       → IsFront front kind.Skipped name text bytes last (bytes ++ last)
@@ -137,7 +136,6 @@ module _ (situation : Situation) (front : Front) (name text bytes last : List �
   skipped-front kind.Close e s m none = absurd (none kind.Close _ _ _ _ parts s)
   skipped-front kind.Assign e s m none = absurd (none kind.Assign _ _ _ _ parts s)
   skipped-front kind.Unset e s m none = absurd (none kind.Unset _ _ _ _ parts s)
-  skipped-front kind.Missing e s m none = absurd s
 
 -- a text that isn't empty, and its front
 fronts : (situation : Situation) (whole : List ℕ) → 0 < length whole
@@ -174,40 +172,25 @@ front-is situation kind.TooDeep name text bytes last some s = from-taken _ kind.
 front-is situation kind.Close name text bytes last some s = from-taken _ kind.Close name text bytes last (taken situation kind.Close name text bytes last s)
 front-is situation kind.Assign name text bytes last some s = from-taken _ kind.Assign name text bytes last (taken situation kind.Assign name text bytes last s)
 front-is situation kind.Unset name text bytes last some s = from-taken _ kind.Unset name text bytes last (taken situation kind.Unset name text bytes last s)
-front-is situation kind.Missing name text bytes last some s = absurd s
 
 abbrev pub piece_at : Kind → ℕ → List ℕ → List ℕ → List ℕ → Piece
 piece_at sort line name text bytes = record { span = record { kind = sort; line = line; name = name; text = text }; bytes = bytes }
 
-pieces-turn : (line : ℕ) (situation : Situation) (whole : List ℕ) → 0 < length whole
-    → pieces zero line situation whole
-    ≡ (record { span = span_of (front_of situation whole) line whole; bytes = take (front_of situation whole).taken whole })
-    ∷ pieces zero (line + newlines (take (front_of situation whole).taken whole)) (situation_after (front_of situation whole).kind line situation)
-    (drop (front_of situation whole).taken whole)
-pieces-turn line situation [] some = absurd (omega arith)
-pieces-turn line situation (byte ∷ bytes) some =
-    let front = front_of situation (byte ∷ bytes) in
-    let after = situation_after front.kind line situation in
-    let all : suc (front.taken - 1) ≡ front.taken = omega (arith, (front-stands situation byte bytes).0) in
-    let P : ℕ → List Piece = λ n. pieces zero (line + newlines (take n (byte ∷ bytes))) after (drop n (byte ∷ bytes)) in
-    ap (λ ps. (record { span = span_of front line (byte ∷ bytes); bytes = take front.taken (byte ∷ bytes) }) ∷ ps)
-    (pieces-drop (suc (front.taken - 1)) line after (byte ∷ bytes) ∙ ap P all)
-
 -- each cut is the one that the pieces of the text are
 pub one-cut : (line : ℕ) (situation : Situation) (ps : List Piece) (text : List ℕ) → IsCut line situation ps text → ps ≡ pieces zero line situation text
 one-cut line situation [] text c = ap (λ xs. pieces zero line situation xs) (sym c)
-one-cut line situation (p ∷ ps) text c = by c.0 c.1 c.2 c.3 c.4 (one-cut (line + newlines p.bytes) (situation_after p.span.kind line situation) ps c.0 c.5)
+one-cut line situation (p ∷ ps) text c = by c.0 c.1 c.2 c.3 c.4 (one-cut (line + newlines p.bytes) (situation_after p.span.kind situation) ps c.0 c.5)
   where
     by : (last : List ℕ) → text ≡ p.bytes ++ last → p.span.line ≡ line → 0 < length p.bytes → Spells situation p.span.kind p.span.name p.span.text p.bytes last
-        → ps ≡ pieces zero (line + newlines p.bytes) (situation_after p.span.kind line situation) last → p ∷ ps ≡ pieces zero line situation text
+        → ps ≡ pieces zero (line + newlines p.bytes) (situation_after p.span.kind situation) last → p ∷ ps ≡ pieces zero line situation text
     by last is line_is some s rest =
         let whole = p.bytes ++ last in
         let front = front_of situation whole in
         let f = front-is situation p.span.kind p.span.name p.span.text p.bytes last some s in
-        let tail : pieces zero (line + newlines (take front.taken whole)) (situation_after front.kind line situation) (drop front.taken whole) ≡ ps =
-        ap (λ xs. pieces zero (line + newlines xs) (situation_after front.kind line situation) (drop front.taken whole)) f.bytes_are
-        ∙ ap (λ k. pieces zero (line + newlines p.bytes) (situation_after k line situation) (drop front.taken whole)) f.kind_is
-        ∙ ap (λ xs. pieces zero (line + newlines p.bytes) (situation_after p.span.kind line situation) xs) f.last_is ∙ sym rest in
+        let tail : pieces zero (line + newlines (take front.taken whole)) (situation_after front.kind situation) (drop front.taken whole) ≡ ps =
+        ap (λ xs. pieces zero (line + newlines xs) (situation_after front.kind situation) (drop front.taken whole)) f.bytes_are
+        ∙ ap (λ k. pieces zero (line + newlines p.bytes) (situation_after k situation) (drop front.taken whole)) f.kind_is
+        ∙ ap (λ xs. pieces zero (line + newlines p.bytes) (situation_after p.span.kind situation) xs) f.last_is ∙ sym rest in
         let head : piece_at front.kind line (take front.mid whole) (slice_range whole front.from front.to) (take front.taken whole)
         ≡ piece_at p.span.kind p.span.line p.span.name p.span.text p.bytes =
         ap (λ k. piece_at k line (take front.mid whole) (slice_range whole front.from front.to) (take front.taken whole)) f.kind_is
@@ -216,7 +199,7 @@ one-cut line situation (p ∷ ps) text c = by c.0 c.1 c.2 c.3 c.4 (one-cut (line
         ∙ ap (λ xs. piece_at p.span.kind p.span.line p.span.name xs (take front.taken whole)) f.text_is
         ∙ ap (λ xs. piece_at p.span.kind p.span.line p.span.name p.span.text xs) f.bytes_are in
         sym (ap (λ xs. pieces zero line situation xs) is ∙ pieces-turn line situation whole (longer p.bytes last some)
-        ∙ ap (λ q. q ∷ pieces zero (line + newlines (take front.taken whole)) (situation_after front.kind line situation) (drop front.taken whole)) head
+        ∙ ap (λ q. q ∷ pieces zero (line + newlines (take front.taken whole)) (situation_after front.kind situation) (drop front.taken whole)) head
         ∙ ap (λ qs. p ∷ qs) tail)
 
 pub one-cut-text : (text : List ℕ) (ps : List Piece) → IsCut 1 start ps text → ps ≡ pieces_of text

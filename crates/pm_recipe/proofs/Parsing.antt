@@ -1,5 +1,5 @@
 -- The items of a cut have a reading by the grammar.
-use Rattle.std.proofs.Common.{◌≡◌, ◌+◌, ◌-◌, ◌<◌, ◌||◌, not, ℕ, zero, suc, List, [], ◌∷◌, ◌++◌, Bool, true, false, cond, nat_eq, refl, ap, sym, ◌∙◌, subst, append_assoc, arith}
+use Rattle.std.proofs.Common.{◌≡◌, ◌+◌, ◌-◌, ◌<◌, ◌||◌, not, ℕ, zero, suc, List, [], ◌∷◌, ◌++◌, Bool, true, false, refl, ap, sym, ◌∙◌, subst, append_assoc, arith}
 use Rattle.pm_recipe.specs.declared.tree.Condition.{Condition}
 use Rattle.pm_recipe.specs.declared.building.Head.{Head}
 use Rattle.pm_recipe.specs.declared.fronts.Situation.{Situation}
@@ -9,9 +9,11 @@ use Rattle.pm_recipe.specs.Item.{Item}
 use Rattle.pm_recipe.specs.Item.Item.{Nothing, Begins, Judges, Does, Opens, Fails, Closes, States}
 use Rattle.pm_recipe.specs.Tree.{Trees, Act, nil, cons, Block, Defect}
 use Rattle.pm_recipe.specs.Build.{tree_of_items}
-use Rattle.pm_recipe.specs.Reads.{item_of, items_of}
-use Rattle.pm_recipe.specs.Spans.{Span, bare, ends, missed, newlines, situation_after, start}
-use Rattle.pm_recipe.specs.Spells.{Spells, Piece, IsCut, spans_from}
+use Rattle.pm_recipe.specs.Reads.{item_of}
+use Rattle.pm_recipe.specs.Spans.{Span, newlines, situation_after, start}
+use Rattle.pm_recipe.specs.Spells.{Spells, Piece, IsCut}
+use Rattle.pm_recipe.specs.Ends.{Blocks, no_blocks, blocks_after, missed, closings}
+use Rattle.pm_recipe.specs.Listed.{items_from}
 use Rattle.pm_recipe.specs.Lists.{Conditions, Lists, Acts, told, recipe}
 use Rattle.pm_recipe.specs.Lists.Conditions.{Last, Between, One}
 use Rattle.pm_recipe.specs.Lists.Lists.{End, Gap, Statement, Ruled, Wanting, Deep}
@@ -186,54 +188,49 @@ parse (States tree ∷ items) depth begun f =
     (prefix (States tree ∷ []) (λ inner trees l. record { trees = cons tree trees; lists = Statement tree inner trees l }) depth items (parse items depth false f))
 
 -- the items of a cut fit
-fits-one : (situation : Situation) (span : Span) (sort : Kind) (bytes last : List ℕ) (line : ℕ) (items : List Item) → Spells situation sort span.name span.text bytes last
-    → Fits items (situation_after sort line situation).depth (situation_after sort line situation).in_recipe
+fits-one : (situation : Situation) (span : Span) (sort : Kind) (bytes last : List ℕ) (items : List Item) → Spells situation sort span.name span.text bytes last
+    → Fits items (situation_after sort situation).depth (situation_after sort situation).in_recipe
     → Fits (item_of span sort ∷ items) situation.depth situation.in_recipe
-fits-one situation span kind.Gap bytes last line items s f = f
-fits-one situation span kind.Colon bytes last line items s f = f
-fits-one situation span kind.Condition bytes last line items s f = (s.0, subst (λ b. Fits items situation.depth b) s.0 f)
-fits-one situation span kind.Mailbox bytes last line items s f =
+fits-one situation span kind.Gap bytes last items s f = f
+fits-one situation span kind.Colon bytes last items s f = f
+fits-one situation span kind.Condition bytes last items s f = (s.0, subst (λ b. Fits items situation.depth b) s.0 f)
+fits-one situation span kind.Mailbox bytes last items s f =
     (and-left situation.in_recipe (not (begins_with CLOSE_BRACE bytes || begins_with COLON bytes)) s.0.0, f)
-fits-one situation span kind.Pipe bytes last line items s f = (s.0, f)
-fits-one situation span kind.WriteOut bytes last line items s f = (s.0, f)
-fits-one situation span kind.Capture bytes last line items s f = (s.0, f)
-fits-one situation span kind.Forward bytes last line items s f = (s.0, f)
-fits-one situation span kind.Open bytes last line items s f =
+fits-one situation span kind.Pipe bytes last items s f = (s.0, f)
+fits-one situation span kind.WriteOut bytes last items s f = (s.0, f)
+fits-one situation span kind.Capture bytes last items s f = (s.0, f)
+fits-one situation span kind.Forward bytes last items s f = (s.0, f)
+fits-one situation span kind.Open bytes last items s f =
     let more : situation.depth + 1 ≡ suc situation.depth = omega arith in (s.0, subst (λ d. Fits items d false) more f)
-fits-one situation span kind.TooDeep bytes last line items s f = (s.0, f)
-fits-one situation span kind.Close bytes last line items s f =
+fits-one situation span kind.TooDeep bytes last items s f = (s.0, f)
+fits-one situation span kind.Close bytes last items s f =
     let some : 0 < situation.depth = s.0 in
     let less : situation.depth ≡ suc (situation.depth - 1) = omega (arith, some) in (situation.depth - 1, less, f)
-fits-one situation span kind.Assign bytes last line items s f = f
-fits-one situation span kind.Unset bytes last line items s f = f
-fits-one situation span kind.Skipped bytes last line items s f = f
-fits-one situation span kind.Missing bytes last line items s f = absurd s
+fits-one situation span kind.Assign bytes last items s f = f
+fits-one situation span kind.Unset bytes last items s f = f
+fits-one situation span kind.Skipped bytes last items s f = f
 
-fits-missed : (situation : Situation) (begun : Bool) → Fits (items_of (missed situation)) zero begun
-fits-missed situation begun = by (nat_eq situation.depth 0 || situation.stopped)
-  where
-    by : (b : Bool) → Fits (items_of (cond b [] (bare kind.Missing situation.outermost ∷ []))) zero begun
-    by true = refl
-    by false = refl
+fits-missed : (lines : List ℕ) (stopped begun : Bool) → Fits (missed lines stopped) zero begun
+fits-missed [] stopped begun = refl
+fits-missed (line ∷ lines) true begun = refl
+fits-missed (line ∷ lines) false begun = refl
 
-fits-closings : (depth line : ℕ) (situation : Situation) (begun : Bool) → Fits (items_of (ends depth line ++ missed situation)) depth begun
-fits-closings zero line situation begun = fits-missed situation begun
-fits-closings (suc depth) line situation begun = (depth, refl, fits-closings depth line situation false)
+fits-closings : (depth : ℕ) (blocks : Blocks) (begun : Bool) → Fits (closings depth blocks) depth begun
+fits-closings zero blocks begun = fits-missed blocks.lines blocks.stopped begun
+fits-closings (suc depth) blocks begun = (depth, refl, fits-closings depth blocks false)
 
-fits : (line : ℕ) (situation : Situation) (pieces : List Piece) (text : List ℕ) → IsCut line situation pieces text
-    → Fits (items_of (spans_from situation pieces)) situation.depth situation.in_recipe
-fits line situation [] text c = fits-closings situation.depth situation.outermost situation situation.in_recipe
-fits line situation (piece ∷ pieces) text c =
-    let after = situation_after piece.span.kind line situation in
-    let later : after ≡ situation_after piece.span.kind piece.span.line situation = ap (λ n. situation_after piece.span.kind n situation) (sym c.2) in
-    fits-one situation piece.span piece.span.kind piece.bytes c.0 line
-    (items_of (spans_from (situation_after piece.span.kind piece.span.line situation) pieces)) c.4
-    (subst (λ s. Fits (items_of (spans_from s pieces)) after.depth after.in_recipe) later
-    (fits (line + newlines piece.bytes) after pieces c.0 c.5))
+fits : (line : ℕ) (situation : Situation) (blocks : Blocks) (pieces : List Piece) (text : List ℕ) → IsCut line situation pieces text
+    → Fits (items_from situation blocks pieces) situation.depth situation.in_recipe
+fits line situation blocks [] text c = fits-closings situation.depth blocks situation.in_recipe
+fits line situation blocks (piece ∷ pieces) text c =
+    let after = situation_after piece.span.kind situation in
+    let more = blocks_after piece.span.kind piece.span.line blocks in
+    fits-one situation piece.span piece.span.kind piece.bytes c.0 (items_from after more pieces) c.4
+    (fits (line + newlines piece.bytes) after more pieces c.0 c.5)
 
 pub listed-cut : (pieces : List Piece) (text : List ℕ) → IsCut 1 start pieces text
-    → Lists (items_of (spans_from start pieces)) (tree_of_items (items_of (spans_from start pieces)))
+    → Lists (items_from start no_blocks pieces) (tree_of_items (items_from start no_blocks pieces))
 listed-cut pieces text c =
-    let items = items_of (spans_from start pieces) in
-    let p : AreListed items = parse items zero false (fits 1 start pieces text c) in
+    let items = items_from start no_blocks pieces in
+    let p : AreListed items = parse items zero false (fits 1 start no_blocks pieces text c) in
     subst (λ t. Lists items t) (lists-tree items p.trees p.lists) p.lists

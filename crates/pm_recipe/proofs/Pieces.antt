@@ -4,15 +4,18 @@ use Rattle.std.proofs.lemmas.List.{take-append-drop, drop-drop}
 use Rattle.pm_recipe.specs.declared.fronts.Front.{Front}
 use Rattle.pm_recipe.specs.declared.fronts.Situation.{Situation}
 use Rattle.pm_recipe.specs.Front.{front_of}
-use Rattle.pm_recipe.specs.Spans.{Span, span_of, line_past, newlines, situation_after, start}
-use Rattle.pm_recipe.specs.Spells.{IsCut, spans_from}
-use Rattle.pm_recipe.specs.Listed.{pieces, pieces_of}
+use Rattle.pm_recipe.specs.Spans.{span_of, line_past, newlines, situation_after, start}
+use Rattle.pm_recipe.specs.Spells.{Piece, IsCut}
+use Rattle.pm_recipe.specs.Item.{Item}
+use Rattle.pm_recipe.specs.Reads.{item_of}
+use Rattle.pm_recipe.specs.Ends.{Blocks, blocks_after}
+use Rattle.pm_recipe.specs.Listed.{pieces, pieces_of, items_from}
 use Rattle.pm_recipe.proofs.Cut.{line-newlines}
 use Rattle.pm_recipe.proofs.Shapes.{front-stands, front-spells}
 
--- the spans of a text from a line and a situation on
-abbrev pub spans : ℕ → Situation → List ℕ → List Span
-spans line situation text = spans_from situation (pieces zero line situation text)
+-- what stands in a text from a line, a situation and open blocks on
+abbrev pub items_at : ℕ → Situation → Blocks → List ℕ → List Item
+items_at line situation blocks text = items_from situation blocks (pieces zero line situation text)
 
 -- bytes that are passed over end lines and give no piece
 pub pieces-drop : (skip line : ℕ) (situation : Situation) (text : List ℕ)
@@ -23,36 +26,41 @@ pieces-drop (suc skip) line situation (byte ∷ bytes) =
     pieces-drop skip (line_past byte line) situation bytes
     ∙ ap (λ n. pieces zero n situation (drop skip bytes)) (line-newlines byte line (take skip bytes))
 
--- the first span, and the spans behind it
-spans-turn : (line : ℕ) (situation : Situation) (text : List ℕ) (front : Front)
-    → 0 < length text → front ≡ front_of situation text → 0 < front.taken
-    → spans line situation text
-    ≡ span_of front line text ∷ spans (line + newlines (take front.taken text)) (situation_after front.kind line situation) (drop front.taken text)
-spans-turn line situation [] front h is some = absurd (omega arith)
-spans-turn line situation (byte ∷ bytes) front h is some =
-    let P : Front → Type 0 = λ f. span_of f line (byte ∷ bytes)
-    ∷ spans_from (situation_after f.kind line situation) (pieces (f.taken - 1) (line_past byte line) (situation_after f.kind line situation) bytes)
-    ≡ span_of front line (byte ∷ bytes) ∷ spans (line + newlines (take front.taken (byte ∷ bytes))) (situation_after front.kind line situation) (drop front.taken (byte ∷ bytes)) in
-    subst P is (ap (λ ps. span_of front line (byte ∷ bytes) ∷ spans_from (situation_after front.kind line situation) ps) (by front.taken some))
-  where
-    by : (n : ℕ) → 0 < n
-        → pieces (n - 1) (line_past byte line) (situation_after front.kind line situation) bytes
-        ≡ pieces zero (line + newlines (take n (byte ∷ bytes))) (situation_after front.kind line situation) (drop n (byte ∷ bytes))
-    by zero pos = absurd (omega arith)
-    by (suc n) pos =
-        let e : suc n - 1 ≡ n = omega arith in
-        ap (λ k. pieces k (line_past byte line) (situation_after front.kind line situation) bytes) e
-        ∙ pieces-drop (suc n) line (situation_after front.kind line situation) (byte ∷ bytes)
+-- the first piece, and the pieces behind it
+pub pieces-turn : (line : ℕ) (situation : Situation) (whole : List ℕ) → 0 < length whole
+    → pieces zero line situation whole
+    ≡ (record { span = span_of (front_of situation whole) line whole; bytes = take (front_of situation whole).taken whole })
+    ∷ pieces zero (line + newlines (take (front_of situation whole).taken whole)) (situation_after (front_of situation whole).kind situation)
+    (drop (front_of situation whole).taken whole)
+pieces-turn line situation [] some = absurd (omega arith)
+pieces-turn line situation (byte ∷ bytes) some =
+    let front = front_of situation (byte ∷ bytes) in
+    let after = situation_after front.kind situation in
+    let all : suc (front.taken - 1) ≡ front.taken = omega (arith, (front-stands situation byte bytes).0) in
+    let P : ℕ → List Piece = λ n. pieces zero (line + newlines (take n (byte ∷ bytes))) after (drop n (byte ∷ bytes)) in
+    ap (λ ps. (record { span = span_of front line (byte ∷ bytes); bytes = take front.taken (byte ∷ bytes) }) ∷ ps)
+    (pieces-drop (suc (front.taken - 1)) line after (byte ∷ bytes) ∙ ap P all)
+
+-- what its span says, and what stands behind it
+items-turn : (line : ℕ) (situation : Situation) (blocks : Blocks) (text : List ℕ) (front : Front)
+    → 0 < length text → front ≡ front_of situation text
+    → items_at line situation blocks text
+    ≡ item_of (span_of front line text) front.kind
+    ∷ items_at (line + newlines (take front.taken text)) (situation_after front.kind situation) (blocks_after front.kind line blocks) (drop front.taken text)
+items-turn line situation blocks text front h is =
+    let P : Front → Type 0 = λ f. items_at line situation blocks text ≡ item_of (span_of f line text) f.kind
+    ∷ items_at (line + newlines (take f.taken text)) (situation_after f.kind situation) (blocks_after f.kind line blocks) (drop f.taken text) in
+    subst P (sym is) (ap (items_from situation blocks) (pieces-turn line situation text h))
 
 -- a turn at a place of the text
-pub turned : (line : ℕ) (situation : Situation) (text : List ℕ) (at : ℕ) (here : List ℕ) (front : Front) (line_now : ℕ) (situation_now : Situation)
-    → at < length text → drop at text ≡ here → front ≡ front_of situation here → 0 < front.taken
-    → line_now ≡ line + newlines (take front.taken here) → situation_now ≡ situation_after front.kind line situation
-    → spans line situation (drop at text)
-    ≡ span_of front line here ∷ spans line_now situation_now (drop (at + front.taken) text)
-turned line situation text at here front line_now situation_now h here_is front_is some line_is situation_is =
+pub turned : (line : ℕ) (situation : Situation) (blocks : Blocks) (text : List ℕ) (at : ℕ) (here : List ℕ) (front : Front) (line_now : ℕ) (situation_now : Situation)
+    → at < length text → drop at text ≡ here → front ≡ front_of situation here
+    → line_now ≡ line + newlines (take front.taken here) → situation_now ≡ situation_after front.kind situation
+    → items_at line situation blocks (drop at text)
+    ≡ item_of (span_of front line here) front.kind ∷ items_at line_now situation_now (blocks_after front.kind line blocks) (drop (at + front.taken) text)
+turned line situation blocks text at here front line_now situation_now h here_is front_is line_is situation_is =
     let some_left : 0 < length here = subst (λ xs. 0 < length xs) here_is (omega (arith, length-drop at text)) in
-    rw (line_is, situation_is, ← drop-drop front.taken at text, here_is) (spans-turn line situation here front some_left front_is some)
+    rw (line_is, situation_is, ← drop-drop front.taken at text, here_is) (items-turn line situation blocks here front some_left front_is)
 
 -- the pieces behind bytes that are passed over cut what follows these
 cut-behind : (skip line : ℕ) (situation : Situation) (text : List ℕ)
@@ -67,14 +75,14 @@ cut-behind zero line situation (byte ∷ bytes) =
     let stands = front-stands situation byte bytes in
     let here : line ≡ line + newlines (take zero (byte ∷ bytes)) = omega arith in
     let all : suc (front.taken - 1) ≡ front.taken = omega (arith, stands.0) in
-    let rest = pieces (front.taken - 1) (line_past byte line) (situation_after front.kind line situation) bytes in
+    let rest = pieces (front.taken - 1) (line_past byte line) (situation_after front.kind situation) bytes in
     let ends : drop (front.taken - 1) bytes ≡ drop front.taken (byte ∷ bytes) = ap (λ k. drop k (byte ∷ bytes)) all in
     let starts : byte ∷ take (front.taken - 1) bytes ≡ take front.taken (byte ∷ bytes) = ap (λ k. take k (byte ∷ bytes)) all in
-    let more : IsCut (line + newlines (take front.taken (byte ∷ bytes))) (situation_after front.kind line situation) rest (drop front.taken (byte ∷ bytes)) =
-    subst (λ xs. IsCut (line + newlines (take front.taken (byte ∷ bytes))) (situation_after front.kind line situation) rest xs) ends
-    (subst (λ n. IsCut n (situation_after front.kind line situation) rest (drop (front.taken - 1) bytes))
+    let more : IsCut (line + newlines (take front.taken (byte ∷ bytes))) (situation_after front.kind situation) rest (drop front.taken (byte ∷ bytes)) =
+    subst (λ xs. IsCut (line + newlines (take front.taken (byte ∷ bytes))) (situation_after front.kind situation) rest xs) ends
+    (subst (λ n. IsCut n (situation_after front.kind situation) rest (drop (front.taken - 1) bytes))
     (line-newlines byte line (take (front.taken - 1) bytes) ∙ ap (λ xs. line + newlines xs) starts)
-    (cut-behind (front.taken - 1) (line_past byte line) (situation_after front.kind line situation) bytes)) in
+    (cut-behind (front.taken - 1) (line_past byte line) (situation_after front.kind situation) bytes)) in
     let some : 0 < length (take front.taken (byte ∷ bytes)) = subst (λ xs. 0 < length xs) starts (omega arith) in
     subst (λ n. IsCut n situation (pieces zero line situation (byte ∷ bytes)) (byte ∷ bytes)) here
     (drop front.taken (byte ∷ bytes), sym (take-append-drop front.taken (byte ∷ bytes)), refl, some, front-spells situation (byte ∷ bytes) front refl stands, more)

@@ -1,5 +1,5 @@
 -- A span says one thing.
-use Rattle.std.proofs.Common.{◌≡◌, ℕ, zero, suc, ◌+◌, List, [], ◌∷◌, ◌++◌, refl, ap, sym, ◌∙◌, take, Bool, true, false, ◌||◌, cond, nat_eq, Option, subst}
+use Rattle.std.proofs.Common.{◌≡◌, ℕ, ◌+◌, List, [], ◌∷◌, ◌++◌, refl, ap, sym, ◌∙◌, take, Bool, Option, subst}
 use Rattle.std.proofs.lemmas.List.{drop_at, take-append-drop}
 use Rattle.pm_recipe.specs.declared.fronts.Kind.{Kind}
 use Rattle.pm_recipe.specs.declared.fronts.Kind.TheVariants as kind
@@ -14,8 +14,8 @@ use Rattle.pm_recipe.specs.Item.{Item}
 use Rattle.pm_recipe.specs.Item.Item.{Begins, Judges, Does}
 use Rattle.pm_recipe.specs.Tree as tree
 use Rattle.pm_recipe.specs.Tree.{Act}
-use Rattle.pm_recipe.specs.Spans.{Span, bare, ends, missed, newlines, situation_after}
-use Rattle.pm_recipe.specs.Spells.{Spells, Piece, IsCut, IsColonLine, spans_from}
+use Rattle.pm_recipe.specs.Spans.{Span, newlines, situation_after}
+use Rattle.pm_recipe.specs.Spells.{Spells, Piece, IsCut, IsColonLine, spans_of}
 use Rattle.pm_recipe.specs.Says.{IsBeginning, IsProgram, IsRunning, Says, AllSay}
 use Rattle.pm_recipe.proofs.Forms.{blanks-run}
 use Rattle.pm_recipe.proofs.Taking.{blanks-far}
@@ -66,7 +66,6 @@ says-once span kind.Close item s = s
 says-once span kind.Assign item s = s
 says-once span kind.Unset item s = s
 says-once span kind.Skipped item s = s
-says-once span kind.Missing item s = s
 
 says-some : (situation : Situation) (span : Span) (sort : Kind) (bytes last : List ℕ) → Spells situation sort span.name span.text bytes last
     → Says span sort (item_of span sort)
@@ -90,7 +89,6 @@ says-some situation span kind.Close bytes last s = refl
 says-some situation span kind.Assign bytes last s = refl
 says-some situation span kind.Unset bytes last s = refl
 says-some situation span kind.Skipped bytes last s = refl
-says-some situation span kind.Missing bytes last s = refl
 
 -- spans say one list of items
 pub all-once : (spans : List Span) (items : List Item) → AllSay spans items → items ≡ items_of spans
@@ -100,24 +98,10 @@ all-once (span ∷ spans) [] s = absurd s
 all-once (span ∷ spans) (item ∷ items) s =
     ap (λ i. i ∷ items) (says-once span span.kind item s.0) ∙ ap (λ is. item_of span span.kind ∷ is) (all-once spans items s.1)
 
-missed-some : (situation : Situation) → AllSay (missed situation) (items_of (missed situation))
-missed-some situation = by (nat_eq situation.depth 0 || situation.stopped)
-  where
-    by : (b : Bool) → AllSay (cond b [] (bare kind.Missing situation.outermost ∷ [])) (items_of (cond b [] (bare kind.Missing situation.outermost ∷ [])))
-    by true = tt
-    by false = (refl, tt)
-
-closings-some : (depth line : ℕ) (situation : Situation) → AllSay (ends depth line ++ missed situation) (items_of (ends depth line ++ missed situation))
-closings-some zero line situation = missed-some situation
-closings-some (suc depth) line situation = (refl, closings-some depth line situation)
-
 pub all-some : (line : ℕ) (situation : Situation) (pieces : List Piece) (text : List ℕ) → IsCut line situation pieces text
-    → AllSay (spans_from situation pieces) (items_of (spans_from situation pieces))
-all-some line situation [] text c = closings-some situation.depth situation.outermost situation
-all-some line situation (piece ∷ pieces) text c =
-    let later : situation_after piece.span.kind line situation ≡ situation_after piece.span.kind piece.span.line situation =
-    ap (λ n. situation_after piece.span.kind n situation) (sym c.2) in (
-      says-some situation piece.span piece.span.kind piece.bytes c.0 c.4,
-      subst (λ s. AllSay (spans_from s pieces) (items_of (spans_from s pieces))) later
-          (all-some (line + newlines piece.bytes) (situation_after piece.span.kind line situation) pieces c.0 c.5),
-    )
+    → AllSay (spans_of pieces) (items_of (spans_of pieces))
+all-some line situation [] text c = tt
+all-some line situation (piece ∷ pieces) text c = (
+  says-some situation piece.span piece.span.kind piece.bytes c.0 c.4,
+  all-some (line + newlines piece.bytes) (situation_after piece.span.kind situation) pieces c.0 c.5,
+)

@@ -526,4 +526,3 @@ front-spells situation text front is stands = by front.kind (sym (ap (λ f. f.ki
     by kind.Close e shape = shape
     by kind.Assign e shape = shape
     by kind.Unset e shape = shape
-    by kind.Missing e shape = shape

@@ -424,4 +424,3 @@ taken situation kind.Assign name text bytes last h = setting-taken situation nam
 taken situation kind.Unset name text bytes last h = lone-taken situation name text bytes last h.0 h.1 h.2
 taken situation kind.Mailbox name text bytes last h = absurd h
 taken situation kind.Skipped name text bytes last h = absurd h
-taken situation kind.Missing name text bytes last h = absurd h

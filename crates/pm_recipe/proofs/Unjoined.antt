@@ -8,7 +8,7 @@ use Rattle.pm_recipe.specs.Joins.{is_join, unjoined, without_indents, unindented
 use Rattle.pm_recipe.specs.Kept.{kept}
 use Rattle.pm_recipe.proofs.Forms.{equal, no}
 
-and-none : (b : Bool) → (b && false) ≡ false
+pub and-none : (b : Bool) → (b && false) ≡ false
 and-none true = refl
 and-none false = refl
 
@@ -28,7 +28,7 @@ record AreKept (text : List ℕ) : Type 0 where
   plain : kept true Text text ≡ without_indents false text
   indented : kept true Indent text ≡ without_indents true text
 
-no-blank : (byte : ℕ) (rest : List ℕ) → is_join byte rest ≡ true → is_blank_byte byte ≡ false
+pub no-blank : (byte : ℕ) (rest : List ℕ) → is_join byte rest ≡ true → is_blank_byte byte ≡ false
 no-blank byte rest h = ap is_blank_byte (equal byte BACKSLASH (first (nat_eq byte BACKSLASH) (begins_with NEWLINE rest) h))
   where
     first : (a b : Bool) → (a && b) ≡ true → a ≡ true

@@ -334,8 +334,8 @@ weighed-once line worth rest (Weighted minus less digits power last blanks w v i
     ≡ worth_of minus digits less power =
     ap (λ b. weight_of b (number_within 2147483647 (digits_of (numeral line))) (exponent_value (numeral (exponent line)))) r.minus_is
     ∙ ap (λ xs. weight_of minus (number_within 2147483647 xs) (exponent_value (numeral (exponent line)))) r.digits_are
-    ∙ ap (λ b. weight_of minus (number_within 2147483647 digits) (number_within (cond b 0 1) (digits_of (numeral (exponent line))))) r.less_is
-    ∙ ap (λ xs. weight_of minus (number_within 2147483647 digits) (number_within (cond less 0 1) xs)) r.power_is in
+    ∙ ap (λ b. weight_of minus (number_within 2147483647 digits) (number_within (cond b 0 2147483647) (digits_of (numeral (exponent line))))) r.less_is
+    ∙ ap (λ xs. weight_of minus (number_within 2147483647 digits) (number_within (cond less 0 2147483647) xs)) r.power_is in
     let behind_is : behind place.Blanks (behind place.Sign (exponent line)) ≡ rest =
     ap (behind place.Blanks) (r.rest_is ∙ is) ∙ drop_at blanks rest _ (sym (blanks-far blanks rest apart)) in
     record {

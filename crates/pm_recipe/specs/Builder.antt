@@ -1,5 +1,5 @@
 -- What a builder stands for.
-use Rattle.std.specs.Prelude.{List, [], map, Option, Some, None, ◌≡◌, length, ◌∷◌, is_some}
+use Rattle.std.specs.Prelude.{ℕ, List, [], map, Option, Some, None, ◌≡◌, length, ◌∷◌, is_some}
 use Rattle.pm_recipe.specs.declared.building.Builder.{Builder}
 use Rattle.pm_recipe.specs.declared.building.Head.{Head}
 use Rattle.pm_recipe.specs.declared.building.Level as level
@@ -10,6 +10,8 @@ use Rattle.pm_recipe.specs.Tree.{Trees, Tree, nil, cons, ◌⧺◌}
 use Rattle.pm_recipe.specs.Tree as tree
 use Rattle.pm_recipe.specs.Build.{Ahead, ahead_of, first, others, put, recipe_of, top_of}
 use Rattle.pm_recipe.specs.Item.{Item}
+use Rattle.pm_recipe.specs.Ends.{Blocks, outermost}
+use Rattle.pm_recipe.specs.declared.ends.Unended.{Unended}
 
 -- a block that is open, with what stands before it, and its recipe's head
 pub record Level : Type 0 where
@@ -68,3 +70,10 @@ joins builder lists = joined (built_of builder).levels builder.done lists
 pub record Suits (builder : Builder) (situation : Situation) : Type 0 where
   pub begun : is_some builder.begun ≡ situation.in_recipe
   pub levels : length builder.levels.items ≡ situation.depth
+
+-- what the code keeps of so many open blocks, of whose lines it has the outermost
+pub record Stands (unended : Unended) (depth : ℕ) (blocks : Blocks) : Type 0 where
+  pub colon : unended.colon ≡ blocks.colon
+  pub stopped : unended.stopped ≡ blocks.stopped
+  pub lines : length blocks.lines ≡ depth
+  pub outermost : (line : ℕ) (lines : List ℕ) → blocks.lines ≡ line ∷ lines → unended.outermost ≡ outermost line lines

@@ -44,9 +44,9 @@ pub record IsNumber (digits : List ℕ) (most : ℕ) (number : ℕ) : Type 0 whe
   pub number_is : number ≡ digits_value 0 digits
   pub within : number ≤ most
 
--- an exponent is zero or one; with a minus it is zero
+-- an exponent is at most this; with a minus it is zero
 abbrev pub most_power : Bool → ℕ
-most_power less = if less then 0 else 1
+most_power less = if less then 0 else 2147483647
 
 -- what a weight is worth: it is bad where a number is out of its range
 pub data IsWorth (minus : Bool) (digits : List ℕ) (less : Bool) (power : List ℕ) (worth : Weight) : Type 0 where

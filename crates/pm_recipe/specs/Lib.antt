@@ -11,9 +11,11 @@ pub mod Colon
 pub mod Front
 pub mod Spans
 pub mod Item
+pub mod Ends
 pub mod Reads
 pub mod Build
 pub mod Builder
+pub mod Steps
 pub mod Refusal
 pub mod Words
 pub mod Opens

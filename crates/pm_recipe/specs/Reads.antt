@@ -1,7 +1,7 @@
 -- What the code reads out of a span.
-use Rattle.std.specs.Prelude.{ℕ, List, [], ◌∷◌, codes}
+use Rattle.std.specs.Prelude.{ℕ, List, [], ◌∷◌}
 use Rattle.pm_recipe.specs.declared.fronts.Kind.{Kind}
-use Rattle.pm_recipe.specs.declared.fronts.Kind.TheVariants.{Gap, Colon, Condition, Mailbox, Pipe, WriteOut, Capture, Forward, Open, TooDeep, Close, Assign, Unset, Skipped, Missing}
+use Rattle.pm_recipe.specs.declared.fronts.Kind.TheVariants.{Gap, Colon, Condition, Mailbox, Pipe, WriteOut, Capture, Forward, Open, TooDeep, Close, Assign, Unset, Skipped}
 use Rattle.pm_recipe.specs.declared.places.Place.TheVariants.{Blanks}
 use Rattle.pm_recipe.specs.declared.building.Head.{Head}
 use Rattle.pm_recipe.specs.Places.{behind}
@@ -21,10 +21,6 @@ head_of line text = record { line = line; text = text; flags = flags_of (flags_p
 abbrev pub program_line : List ℕ → List ℕ
 program_line text = behind Blanks (unjoined text)
 
--- what a defect tells where braces are missing
-abbrev pub missing : List ℕ
-missing = codes "missing }"
-
 -- what a span says
 abbrev pub item_of : Span → Kind → Item
 item_of span Gap = Nothing
@@ -41,7 +37,6 @@ item_of span Close = Closes
 item_of span Assign = States (tree.Assign (unjoined span.name) span.text)
 item_of span Unset = States (tree.Unset (unjoined span.name))
 item_of span Skipped = States (tree.Defect span.line span.text)
-item_of span Missing = States (tree.Defect span.line missing)
 
 -- what spans say
 abbrev pub items_of : List Span → List Item

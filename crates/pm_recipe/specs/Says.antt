@@ -3,7 +3,7 @@ use Rattle.std.specs.Prelude.{ℕ, List, [], ◌∷◌, ◌++◌, ◌≡◌, Boo
 use Rattle.pm_bytes.specs.Alphabet.{COLON}
 use Rattle.pm_bytes.specs.Letter.{is_blank_byte}
 use Rattle.pm_recipe.specs.declared.fronts.Kind.{Kind}
-use Rattle.pm_recipe.specs.declared.fronts.Kind.TheVariants.{Gap, Colon, Condition, Mailbox, Pipe, WriteOut, Capture, Forward, Open, TooDeep, Close, Assign, Unset, Skipped, Missing}
+use Rattle.pm_recipe.specs.declared.fronts.Kind.TheVariants.{Gap, Colon, Condition, Mailbox, Pipe, WriteOut, Capture, Forward, Open, TooDeep, Close, Assign, Unset, Skipped}
 use Rattle.pm_recipe.specs.Bytes.{begins_with, is_flag_letter}
 use Rattle.pm_recipe.specs.Joins.{unjoined}
 use Rattle.pm_recipe.specs.Words.{IsRun, AreBlanks}
@@ -11,7 +11,6 @@ use Rattle.pm_recipe.specs.Quotes.{IsValue}
 use Rattle.pm_recipe.specs.Colon.{ends_statement, flags_of}
 use Rattle.pm_recipe.specs.declared.tree.Condition.{Condition as Judged}
 use Rattle.pm_recipe.specs.Conditions.{IsCondition}
-use Rattle.pm_recipe.specs.Reads.{missing}
 use Rattle.pm_recipe.specs.Spells.{IsHead, IsLockHead}
 use Rattle.pm_recipe.specs.Spans.{Span}
 use Rattle.pm_recipe.specs.Tree as tree
@@ -89,7 +88,6 @@ Says span Close item = item ≡ Closes
 Says span Assign item = item ≡ States (tree.Assign (unjoined span.name) span.text)
 Says span Unset item = item ≡ States (tree.Unset (unjoined span.name))
 Says span Skipped item = item ≡ States (tree.Defect span.line span.text)
-Says span Missing item = item ≡ States (tree.Defect span.line missing)
 
 -- what spans say, each in its place
 abbrev pub AllSay : List Span → List Item → Type 0

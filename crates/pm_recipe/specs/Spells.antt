@@ -3,7 +3,7 @@ use Rattle.std.specs.Prelude.{ℕ, ◌+◌, ◌≤◌, ◌<◌, List, [], ◌∷
 use Rattle.pm_bytes.specs.Letter.{is_name_start, is_space_byte}
 use Rattle.pm_recipe.specs.Bytes.{begins_with}
 use Rattle.pm_recipe.specs.Front.{ends_name, most_blocks}
-use Rattle.pm_recipe.specs.Spans.{Span, newlines, situation_after, closings}
+use Rattle.pm_recipe.specs.Spans.{Span, newlines, situation_after}
 use Rattle.pm_recipe.specs.Words.{IsLine, AreBlanks, IsName, AreJoins, AreWords, in_flags, IsRest, IsTail}
 use Rattle.pm_recipe.specs.Quotes.{IsValue}
 use Rattle.pm_bytes.specs.Alphabet.{NEWLINE, HASH, STAR, OPEN_BRACE, CLOSE_BRACE, COLON, EQUALS, BAR, BANG, BACKSLASH, ZERO}
@@ -153,13 +153,13 @@ IsCut line situation [] text = text ≡ []
 IsCut line situation (piece ∷ pieces) text =
     (behind : List ℕ) × (text ≡ piece.bytes ++ behind) × (piece.span.line ≡ line) × (0 < length piece.bytes)
     × Spells situation piece.span.kind piece.span.name piece.span.text piece.bytes behind
-    × IsCut (line + newlines piece.bytes) (situation_after piece.span.kind line situation) pieces behind
+    × IsCut (line + newlines piece.bytes) (situation_after piece.span.kind situation) pieces behind
 
 -- the situation behind pieces
 abbrev pub end_of : Situation → List Piece → Situation
 end_of situation [] = situation
-end_of situation (piece ∷ pieces) = end_of (situation_after piece.span.kind piece.span.line situation) pieces
+end_of situation (piece ∷ pieces) = end_of (situation_after piece.span.kind situation) pieces
 
--- the spans of pieces from a situation on, with the ends of the blocks that are open behind them
-abbrev pub spans_from : Situation → List Piece → List Span
-spans_from situation pieces = map (λ piece. piece.span) pieces ++ closings (end_of situation pieces)
+-- the spans of pieces
+abbrev pub spans_of : List Piece → List Span
+spans_of pieces = map (λ piece. piece.span) pieces

@@ -63,7 +63,7 @@ has_weight text =
 
 -- an exponent that is minus nothing but zeros is zero
 abbrev pub exponent_value : List ℕ → Option ℕ
-exponent_value text = number_within (if begins_with MINUS text then 0 else 1) (digits_of text)
+exponent_value text = number_within (if begins_with MINUS text then 0 else 2147483647) (digits_of text)
 
 -- the weight at the front of a text, if there is one
 abbrev pub weight_at : List ℕ → Weight

@@ -15,6 +15,9 @@ use std::alloc::Global;
 // The greatest absolute value of a weight.
 const MOST_WEIGHT: u64 = 2_147_483_647;
 
+// The greatest exponent of a weight.
+const MOST_EXPONENT: u64 = 2_147_483_647;
+
 fn sum_of_digits(most: u64, text: &[u8]) -> Option<u64>
     requires { most < 2 ^ 32 }
     ensures value { result ≡ (if nat_lt most (digits_value 0 text.now) then None else Some (digits_value 0 text.now)) }
@@ -96,12 +99,12 @@ fn is_weighted(text: &[u8]) -> bool
 
 fn exponent_number(text: &[u8]) -> Option<u64>
     ensures value { result ≡ exponent_value text.now }
-    ensures bound { IfSome result (λ x. x ≤ 1) }
+    ensures bound { IfSome result (λ x. x ≤ 2147483647) }
 {
     if starts_with(MINUS, text) {
         number_in(0, digits_in(text))
     } else {
-        number_in(1, digits_in(text))
+        number_in(MOST_EXPONENT, digits_in(text))
     }
 }
 
@@ -118,7 +121,7 @@ fn signed(negative: bool, number: u64) -> i32
 
 fn weight_by(negative: bool, w: Option<u64>, x: Option<u64>) -> Weight
     requires w { IfSome w (λ number. number ≤ most_weight) }
-    requires x { IfSome x (λ number. number ≤ 1) }
+    requires x { IfSome x (λ number. number ≤ 2147483647) }
     ensures { result ≡ weight_of negative w x }
 {
     match w {

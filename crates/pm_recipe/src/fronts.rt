@@ -10,7 +10,7 @@ use crate::names::statement_at;
 use crate::newlines::line_end;
 use pm_bytes::{BACKSLASH, CLOSE_BRACE, COLON, HASH, NEWLINE, is_space};
 
-/// What a span is. `Missing` stands where the text ends inside blocks.
+/// What a span is.
 #[derive(Clone, Copy)]
 pub enum Kind {
     Gap,
@@ -27,7 +27,6 @@ pub enum Kind {
     Assign,
     Unset,
     Skipped,
-    Missing,
 }
 
 /// The front of a text: a name of `mid` bytes, and a text from `from` to `to`. It takes `taken` bytes.
@@ -40,15 +39,11 @@ pub struct Front {
     pub taken: usize,
 }
 
-/// How many blocks are open, whether a recipe has begun, the lines of its colon line and of the outermost block's,
-/// and whether the reading has stopped.
+/// How many blocks are open, and whether a recipe has begun.
 #[derive(Clone, Copy)]
 pub struct Situation {
     pub depth: usize,
     pub in_recipe: bool,
-    pub colon: u64,
-    pub outermost: u64,
-    pub stopped: bool,
 }
 
 // As many blocks may be nested.
@@ -106,55 +101,31 @@ pub fn front_at(known: &[bool], situation: &Situation, text: &[u8]) -> Front
     }
 }
 
-fn with_statements(situation: Situation, depth: usize, stopped: bool) -> Situation
-    ensures { result ≡ in_statements situation depth stopped }
+/// Where a statement can follow, in so many blocks.
+pub fn statements_in(depth: usize) -> Situation
+    ensures { result ≡ in_statements depth }
 {
     Situation {
         depth,
         in_recipe: false,
-        colon: situation.colon,
-        outermost: situation.outermost,
-        stopped,
     }
 }
 
 /// The situation behind a span of this kind.
-pub fn situation_behind(kind: Kind, line: u64, situation: Situation) -> Situation
+pub fn situation_behind(kind: Kind, situation: Situation) -> Situation
     requires { situation.depth < 2 ^ 63 }
-    ensures after { result ≡ situation_after kind line situation }
+    ensures after { result ≡ situation_after kind situation }
     ensures bound { result.depth ≤ situation.depth + 1 }
 {
-    let Situation {
-        depth,
-        in_recipe,
-        colon,
-        outermost,
-        stopped,
-    } = situation;
+    let depth = situation.depth;
     match kind {
-        Kind::Gap | Kind::Condition => Situation {
-            depth,
-            in_recipe,
-            colon,
-            outermost,
-            stopped,
-        },
+        Kind::Gap | Kind::Condition => situation,
         Kind::Colon => Situation {
             depth,
             in_recipe: true,
-            colon: line,
-            outermost,
-            stopped,
         },
-        Kind::Open => Situation {
-            depth: depth + 1,
-            in_recipe: false,
-            colon,
-            outermost: if depth == 0 { colon } else { outermost },
-            stopped,
-        },
-        Kind::TooDeep => with_statements(situation, depth, true),
-        Kind::Close => with_statements(situation, depth.saturating_sub(1), stopped),
-        _ => with_statements(situation, depth, stopped),
+        Kind::Open => statements_in(depth + 1),
+        Kind::Close => statements_in(depth.saturating_sub(1)),
+        _ => statements_in(depth),
     }
 }

@@ -1,12 +1,15 @@
 //! Laws on the reading of an rcfile, in the words of the language.
-ghost use Rattle.std.specs.Prelude.{List, ℕ, ◌≡◌, ◌++◌, Bool, Option, Some, None, false};
-ghost use Rattle.pm_bytes.specs.Alphabet.{COLON};
+ghost use Rattle.std.specs.Prelude.{List, ℕ, ◌≡◌, ◌++◌, Bool, Option, Some, None, false, true, ◌∷◌};
+ghost use Rattle.pm_bytes.specs.Alphabet.{COLON, BACKSLASH, NEWLINE};
+ghost use Rattle.pm_bytes.specs.Letter.{is_blank_byte};
+ghost use Rattle.pm_recipe.specs.Conditions.{are_blank};
+ghost use Rattle.pm_recipe.specs.Joins.{unjoined, unindented};
 ghost use Rattle.pm_recipe.specs.Bytes.{begins_with};
 ghost use Rattle.pm_recipe.specs.Colon.{lock_of, flags_part, has_junk};
 ghost use Rattle.pm_recipe.specs.Quotes.{IsValue};
 ghost use Rattle.pm_recipe.specs.Spells.{IsCut, Piece, IsHead, IsLockHead};
 ghost use Rattle.pm_recipe.specs.Says.{IsColonText};
-ghost use Rattle.pm_recipe.specs.Spans.{start};
+ghost use Rattle.pm_recipe.specs.Spans.{start, newlines};
 ghost use Rattle.pm_recipe.specs.Tree.{Trees};
 ghost use Rattle.pm_recipe.specs.Rc.{IsRc};
 ghost use Rattle.pm_recipe.specs.Listed.{rc_of};
@@ -37,4 +40,16 @@ pub fn colon_line_law()
 /// Each letter sets its flag.
 pub fn letters_law()
     ensures { AreLetters }
+{}
+
+/// In joined lines a backslash before a newline is gone, and that newline; other bytes stay. In a condition's line the
+/// blanks behind it are gone too.
+pub fn joins_law()
+    ensures joined { (front rest : List ℕ) → newlines front ≡ 0
+        → unjoined (front ++ (BACKSLASH ∷ (NEWLINE ∷ rest))) ≡ front ++ unjoined rest }
+    ensures plain { (text : List ℕ) → newlines text ≡ 0 → unjoined text ≡ text }
+    ensures unindented { (front blanks : List ℕ) (byte : ℕ) (rest : List ℕ) → newlines front ≡ 0 → are_blank blanks ≡ true
+        → is_blank_byte byte ≡ false → unindented (front ++ (BACKSLASH ∷ (NEWLINE ∷ (blanks ++ (byte ∷ rest)))))
+        ≡ front ++ unindented (byte ∷ rest) }
+    ensures unindented_plain { (text : List ℕ) → newlines text ≡ 0 → unindented text ≡ text }
 {}

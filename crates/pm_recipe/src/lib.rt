@@ -5,6 +5,7 @@ mod building;
 mod bytes;
 mod colon_line;
 mod conditions;
+mod ends;
 mod fronts;
 mod joins;
 mod laws;
@@ -16,7 +17,7 @@ mod quotes;
 mod reader;
 mod tree;
 
-pub use laws::{colon_line_law, letters_law, one_cut, one_rc};
+pub use laws::{colon_line_law, joins_law, letters_law, one_cut, one_rc};
 pub use reader::{RcRefused, read_rc};
 pub use tree::{
     Action, Condition, Flags, Rc, Recipe, Statement, Statements, Weight, copy_statements,

@@ -1,6 +1,6 @@
 //! Which words leave a quote open: found once for all words of a text, from its end on, so that a text in which many
 //! words do is read in time that grows with its length.
-ghost use Rattle.std.specs.Prelude.{◌≡◌, IfOk};
+ghost use Rattle.std.specs.Prelude.{◌≡◌, ◌+◌, IfOk, length};
 ghost use Rattle.pm_recipe.specs.Opens.{Knows, word_before, double_before, backquote_before, inner_before, is_open};
 ghost use Rattle.pm_recipe.specs.Opens.{opens_before};
 ghost use Rattle.pm_recipe.specs.Colon.{is_unclosed};
@@ -111,7 +111,8 @@ fn opens_at(byte: u8, next: Opens) -> Opens
 
 /// For each end of a text, by its length, whether a word that begins there leaves a quote open.
 pub fn open_words(alloc: Global, text: &[u8]) -> Result<Vec<bool>, Memory>
-    ensures { IfOk result (λ known. Knows known.items text.now) }
+    ensures all { IfOk result (λ known. length known.items ≡ length text.now + 1) }
+    ensures knows { IfOk result (λ known. Knows known.items text.now) }
 {
     let mut here = Opens {
         word: false,

@@ -4,12 +4,12 @@ ghost use Rattle.pm_recipe.specs.Refusal.{IsRefusal, most_length};
 ghost use Rattle.pm_recipe.specs.Rc.{IsRc};
 ghost use Rattle.pm_recipe.specs.Listed.{rc_of};
 ghost use Rattle.pm_recipe.specs.Opens.{Knows};
-ghost use Rattle.pm_recipe.specs.Reads.{items_of};
-ghost use Rattle.pm_recipe.specs.Spans.{closings, missed};
-ghost use Rattle.pm_recipe.specs.Builder.{built_of, whole, Suits};
+ghost use Rattle.pm_recipe.specs.Ends.{Blocks, closings};
+ghost use Rattle.pm_recipe.specs.Builder.{built_of, whole, Stands};
 
 use crate::building::Builder;
-use crate::fronts::{Kind, Situation, front_at, situation_behind};
+use crate::ends::{Unended, none_unended, tell_missing, unended_behind};
+use crate::fronts::{Kind, front_at, situation_behind, statements_in};
 use crate::newlines::newlines_in;
 use crate::quotes::open_words;
 use crate::tree::{Rc, Statements};
@@ -55,13 +55,8 @@ fn read_statements(alloc: Global, bytes: &[u8]) -> Result<Statements, Memory>
     ensures { IfOk result (λ statements. statements ≡ rc_of bytes.now) }
 {
     let mut builder = Builder::new(alloc);
-    let mut situation = Situation {
-        depth: 0,
-        in_recipe: false,
-        colon: 0,
-        outermost: 0,
-        stopped: false,
-    };
+    let mut situation = statements_in(0);
+    let mut unended = none_unended();
     let mut known = Vec::new(alloc);
     let mut line = 1;
     let mut at = 0;
@@ -75,11 +70,12 @@ fn read_statements(alloc: Global, bytes: &[u8]) -> Result<Statements, Memory>
             &rest[..front.mid],
             &rest[front.from..front.to],
         )?;
-        situation = situation_behind(front.kind, line, situation);
+        unended = unended_behind(front.kind, line, situation, unended);
+        situation = situation_behind(front.kind, situation);
         line += newlines_in(&rest[..front.taken]);
         at += front.taken;
     }
-    finish(builder, situation)
+    finish(builder, situation.depth, unended)
 }
 
 // The first text that isn't understood may have a quote that isn't closed: from then on it is known which words do.
@@ -101,29 +97,19 @@ fn is_skipped(kind: Kind) -> bool {
     }
 }
 
-// The statements where the text ends.
-fn finish(builder: Builder, situation: Situation) -> Result<Statements, Memory>
-    requires { Suits builder situation }
-    ensures { IfOk result (λ statements. statements ≡ whole (built_of builder) (items_of (closings situation))) }
+// The statements where the text ends: the open blocks end, and it's told that their braces are missing.
+fn finish(builder: Builder, depth: usize, unended: Unended) -> Result<Statements, Memory>
+    requires { length builder.levels.items ≡ depth }
+    ensures { IfOk result (λ statements. (blocks : Blocks) → Stands unended depth blocks
+        → statements ≡ whole (built_of builder) (closings depth blocks)) }
 {
     let mut builder = builder;
-    let mut depth = situation.depth;
-    while depth > 0 {
-        builder.take(Kind::Close, situation.outermost, b"", b"")?;
-        depth -= 1;
+    let mut open = depth;
+    while open > 0 {
+        builder.close()?;
+        open -= 1;
     }
-    miss(&mut builder, situation)?;
-    builder.end()
-}
-
-fn miss(builder: &mut Builder, situation: Situation) -> Result<(), Memory>
-    requires { length builder.old.levels.items ≡ 0 }
-    ensures levels { IfOk result (λ _. length builder.new.levels.items ≡ 0) }
-    ensures whole { IfOk result (λ _. whole (built_of builder.new) []
-        ≡ whole (built_of builder.old) (items_of (missed situation))) }
-{
-    if situation.depth > 0 && !situation.stopped {
-        builder.take(Kind::Missing, situation.outermost, b"", b"")?;
-    }
-    Ok(())
+    tell_missing(&mut builder, depth, unended)?;
+    let statements = builder.end()?;
+    Ok(statements)
 }

@@ -1,7 +1,7 @@
 //! The statements of an rcfile, and copies of them.
 ghost use Rattle.std.specs.Prelude.{◌≡◌, IfOk, OnErr, [], ◌++◌, ◌∷◌};
 ghost use Rattle.pm_recipe.specs.Tree.{Trees, nil, cons, ◌⧺◌};
-ghost use Rattle.pm_recipe.specs.View.{tree_of, act_of, trees_of};
+ghost use Rattle.pm_recipe.specs.View.{tree_of, act_of, top_of, trees_of};
 
 use pm_bytes::{Blob, Memory};
 use std::alloc::Global;
@@ -180,6 +180,31 @@ impl Statements {
     }
 }
 
+impl Recipe {
+    /// The flags, the lock and the conditions of the recipe with another action.
+    pub fn copy_head(&self, alloc: Global, action: Action) -> Result<Recipe, Memory>
+        ensures top { IfOk result (λ copy. top_of copy ≡ top_of self.now) }
+        ensures action { IfOk result (λ copy. copy.action ≡ action) }
+    {
+        Ok(Recipe {
+            flags: self.flags,
+            lock: copy_lock(alloc, &self.lock)?,
+            conditions: copy_conditions(alloc, &self.conditions)?,
+            action,
+        })
+    }
+
+    /// An equal recipe.
+    #[cycle(copy)]
+    pub fn copy(&self, alloc: Global) -> Result<Recipe, Memory>
+        ensures top { IfOk result (λ copy. top_of copy ≡ top_of self.now) }
+        ensures action { IfOk result (λ copy. act_of copy.action ≡ act_of self.now.action) }
+    {
+        let action = copy_action(alloc, &self.action)?;
+        self.copy_head(alloc, action)
+    }
+}
+
 #[cycle(copy)]
 fn copy_statement(alloc: Global, statement: &Statement) -> Result<Statement, Memory>
     ensures { IfOk result (λ copy. tree_of copy ≡ tree_of statement.now) }
@@ -192,12 +217,7 @@ fn copy_statement(alloc: Global, statement: &Statement) -> Result<Statement, Mem
         Statement::Unset { name } => Ok(Statement::Unset {
             name: name.copy(alloc)?,
         }),
-        Statement::Recipe(recipe) => Ok(Statement::Recipe(Recipe {
-            flags: recipe.flags,
-            lock: copy_lock(alloc, &recipe.lock)?,
-            conditions: copy_conditions(alloc, &recipe.conditions)?,
-            action: copy_action(alloc, &recipe.action)?,
-        })),
+        Statement::Recipe(recipe) => Ok(Statement::Recipe(recipe.copy(alloc)?)),
         Statement::Defect { line, text } => Ok(Statement::Defect {
             line: *line,
             text: text.copy(alloc)?,

@@ -1,10 +1,13 @@
 use Rattle.std.proofs.Common.{◌≡◌, ◌+◌, ap, sym, ◌∙◌, arith, List, ℕ, slice_range, length, length-drop, drop, subst, rules}
 use Rattle.std.proofs.lemmas.List.{length-take}
+use Rattle.pm_recipe.specs.Spans.{span_of}
+use Rattle.pm_recipe.proofs.Steps.{suits-after}
+use Rattle.pm_recipe.specs.Build.{ahead_of}
 use Rattle.pm_recipe.specs.Builder.{whole, built_of}
-use Rattle.pm_recipe.specs.Reads.{items_of}
+use Rattle.pm_recipe.specs.Ends.{blocks_after, no_blocks}
 use Rattle.pm_recipe.proofs.Cut.{range-to_end}
 use Rattle.pm_recipe.specs.Opens.{Knows}
-use Rattle.pm_recipe.proofs.Pieces.{spans, turned}
+use Rattle.pm_recipe.proofs.Pieces.{items_at, turned}
 use Rattle.pm_recipe.proofs.OpenWords.{knows-drop, knows-none}
 use Rattle.pm_recipe.proofs.reader.read_statements.Goals as goal
 
@@ -14,18 +17,26 @@ loop-at-preserved c =
     let at = c.loop-at.at in
     let here : List ℕ = slice_range text at (length text) in
     let here_is : drop at text ≡ here = sym (range-to_end text at) in
+    let front = c.front_at-front.result in
     let within = c.front_at-front.ensures.within in
-    let more = spans (c.loop-at.line + c.newlines_in-line.result) c.situation_behind-situation.result (drop (at + c.front_at-front.result.taken) text) in
+    let situation = c.situation_behind-situation.result in
+    let old = c.loop-at.invariant.goes_on in
+    let blocks = blocks_after front.kind c.loop-at.line old.0 in
     record {
       knows = c.in_ok-learn.ensures;
       within = omega (arith, length-drop at text, within.taken);
-      line = omega (arith, c.newlines_in-line.ensures.within, length-take c.front_at-front.result.taken here, c.loop-at.invariant.line);
+      line = omega (arith, c.newlines_in-line.ensures.within, length-take front.taken here, c.loop-at.invariant.line);
       depth = omega (arith, c.situation_behind-situation.ensures.bound, within.some);
-      suits = rw c.situation_behind-situation.ensures.after (c.in_ok-take.ensures.suits c.loop-at.situation c.loop-at.invariant.suits);
-      goes_on = c.in_ok-take.ensures.whole (items_of more)
-          ∙ ap (λ ss. whole (built_of c.loop-at.builder) (items_of ss)) (sym (turned c.loop-at.line c.loop-at.situation text at here c.front_at-front.result _ _
-          c.loop-at-test.true here_is c.front_at-front.ensures.front within.some (ap (λ n. c.loop-at.line + n) c.newlines_in-line.ensures.count) c.situation_behind-situation.ensures.after))
-          ∙ c.loop-at.invariant.goes_on;
+      suits = rw c.situation_behind-situation.ensures.after (suits-after _ _ (span_of front c.loop-at.line here) front.kind c.loop-at.situation c.in_ok-take.ensures c.loop-at.invariant.suits);
+      goes_on = (
+        blocks,
+        rw c.situation_behind-situation.ensures.after (c.unended_behind-unended.ensures old.0 old.1),
+        c.in_ok-take.ensures.built (ahead_of (items_at (c.loop-at.line + c.newlines_in-line.result) situation blocks (drop (at + front.taken) text)))
+            ∙ ap (λ is. whole (built_of c.loop-at.builder) is) (sym (turned c.loop-at.line c.loop-at.situation old.0 text at here front _ _
+            c.loop-at-test.true here_is c.front_at-front.ensures.front (ap (λ n. c.loop-at.line + n) c.newlines_in-line.ensures.count)
+            c.situation_behind-situation.ensures.after))
+            ∙ old.2,
+      );
     }
 
 pub front_at-front-requires-clause-knows : goal.front_at-front-requires-clause-knows
@@ -38,7 +49,7 @@ loop-at-init c = record {
   knows = knows-none c.new-known.result.items c.args.bytes.now c.new-known.ensures.items;
   within = omega arith;
   line = omega arith;
-  depth = omega arith;
+  depth = rw c.statements_in-situation.ensures (omega arith);
   suits = search rules;
-  goes_on = search rules;
+  goes_on = (no_blocks, rw c.statements_in-situation.ensures c.none_unended-unended.ensures, search rules);
 }

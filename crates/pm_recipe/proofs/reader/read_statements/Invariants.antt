@@ -1,10 +1,10 @@
 use Rattle.std.proofs.Common.{◌≡◌, ◌≤◌, ◌+◌, ◌-◌, length, drop}
 use Rattle.pm_recipe.specs.Build.{tree_of_items}
-use Rattle.pm_recipe.specs.Reads.{items_of}
-use Rattle.pm_recipe.specs.Builder.{whole, built_of, Suits}
+use Rattle.pm_recipe.specs.Builder.{whole, built_of, Suits, Stands}
+use Rattle.pm_recipe.specs.Ends.{Blocks, no_blocks}
 use Rattle.pm_recipe.specs.Spans.{start}
 use Rattle.pm_recipe.specs.Opens.{Knows}
-use Rattle.pm_recipe.proofs.Pieces.{spans}
+use Rattle.pm_recipe.proofs.Pieces.{items_at}
 use Rattle.pm_recipe.proofs.reader.read_statements.Given as goal
 
 abbrev pub invariant-loop-at : goal.invariant-loop-at
@@ -14,7 +14,8 @@ invariant-loop-at l = record {
   line : l.line ≤ l.at + 1;
   depth : l.situation.depth ≤ l.at;
   suits : Suits l.builder l.situation;
-  goes_on : whole (built_of l.builder) (items_of (spans l.line l.situation (drop l.at l.bytes))) ≡ tree_of_items (items_of (spans 1 start l.bytes));
+  goes_on : (blocks : Blocks) × Stands l.unended l.situation.depth blocks
+      × (whole (built_of l.builder) (items_at l.line l.situation blocks (drop l.at l.bytes)) ≡ tree_of_items (items_at 1 start no_blocks l.bytes));
 }
 
 abbrev pub decreases-loop-at : goal.decreases-loop-at
