@@ -71,7 +71,7 @@ fn run(rt: &HostRuntime) -> Result<(), Refused> {
 
 fn search(rt: &HostRuntime, task: &str, text: &[u8], area: &[u8]) -> Result<(), Refused> {
     let expr = read(rt.alloc(), text)?;
-    let mut engine = Engine::build(rt.alloc(), &expr, true)?;
+    let mut engine = Engine::build(rt.alloc(), expr, true)?;
     match task {
         "none" => {
             println!(rt; "not searched")?;

@@ -8,6 +8,7 @@ pub mod RangeLemmas
 pub mod RangeCases
 pub mod StackLemmas
 pub mod LabelLemmas
+pub mod LineLemmas
 pub mod TableLemmas
 pub mod EdgeLemmas
 pub mod CloseLemmas
@@ -22,3 +23,4 @@ pub mod FinalLemmas
 pub mod Deciding
 pub mod MatchOrNot
 pub mod FoundOrNot
+pub mod CountOf

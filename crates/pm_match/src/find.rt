@@ -2,18 +2,19 @@
 ghost use Rattle.std.specs.Prelude.{◌≡◌, ℕ, Bool, ◌+◌, ◌^◌, ◌*◌, IsTrue, IfSome, ◌<◌, ◌≤◌, ◌⊎◌, length, vec_len};
 ghost use Rattle.std.specs.Prelude.{slice_get, Some, None, Option};
 ghost use Rattle.pm_regex.specs.Re.{Re};
-ghost use Rattle.pm_match.specs.Automaton.{Built};
+ghost use Rattle.pm_match.specs.Automata.{AreWhole, Fits};
+ghost use Rattle.pm_match.specs.Search.{IsProgram};
 ghost use Rattle.pm_match.specs.Labels.{rank, NoneBefore, Below, InRange, IsClosed};
 ghost use Rattle.pm_match.specs.Finding.{IsBestBefore, IsFirst, IsHeld, IsArrived, LeftSeed, RightSeed, Opens};
 ghost use Rattle.pm_match.specs.Finding.{right_seed};
-ghost use Rattle.pm_match.specs.Starts.{HaveAllBytes, IsExcluded, AreStarts};
+ghost use Rattle.pm_match.specs.Starts.{HaveAllBytes, IsExcluded};
 
 use crate::advancing::advance;
+use crate::automata::{Automata, Room};
 use crate::build::Program;
 use crate::closing::reach;
 use crate::labels::{Label, Labels, clear, none_before, none_through};
 use crate::starts::{Starts, go_on, is_ruled_out};
-use crate::step::Step;
 use std::mem;
 
 /// Where a match stands.
@@ -77,43 +78,34 @@ fn open(program: &Program, labels: &mut Labels, area: &[u8], place: usize, seed:
 
 /// Begins runs of both parts here, and gives the label with which the right part ends here.
 fn visit(
-    starts: &Option<Starts>,
-    left: &Program,
-    right: &Program,
-    left_labels: &mut Labels,
-    right_labels: &mut Labels,
+    automata: &Automata,
+    room: &mut Room,
     area: &[u8],
     from: usize,
     place: usize,
 ) -> Option<Label>
-    requires starts { AreStarts left.now.steps.items left.now.entry left.now.exit starts.now }
-    requires left_range { InRange left.now.steps.items }
-    requires left_len { vec_len left_labels.old.of ≡ length left.now.steps.items }
-    requires left_entry { left.now.entry < vec_len left_labels.old.of }
-    requires left_exit { left.now.exit < vec_len left_labels.old.of }
-    requires right_range { InRange right.now.steps.items }
-    requires right_len { vec_len right_labels.old.of ≡ length right.now.steps.items }
-    requires right_entry { right.now.entry < vec_len right_labels.old.of }
-    requires right_exit { right.now.exit < vec_len right_labels.old.of }
+    requires automata { AreWhole automata.now }
+    requires room { Fits automata.now room.old }
     requires from { from ≤ place }
     requires place { place ≤ length area.now }
-    requires left_arrived { IsArrived left.now.steps.items area.now left.now.entry
-        (LeftSeed left.now.steps.items area.now left.now.entry left.now.exit from) place left_labels.old.of.items }
-    requires right_arrived { IsArrived right.now.steps.items area.now right.now.entry
-        (RightSeed left.now.steps.items area.now left.now.entry left.now.exit from) place right_labels.old.of.items }
-    ensures left_held { IsHeld left.now.steps.items area.now left.now.entry
-        (LeftSeed left.now.steps.items area.now left.now.entry left.now.exit from) place left_labels.new.of.items }
-    ensures right_held { IsHeld right.now.steps.items area.now right.now.entry
-        (RightSeed left.now.steps.items area.now left.now.entry left.now.exit from) place right_labels.new.of.items }
-    ensures left_kept { vec_len left_labels.new.of ≡ vec_len left_labels.old.of }
-    ensures right_kept { vec_len right_labels.new.of ≡ vec_len right_labels.old.of }
-    ensures met { slice_get right_labels.new.of.items right.now.exit ≡ Some result }
+    requires left_arrived { let left = automata.now.left in IsArrived left.steps.items area.now left.entry
+        (LeftSeed left.steps.items area.now left.entry left.exit from) place room.old.left.of.items }
+    requires right_arrived { let left = automata.now.left in
+        IsArrived automata.now.right.steps.items area.now automata.now.right.entry
+        (RightSeed left.steps.items area.now left.entry left.exit from) place room.old.right.of.items }
+    ensures left_held { let left = automata.now.left in IsHeld left.steps.items area.now left.entry
+        (LeftSeed left.steps.items area.now left.entry left.exit from) place room.new.left.of.items }
+    ensures right_held { let left = automata.now.left in
+        IsHeld automata.now.right.steps.items area.now automata.now.right.entry
+        (RightSeed left.steps.items area.now left.entry left.exit from) place room.new.right.of.items }
+    ensures room { Fits automata.now room.new }
+    ensures met { slice_get room.new.right.of.items automata.now.right.exit ≡ Some result }
 {
-    let begin = left_seed(starts, area, place);
-    open(left, left_labels, area, place, begin);
-    let seed = seed_of(left_labels.of[left.exit], place);
-    open(right, right_labels, area, place, seed);
-    right_labels.of[right.exit]
+    let begin = left_seed(&automata.starts, area, place);
+    open(&automata.left, &mut room.left, area, place, begin);
+    let seed = seed_of(room.left.of[automata.left.exit], place);
+    open(&automata.right, &mut room.right, area, place, seed);
+    room.right.of[automata.right.exit]
 }
 
 /// The label with which the left part begins, if the tables allow that here.
@@ -170,68 +162,46 @@ fn is_final(best: Option<Match>, left_labels: &Labels, right_labels: &Labels) ->
 }
 
 /// The first match from a place on: the least start, for it the least cut, and for both the greatest end.
-pub fn find(
-    starts: &Option<Starts>,
-    left: &Program,
-    right: &Program,
-    left_labels: &mut Labels,
-    left_next: &mut Labels,
-    right_labels: &mut Labels,
-    right_next: &mut Labels,
-    area: &[u8],
-    from: usize,
-) -> Option<Match>
-    requires starts { AreStarts left.now.steps.items left.now.entry left.now.exit starts.now }
-    requires left_range { InRange left.now.steps.items }
-    requires left_len { vec_len left_labels.old.of ≡ length left.now.steps.items }
-    requires left_next_len { vec_len left_next.old.of ≡ length left.now.steps.items }
-    requires left_entry { left.now.entry < vec_len left_labels.old.of }
-    requires left_exit { left.now.exit < vec_len left_labels.old.of }
-    requires right_range { InRange right.now.steps.items }
-    requires right_len { vec_len right_labels.old.of ≡ length right.now.steps.items }
-    requires right_next_len { vec_len right_next.old.of ≡ length right.now.steps.items }
-    requires right_entry { right.now.entry < vec_len right_labels.old.of }
-    requires right_exit { right.now.exit < vec_len right_labels.old.of }
+pub fn find(automata: &Automata, room: &mut Room, area: &[u8], from: usize) -> Option<Match>
+    requires automata { AreWhole automata.now }
+    requires room { Fits automata.now room.old }
     requires from { from ≤ length area.now }
-    ensures left_labels { vec_len left_labels.new.of ≡ length left.now.steps.items }
-    ensures left_next { vec_len left_next.new.of ≡ length left.now.steps.items }
-    ensures right_labels { vec_len right_labels.new.of ≡ length right.now.steps.items }
-    ensures right_next { vec_len right_next.new.of ≡ length right.now.steps.items }
-    ensures first { (fold : Bool) (l r : Re) → Built fold left.now.steps.items l left.now.entry left.now.exit
-        → slice_get left.now.steps.items left.now.exit ≡ Some Step.Stop
-        → Built fold right.now.steps.items r right.now.entry right.now.exit
-        → slice_get right.now.steps.items right.now.exit ≡ Some Step.Stop
+    ensures room { Fits automata.now room.new }
+    ensures first { (fold : Bool) (l r : Re) → IsProgram automata.now.left l fold → IsProgram automata.now.right r fold
         → IsFirst fold l r area.now from result }
 {
     let mut best = None;
     let mut base = from;
     let mut place = from;
-    clear(left_labels);
-    clear(right_labels);
+    clear(&mut room.left);
+    clear(&mut room.right);
     while place < area.len() {
-        let met = visit(
-            starts,
-            left,
-            right,
-            left_labels,
-            right_labels,
-            area,
-            base,
-            place,
-        );
+        let met = visit(automata, room, area, base, place);
         best = better(best, met, place);
-        if is_final(best, left_labels, right_labels) {
+        if is_final(best, &room.left, &room.right) {
             return best;
         }
-        advance(&left.steps, left_labels, left_next, area, place);
-        mem::swap(left_labels, left_next);
-        advance(&right.steps, right_labels, right_next, area, place);
-        mem::swap(right_labels, right_next);
+        advance(
+            &automata.left.steps,
+            &room.left,
+            &mut room.left_next,
+            area,
+            place,
+        );
+        mem::swap(&mut room.left, &mut room.left_next);
+        advance(
+            &automata.right.steps,
+            &room.right,
+            &mut room.right_next,
+            area,
+            place,
+        );
+        mem::swap(&mut room.right, &mut room.right_next);
         let on = go_on(
-            starts,
+            &automata.starts,
             best,
-            left_labels,
-            right_labels,
+            &room.left,
+            &room.right,
             area,
             base,
             place + 1,
@@ -239,15 +209,6 @@ pub fn find(
         base = on.base;
         place = on.place;
     }
-    let met = visit(
-        starts,
-        left,
-        right,
-        left_labels,
-        right_labels,
-        area,
-        base,
-        area.len(),
-    );
+    let met = visit(automata, room, area, base, area.len());
     better(best, met, area.len())
 }

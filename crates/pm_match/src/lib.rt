@@ -3,6 +3,7 @@
 
 mod advancing;
 mod atoms;
+mod automata;
 mod build;
 mod closing;
 mod count;

@@ -3,9 +3,10 @@ ghost use Rattle.std.specs.Prelude.{◌<◌, length};
 ghost use Rattle.pm_match.specs.Labels.{InRange};
 ghost use Rattle.pm_match.specs.Starts.{AreStarts};
 
+use crate::automata::{Automata, Room};
 use crate::build::{Program, build};
 use crate::find::{Match, find};
-use crate::labels::{Labels, no_labels};
+use crate::labels::no_labels;
 use crate::starts::Starts;
 use crate::tables::starts_of;
 use pm_bytes::Memory;
@@ -15,19 +16,19 @@ use std::alloc::Global;
 /// How long an area is where tables save more than it takes to make them.
 const LONG: usize = 256;
 
-/// The same of rows.
+/// The same of the other tables, and of rows.
 const VERY_LONG: usize = 16384;
 
-/// Whether tables, or rows, are still to be made.
-fn is_needed(starts: &Option<Starts>, size: usize, with_rows: bool) -> bool {
+/// Whether tables are still to be made.
+fn is_needed(starts: &Option<Starts>, size: usize) -> bool {
     match starts {
         None => size >= LONG,
-        Some(tables) => with_rows && tables.rows.is_empty(),
+        Some(tables) => size >= VERY_LONG && !tables.is_whole,
     }
 }
 
 /// The tables of an automaton. Where there is no memory for them the search goes on without.
-fn tables(alloc: Global, program: &Program, with_rows: bool) -> Option<Starts>
+fn tables(alloc: Global, program: &Program, is_very_long: bool) -> Option<Starts>
     requires range { InRange program.now.steps.items }
     requires entry { program.now.entry < length program.now.steps.items }
     requires exit { program.now.exit < length program.now.steps.items }
@@ -38,25 +39,19 @@ fn tables(alloc: Global, program: &Program, with_rows: bool) -> Option<Starts>
         &program.steps,
         program.entry,
         program.exit,
-        with_rows,
+        is_very_long,
     ) {
         Err(_) => None,
         Ok(starts) => Some(starts),
     }
 }
 
-/// Two automata, with the tables of where the first begins, and with room for a label of each state at two places.
+/// Two automata, and the room to search by them.
 #[derive(Drop)]
 pub struct Search {
     alloc: Global,
-    /// The tables, once an area was long enough to pay for them.
-    starts: Option<Starts>,
-    left: Program,
-    left_labels: Labels,
-    left_next: Labels,
-    right: Program,
-    right_labels: Labels,
-    right_next: Labels,
+    automata: Automata,
+    room: Room,
 }
 
 impl Search {
@@ -78,15 +73,21 @@ impl Search {
         let left_next = no_labels(alloc, left.steps.len())?;
         let right_labels = no_labels(alloc, right.steps.len())?;
         let right_next = no_labels(alloc, right.steps.len())?;
-        Ok(Search {
-            alloc,
+        let automata = Automata {
             starts: None,
             left,
-            left_labels,
-            left_next,
             right,
-            right_labels,
+        };
+        let room = Room {
+            left: left_labels,
+            left_next,
+            right: right_labels,
             right_next,
+        };
+        Ok(Search {
+            alloc,
+            automata,
+            room,
         })
     }
 
@@ -95,9 +96,9 @@ impl Search {
         requires { (l : Re) × (r : Re) × (fold : Bool) × Runs self.old l r fold }
         ensures { (l r : Re) (fold : Bool) → Runs self.old l r fold → Runs self.new l r fold }
     {
-        let with_rows = area.len() >= VERY_LONG;
-        if is_needed(&self.starts, area.len(), with_rows) {
-            self.starts = tables(self.alloc, &self.left, with_rows);
+        if is_needed(&self.automata.starts, area.len()) {
+            let is_very_long = area.len() >= VERY_LONG;
+            self.automata.starts = tables(self.alloc, &self.automata.left, is_very_long);
         }
     }
 
@@ -109,16 +110,6 @@ impl Search {
         ensures first { (l r : Re) (fold : Bool) → Runs self.old l r fold → IsFirst fold l r area.now from result }
     {
         self.prepare(area);
-        find(
-            &self.starts,
-            &self.left,
-            &self.right,
-            &mut self.left_labels,
-            &mut self.left_next,
-            &mut self.right_labels,
-            &mut self.right_next,
-            area,
-            from,
-        )
+        find(&self.automata, &mut self.room, area, from)
     }
 }

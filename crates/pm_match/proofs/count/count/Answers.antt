@@ -2,7 +2,7 @@ use Rattle.std.proofs.Common.{◌≡◌, false, [], ◌∷◌, subst, arith}
 use Rattle.pm_regex.specs.Re.{nothing}
 use Rattle.pm_match.specs.Finding.{IsFirst}
 use Rattle.pm_match.specs.Found.{IsRun, place_behind}
-use Rattle.pm_match.proofs.EngineLemmas.{shown}
+use Rattle.pm_match.specs.Shown.{shown_match}
 use Rattle.pm_match.proofs.CountLemmas.{goes, ordered, run_none, run_late, run_end, run_more}
 use Rattle.pm_match.proofs.count.count.Goals as goal
 
@@ -40,7 +40,7 @@ loop-from-preserved c =
       within = (let a = g.within in omega (arith, a, place));
       runs = λ x f h rest run.
           let found = subst (λ y. IsFirst f x nothing c.args.area.now c.loop-from.from y) c.in-Some.is (c.first.ensures.first x nothing f (c.loop-from.invariant.kept x nothing f h)) in
-          let r = c.loop-from.invariant.runs x f h (shown false m ∷ rest)
+          let r = c.loop-from.invariant.runs x f h (shown_match false m ∷ rest)
           (run_more f x c.args.area.now c.loop-from.from m rest c.if-found-area.false found (subst (λ k. IsRun f x c.args.area.now k rest) place run)) in
           let n = r.2 in (r.0, r.1, omega (arith, n));
     }
