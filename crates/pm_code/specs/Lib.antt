@@ -1,0 +1,4 @@
+pub mod Flat
+pub mod Ahead
+pub mod Between
+pub mod Laws
