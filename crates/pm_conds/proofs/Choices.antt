@@ -1,5 +1,5 @@
 -- What holds of an answer, and what follows from it.
-use Rattle.std.proofs.Common.{◌≡◌, ◌⊎◌, inl, inr, ℕ, Bool, not, List, Result, Ok, Err, IfOk, length, refl, sym, ◌∙◌, arith}
+use Rattle.std.proofs.Common.{◌≡◌, inl, inr, ℕ, Bool, not, List, Result, Ok, Err, IfOk, length, refl, ◌∙◌, arith}
 use Rattle.std.specs.Prelude.{position, unwrap_or}
 use Rattle.std.specs.List.{position_or_len}
 use Rattle.std.proofs.lemmas.Bool.{cases_lt, lt-ltb, le-ltb}

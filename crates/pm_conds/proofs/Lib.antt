@@ -3,3 +3,5 @@ pub mod LeadLemmas
 pub mod AskLemmas
 pub mod JudgeLemmas
 pub mod SearchLemmas
+pub mod ScoreLemmas
+pub mod WeighLemmas

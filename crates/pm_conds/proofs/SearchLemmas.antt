@@ -1,5 +1,5 @@
 -- What is read and found is what the definitions say.
-use Rattle.std.proofs.Common.{◌≡◌, ◌⊎◌, inl, inr, ℕ, ◌≤◌, Bool, not, List, length, Option, Some, None, refl, sym, ap, subst, IfSome}
+use Rattle.std.proofs.Common.{◌≡◌, ◌⊎◌, inl, inr, ℕ, ◌≤◌, Bool, List, length, Option, Some, None, refl, sym, ap, subst, IfSome}
 use Rattle.pm_regex.specs.Re.{Re, Whole}
 use Rattle.pm_regex.specs.Reading.{Reads, HasNoReading}
 use Rattle.pm_regex.proofs.ReadLemmas.{one_reading_of}

@@ -1,12 +1,12 @@
 -- What stands before the test of a condition (procmailrc(5), "Conditions").
-use Rattle.std.specs.Prelude.{◌≡◌, ℕ, zero, suc, ◌||◌, ◌&&◌, Bool, true, false, not, List, [], ◌∷◌, length, take, drop, codes, nat_eq, bytes_eq, if◌then◌else◌, Option, Some, None}
+use Rattle.std.specs.Prelude.{◌≡◌, ℕ, zero, suc, ◌||◌, ◌&&◌, Bool, false, not, List, [], ◌∷◌, length, take, drop, codes, nat_eq, bytes_eq, if◌then◌else◌, Option, Some, None}
 use Rattle.std.specs.List.{starts_with, position_or_len}
 use Rattle.std.proofs.Common.{refl}
 use Rattle.pm_bytes.specs.Letter.{is_blank_byte, is_name_start, is_name_byte}
-use Rattle.pm_message.specs.declared.areas.Part.{Part}
 use Rattle.pm_message.specs.declared.areas.Part.TheVariants as part
 use Rattle.pm_conds.specs.declared.question.Scope.{Scope}
 use Rattle.pm_conds.specs.declared.question.Scope.TheVariants.{Flags, Mail, Variable}
+use Rattle.pm_conds.specs.declared.question.Factors.{Factors}
 use Rattle.pm_conds.specs.declared.question.Question.{Question}
 
 -- the byte is no blank
@@ -77,14 +77,14 @@ asked_within (suc n) asking = elim (next_asking asking) [ Some next ↦ asked_wi
 abbrev pub asked : Asking → Asking
 asked asking = asked_within (length asking.text) asking
 
--- before anything is read
-abbrev pub unasked : List ℕ → Asking
-unasked text = record { text = text; question = record { inverted = false; scope = Flags } }
+-- before anything is read behind the weight
+abbrev pub unasked : Option Factors → List ℕ → Asking
+unasked weight text = record { text = text; question = record { weight = weight; inverted = false; scope = Flags } }
 
 -- two inversions cancel, and the last name counts
-two_names : asked (unasked (codes "! B ?? ! NAME  ?? ^x")) ≡ record { text = codes "^x"; question = record { inverted = false; scope = Variable (codes "NAME") } }
+two_names : asked (unasked None (codes "! B ?? ! NAME  ?? ^x")) ≡ record { text = codes "^x"; question = record { weight = None; inverted = false; scope = Variable (codes "NAME") } }
 two_names = refl
 
 -- a name without `??` is the expression
-no_name : asked (unasked (codes "NAME ? x")) ≡ unasked (codes "NAME ? x")
+no_name : asked (unasked None (codes "NAME ? x")) ≡ unasked None (codes "NAME ? x")
 no_name = refl

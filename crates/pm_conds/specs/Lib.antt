@@ -1,3 +1,5 @@
 pub mod Leads
 pub mod Searching
+pub mod Scores
+pub mod Weighing
 pub mod Judging

@@ -16,7 +16,6 @@ use Rattle.pm_vars.specs.Table.{Table}
 use Rattle.pm_vars.specs.Variables.{value_of}
 use Rattle.pm_conds.specs.declared.question.Scope.{Scope}
 use Rattle.pm_conds.specs.declared.question.Scope.TheVariants as scope
-use Rattle.pm_conds.specs.declared.question.Question.{Question}
 use Rattle.pm_conds.specs.declared.question.Outcome.{Outcome}
 use Rattle.pm_conds.specs.declared.question.Outcome.TheVariants.{Holds, Matched, Fails, Defective}
 

@@ -1,16 +1,17 @@
 //! A recipe's conditions, judged in order (procmailrc(5), "Conditions").
-ghost use Rattle.std.specs.Prelude.{◌≡◌, ◌∷◌, List, IfOk, [], length};
+ghost use Rattle.std.specs.Prelude.{◌≡◌, IfOk, [], pos, neg_ℤ, ◌≤ℤ◌};
 ghost use Rattle.std.specs.List.{list_any};
-ghost use Rattle.pm_recipe.specs.declared.tree.Condition.{Condition as AnyCondition};
-ghost use Rattle.pm_conds.specs.Leads.{asking_of, unasked};
+ghost use Rattle.pm_conds.specs.Leads.{asking_of};
 ghost use Rattle.pm_conds.specs.Searching.{sight_of};
 ghost use Rattle.pm_conds.specs.Judging.{only_word, expansion, outcome_within, outcome_of, test_outcome};
-ghost use Rattle.pm_conds.specs.Judging.{judged, judged_each, judged_by, is_weighted};
+ghost use Rattle.pm_conds.specs.Judging.{outcome_behind as behind, judged, judged_one, course_of, is_weighted};
 
 use crate::leads::{past_blanks, read_lead};
-use crate::question::{Outcome, Question, Scope, Verdict};
+use crate::question::{Factors, Outcome, Question, Scope, Verdict};
+use crate::scoring::{end_at, end_of_all, note_score, set_match};
 use crate::searching::{length_of, search};
-use crate::sizes::{number_in, size_outcome};
+use crate::sizes::{measured_outcome, number_in};
+use crate::weighing::{add_length, add_score};
 use pm_bytes::{Blob, Memory};
 use pm_message::Message;
 use pm_recipe::{Condition, Flags, Weight};
@@ -74,7 +75,7 @@ fn test(
         return search(alloc, text, question, flags, message, vars);
     }
     let size = length_of(alloc, &question.scope, flags, message, vars)?;
-    Ok(size_outcome(question.inverted, above, size, number_in(&text[1..])))
+    Ok(measured_outcome(question, above, size, number_in(&text[1..])))
 }
 
 /// What comes of a text behind a question; a `$` expands the rest, which is read again, `left` times at most.
@@ -108,7 +109,26 @@ fn ask(
     }
 }
 
-/// What comes of a condition.
+/// What comes of a condition behind its weight.
+fn outcome_behind(
+    alloc: Global,
+    weight: Option<Factors>,
+    text: &[u8],
+    flags: Flags,
+    message: &Message,
+    vars: &Vars,
+) -> Result<Outcome, Memory>
+    ensures { IfOk result (λ come. come ≡ behind weight text.now (sight_of flags message.now vars.now)) }
+{
+    let question = Question {
+        weight,
+        inverted: false,
+        scope: Scope::Flags,
+    };
+    ask(alloc, text, question, MOST_DOLLARS, flags, message, vars)
+}
+
+/// What comes of a condition. A weight with a number out of its range makes it a defect.
 fn outcome(
     alloc: Global,
     condition: &Condition,
@@ -116,34 +136,38 @@ fn outcome(
     message: &Message,
     vars: &Vars,
 ) -> Result<Outcome, Memory>
-    ensures { IfOk result (λ come. come ≡ outcome_of condition.now.text (sight_of flags message.now vars.now)) }
+    ensures { IfOk result (λ come. come ≡ outcome_of condition.now (sight_of flags message.now vars.now)) }
 {
-    let question = Question {
-        inverted: false,
-        scope: Scope::Flags,
-    };
-    ask(
-        alloc,
-        condition.text.as_slice(),
-        question,
-        MOST_DOLLARS,
-        flags,
-        message,
-        vars,
-    )
+    let text = condition.text.as_slice();
+    match condition.weight {
+        Weight::None => outcome_behind(alloc, None, text, flags, message, vars),
+        Weight::Bad => Ok(Outcome::Defective),
+        Weight::Some { w, x } => {
+            if x < 0 {
+                return Ok(Outcome::Defective);
+            }
+            let weight = Factors { w, x: x as u32 };
+            outcome_behind(alloc, Some(weight), text, flags, message, vars)
+        }
+    }
 }
 
 /// Judges one condition: how the judging ends, if it does.
 fn judge_one(
     alloc: Global,
     condition: &Condition,
+    total: &mut i32,
     flags: Flags,
     message: &Message,
     vars: &mut Vars,
 ) -> Result<Option<Verdict>, Memory>
-    ensures { IfOk result (λ end. (rest : List AnyCondition) →
-        judged_each (condition.now ∷ rest) (sight_of flags message.now vars.old)
-        ≡ judged_by end rest (sight_of flags message.now vars.new) judged_each) }
+    requires low { neg_ℤ (pos 2147483647) ≤ℤ total.old }
+    requires high { total.old ≤ℤ pos 2147483647 }
+    ensures course { let sight = sight_of flags message.now vars.old in IfOk result (λ end.
+        judged_one condition.now.text (outcome_of condition.now sight) total.old sight
+        ≡ course_of end total.new (sight_of flags message.now vars.new)) }
+    ensures low { neg_ℤ (pos 2147483647) ≤ℤ total.new }
+    ensures high { total.new ≤ℤ pos 2147483647 }
 {
     match outcome(alloc, condition, flags, message, vars)? {
         Outcome::Holds => Ok(None),
@@ -152,6 +176,27 @@ fn judge_one(
             Ok(None)
         }
         Outcome::Fails => Ok(Some(Verdict::Unmatched)),
+        Outcome::Counted {
+            weight,
+            matches,
+            bytes,
+        } => {
+            set_match(bytes, vars)?;
+            *total = add_score(*total, weight.w, weight.x, matches);
+            Ok(end_at(*total))
+        }
+        Outcome::Compared {
+            weight,
+            above,
+            length,
+            number,
+        } => match add_length(*total, weight.w, weight.x, length, number, above) {
+            None => Ok(Some(Verdict::Defective(condition.text.copy(alloc)?))),
+            Some(score) => {
+                *total = score;
+                Ok(end_at(score))
+            }
+        },
         Outcome::Defective => Ok(Some(Verdict::Defective(condition.text.copy(alloc)?))),
         Outcome::TooLong(length) => Ok(Some(Verdict::TooLong(length))),
         Outcome::NotBuilt => Ok(Some(Verdict::NotBuilt)),
@@ -167,7 +212,8 @@ fn has_weight(conditions: &[Condition]) -> bool
         .any(|condition| !matches!(condition.weight, Weight::None))
 }
 
-/// Judges the conditions in order, up to the first that doesn't hold. MATCH is set by each that matches behind a `\/`.
+/// Judges the conditions in order, up to one that ends it. MATCH is set by each that matches behind a `\/`, and `$=` is
+/// set where one of them has a weight.
 pub fn judge(
     alloc: Global,
     conditions: &[Condition],
@@ -178,13 +224,14 @@ pub fn judge(
     ensures { IfOk result (λ verdict. judged conditions.now (sight_of flags message.now vars.old)
         ≡ record { verdict = verdict; vars = vars.new }) }
 {
-    if has_weight(conditions) {
-        return Ok(Verdict::NotBuilt);
-    }
+    let weighted = has_weight(conditions);
+    let mut total = 0;
     for condition in conditions {
-        if let Some(end) = judge_one(alloc, condition, flags, message, vars)? {
+        if let Some(end) = judge_one(alloc, condition, &mut total, flags, message, vars)? {
+            note_score(weighted, total, vars);
             return Ok(end);
         }
     }
-    Ok(Verdict::Matched)
+    note_score(weighted, total, vars);
+    Ok(end_of_all(weighted, total))
 }

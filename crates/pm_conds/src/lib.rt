@@ -2,11 +2,15 @@
 //! (procmailrc(5), "Conditions").
 #![tactic(auto)]
 
+mod counting;
 mod judging;
 mod leads;
 mod question;
+mod scoring;
 mod searching;
 mod sizes;
+mod weighing;
 
 pub use judging::judge;
 pub use question::Verdict;
+pub use weighing::{add_length, add_score};

@@ -10,26 +10,46 @@ pub enum Scope {
     Variable(Blob),
 }
 
-/// What stands before a condition's test: whether it is inverted, and where it looks.
+/// The weight `w^x` of a condition (procmailsc(5)).
+#[derive(Clone, Copy)]
+pub struct Factors {
+    pub w: i32,
+    pub x: u32,
+}
+
+/// What stands before a condition's test: its weight, if it has one, whether it is inverted, and where it looks.
 #[derive(Drop)]
 pub struct Question {
+    pub weight: Option<Factors>,
     pub inverted: bool,
     pub scope: Scope,
 }
 
-/// What comes of one condition. A match of an expression with `\/` has the bytes that MATCH gets.
+/// What comes of one condition: without a weight it holds or not, with one so many matches count, or a length by a
+/// number. A match of an expression with `\/` has the bytes that MATCH gets.
 #[derive(Drop)]
 pub enum Outcome {
     Holds,
     Matched(Blob),
     Fails,
+    Counted {
+        weight: Factors,
+        matches: u64,
+        bytes: Option<Blob>,
+    },
+    Compared {
+        weight: Factors,
+        above: bool,
+        length: u64,
+        number: u64,
+    },
     Defective,
     TooLong(u64),
     NotBuilt,
 }
 
-/// What comes of a recipe's conditions in order: all hold, one doesn't, one is no condition by its text, or the value
-/// of one has so many bytes, which are too many. Conditions with weights or programs aren't built yet.
+/// What comes of a recipe's conditions in order: they match the recipe or don't, one is no condition by its text or its
+/// weight, or the value of one has so many bytes, which are too many. Conditions with programs aren't built yet.
 #[derive(Drop)]
 pub enum Verdict {
     Matched,

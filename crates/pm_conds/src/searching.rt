@@ -3,11 +3,13 @@ ghost use Rattle.std.specs.Prelude.{◌≡◌, ◌≤◌, not, IfOk, IfSome, len
 ghost use Rattle.pm_message.specs.Area.{area_of};
 ghost use Rattle.pm_match.proofs.FoundOrNot.{found_of};
 ghost use Rattle.pm_conds.specs.Searching.{Sight, sight_of, part_of, area_in, match_text, found_outcome as outcome};
-ghost use Rattle.pm_conds.specs.Searching.{search_outcome, behind_newline, before_newline};
+ghost use Rattle.pm_conds.specs.Searching.{match_in, behind_newline, before_newline};
 ghost use Rattle.pm_conds.specs.Searching.{value_or_empty, expression_of, IsWithin};
 ghost use Rattle.pm_conds.specs.Judging.{compared_length};
+ghost use Rattle.pm_conds.specs.Weighing.{sought_outcome};
 ghost use Rattle.pm_vars.specs.Variables.{value_of};
 
+use crate::counting::count_area;
 use crate::question::{Outcome, Question, Scope};
 use crate::sizes::outcome_if;
 use pm_bytes::{Blob, Memory};
@@ -64,7 +66,7 @@ fn to_newline(text: &[u8]) -> &[u8]
 }
 
 /// What MATCH gets of these places.
-fn matched(alloc: Global, area: &[u8], start: usize, end: usize) -> Result<Blob, Memory>
+pub fn matched(alloc: Global, area: &[u8], start: usize, end: usize) -> Result<Blob, Memory>
     requires start { start ≤ end }
     requires end { end ≤ length area.now }
     ensures { IfOk result (λ text. text ≡ match_text area.now start end) }
@@ -73,8 +75,8 @@ fn matched(alloc: Global, area: &[u8], start: usize, end: usize) -> Result<Blob,
 }
 
 /// The first match of the expression in the area.
-fn find(alloc: Global, expr: &Expr, fold: bool, area: &[u8]) -> Result<Option<Found>, Memory>
-    ensures found { IfOk result (λ found. found ≡ (found_of fold expr.now area.now).0) }
+fn find(alloc: Global, expr: Expr, fold: bool, area: &[u8]) -> Result<Option<Found>, Memory>
+    ensures found { IfOk result (λ found. found ≡ (found_of fold expr area.now).0) }
     ensures within { IfOk result (λ found. IfSome found (IsWithin area.now)) }
 {
     let mut engine = Engine::build(alloc, expr, fold)?;
@@ -105,44 +107,58 @@ fn found_outcome(
     }
 }
 
-/// Searches the area for the expression that the text is.
-fn search_area(
+/// Searches the area for an expression.
+fn find_area(
     alloc: Global,
     inverted: bool,
+    distinguish: bool,
+    expr: Expr,
+    area: &[u8],
+) -> Result<Outcome, Memory>
+    ensures { IfOk result (λ come. come ≡ outcome inverted area.now (match_in distinguish expr area.now)) }
+{
+    let found = find(alloc, expr, !distinguish, area)?;
+    found_outcome(alloc, inverted, area, found)
+}
+
+/// Searches the area for the expression that the text is, and counts its matches where there is a weight.
+fn search_area(
+    alloc: Global,
+    question: &Question,
     distinguish: bool,
     text: &[u8],
     area: &[u8],
 ) -> Result<Outcome, Memory>
-    ensures { IfOk result (λ come.
-        come ≡ search_outcome inverted distinguish area.now (expression_of text.now)) }
+    ensures { let asked = question.now in IfOk result (λ come.
+        come ≡ sought_outcome asked.weight asked.inverted distinguish area.now (expression_of text.now)) }
 {
     match read(alloc, text) {
         Err(ReadRefused::Defect) => Ok(Outcome::Defective),
         Err(ReadRefused::Memory) => Err(Memory),
-        Ok(expr) => {
-            let found = find(alloc, &expr, !distinguish, area)?;
-            found_outcome(alloc, inverted, area, found)
-        }
+        Ok(expr) => match question.weight {
+            None => find_area(alloc, question.inverted, distinguish, expr, area),
+            Some(weight) => count_area(alloc, weight, question.inverted, distinguish, expr, area),
+        },
     }
 }
 
 /// Searches a part of the mail. The body is searched where it stands.
 fn search_part(
     alloc: Global,
-    inverted: bool,
+    question: &Question,
     distinguish: bool,
     text: &[u8],
     message: &Message,
     part: Part,
 ) -> Result<Outcome, Memory>
-    ensures { IfOk result (λ come.
-        come ≡ search_outcome inverted distinguish (area_of message.now part) (expression_of text.now)) }
+    ensures { let asked = question.now in IfOk result (λ come.
+        come ≡ sought_outcome asked.weight asked.inverted distinguish (area_of message.now part) (expression_of text.now)) }
 {
     match part {
-        Part::Body => search_area(alloc, inverted, distinguish, text, message.body.as_slice()),
+        Part::Body => search_area(alloc, question, distinguish, text, message.body.as_slice()),
         Part::Head | Part::Both => {
             let area = area(alloc, message, part)?;
-            search_area(alloc, inverted, distinguish, text, area.as_slice())
+            search_area(alloc, question, distinguish, text, area.as_slice())
         }
     }
 }
@@ -156,24 +172,23 @@ pub fn search(
     message: &Message,
     vars: &Vars,
 ) -> Result<Outcome, Memory>
-    ensures { IfOk result (λ come. come ≡ search_outcome question.now.inverted flags.distinguish
+    ensures { IfOk result (λ come. come ≡ sought_outcome question.now.weight question.now.inverted flags.distinguish
         (area_in question.now.scope (sight_of flags message.now vars.now)) (expression_of text.now)) }
 {
-    let inverted = question.inverted;
     let distinguish = flags.distinguish;
     match &question.scope {
         Scope::Flags => search_part(
             alloc,
-            inverted,
+            question,
             distinguish,
             text,
             message,
             searched_part(flags),
         ),
-        Scope::Mail(part) => search_part(alloc, inverted, distinguish, text, message, *part),
+        Scope::Mail(part) => search_part(alloc, question, distinguish, text, message, *part),
         Scope::Variable(name) => search_area(
             alloc,
-            inverted,
+            question,
             distinguish,
             text,
             value_in(vars, name.as_slice()),

@@ -4,10 +4,12 @@ ghost use Rattle.std.specs.List.{list_all};
 ghost use Rattle.pm_bytes.specs.Letter.{is_blank_byte};
 ghost use Rattle.pm_conds.specs.Judging.{word_length as length_of_word, word_number as number_of_word};
 ghost use Rattle.pm_conds.specs.Judging.{number_between, inverted_if, size_outcome as outcome};
+ghost use Rattle.pm_conds.specs.Judging.{measured_outcome as measured};
+ghost use Rattle.pm_conds.specs.Weighing.{weighed_size as weighed};
 ghost use Rattle.pm_conds.specs.Searching.{holds_if};
 
 use crate::leads::past_blanks;
-use crate::question::Outcome;
+use crate::question::{Factors, Outcome, Question};
 use pm_bytes::{is_blank, read_count};
 
 /// The place of the first blank.
@@ -55,7 +57,7 @@ pub fn outcome_if(holds: bool) -> Outcome
 }
 
 /// A condition on a size: that it is above the number, or below it.
-pub fn size_outcome(inverted: bool, above: bool, size: u64, number: Option<u64>) -> Outcome
+fn size_outcome(inverted: bool, above: bool, size: u64, number: Option<u64>) -> Outcome
     ensures { result ≡ outcome inverted above size number }
 {
     match number {
@@ -64,5 +66,41 @@ pub fn size_outcome(inverted: bool, above: bool, size: u64, number: Option<u64>)
             let test = if above { number < size } else { size < number };
             outcome_if(test != inverted)
         }
+    }
+}
+
+/// A condition on a size with a weight. Inverted it is a defect.
+fn weighed_size(
+    weight: Factors,
+    inverted: bool,
+    above: bool,
+    length: u64,
+    number: Option<u64>,
+) -> Outcome
+    ensures { result ≡ weighed weight inverted above length number }
+{
+    match number {
+        Some(number) if !inverted => Outcome::Compared {
+            weight,
+            above,
+            length,
+            number,
+        },
+        _ => Outcome::Defective,
+    }
+}
+
+/// A condition on a size, with a weight or without one.
+pub fn measured_outcome(
+    question: &Question,
+    above: bool,
+    length: u64,
+    number: Option<u64>,
+) -> Outcome
+    ensures { result ≡ measured question.now.weight question.now.inverted above length number }
+{
+    match question.weight {
+        None => size_outcome(question.inverted, above, length, number),
+        Some(weight) => weighed_size(weight, question.inverted, above, length, number),
     }
 }

@@ -1,4 +1,3 @@
-use Rattle.std.proofs.Common.{refl, subst}
 use Rattle.pm_conds.specs.Leads.{asking_of}
 use Rattle.pm_conds.proofs.LeadLemmas.{passed_more, passed_end, none_of}
 use Rattle.pm_conds.proofs.leads.read_lead.Goals as goal

@@ -1,0 +1,51 @@
+//! The score of a recipe while its conditions are judged (procmailsc(5)).
+ghost use Rattle.std.specs.Prelude.{◌≡◌, IfOk};
+ghost use Rattle.pm_conds.specs.Judging.{with_score, with_matched};
+ghost use Rattle.pm_conds.specs.Weighing.{end_at as end_by, end_of_all as end_by_all};
+
+use crate::question::Verdict;
+use pm_bytes::{Blob, Memory};
+use pm_vars::Vars;
+
+/// How a score ends the judging, if it does.
+pub fn end_at(total: i32) -> Option<Verdict>
+    ensures { result ≡ end_by total }
+{
+    if total >= 2_147_483_647 {
+        Some(Verdict::Matched)
+    } else if total <= -2_147_483_647 {
+        Some(Verdict::Unmatched)
+    } else {
+        None
+    }
+}
+
+/// What comes where all conditions were judged.
+pub fn end_of_all(weighted: bool, total: i32) -> Verdict
+    ensures { result ≡ end_by_all weighted total }
+{
+    if weighted && total <= 0 {
+        Verdict::Unmatched
+    } else {
+        Verdict::Matched
+    }
+}
+
+/// `$=` gets the score of a recipe that has a weight.
+pub fn note_score(weighted: bool, total: i32, vars: &mut Vars)
+    ensures { vars.new ≡ with_score weighted total vars.old }
+{
+    if weighted {
+        vars.set_score(total);
+    }
+}
+
+/// MATCH gets these bytes, if there are any.
+pub fn set_match(bytes: Option<Blob>, vars: &mut Vars) -> Result<(), Memory>
+    ensures { IfOk result (λ _. vars.new ≡ with_matched bytes vars.old) }
+{
+    match bytes {
+        None => Ok(()),
+        Some(bytes) => vars.set(b"MATCH", bytes),
+    }
+}
