@@ -1,13 +1,11 @@
 -- Calls are shared out to entries in one way only.
 use Rattle.std.proofs.Common.{◌≡◌, ◌≤◌, ◌<◌, ℕ, Bool, true, false, List, [], ◌∷◌, ◌++◌, ◌+◌, length, Option, Some, None, refl, sym, ap, ◌∙◌, subst, arith}
-use Rattle.pm_host.specs.Runs.{Transitions}
 use Rattle.pm_host.specs.Told.{Tells, Adds}
-use Rattle.pm_host.specs.declared.calls.Call.{Call}
-use Rattle.pm_host.specs.declared.calls.Answer.{Answer}
 use Rattle.pm_host.specs.declared.calls.Logged.{Logged}
 use Rattle.pm_journal.specs.Appending.{append_step, StepAsks, AppendAsks, append_heard}
 use Rattle.pm_journal.specs.Reading.{ReadState, ReadLooking, ReadOn, ReadEnded, ReadAsks, ReadDone, read_heard}
 use Rattle.pm_journal.specs.Entries.{FileGroup, Protocol, Honest, joined}
+use Rattle.pm_journal.proofs.OneRun.{first_or, rest_of, Same, IsDone, one_run, same_none}
 use Rattle.pm_journal.specs.Laws.{OneGrouping, OneAccount, AreTold}
 use Rattle.pm_journal.specs.declared.appending.AppendState.{AppendState}
 use Rattle.pm_journal.specs.declared.appending.AppendState.TheVariants.{Looking}
@@ -22,35 +20,6 @@ use Rattle.pm_journal.specs.declared.acts.Act.{Act}
 use Rattle.pm_journal.specs.declared.acts.Act.TheVariants.{Append as AppendTo, ReadFile, Probe, Lock, Unlock, SayFile, SayErr, WriteOut, Moment}
 use Rattle.pm_journal.specs.declared.acts.Reply.{Reply}
 use Rattle.pm_journal.specs.declared.acts.Entry.{Entry}
-
-abbrev first_or : Logged → List Logged → Logged
-first_or c [] = c
-first_or c (d ∷ ds) = d
-
-abbrev rest_of : List Logged → List Logged
-rest_of [] = []
-rest_of (c ∷ cs) = cs
-
--- two calls' lists begin with the same group
-record Same (g h r q : List Logged) : Type 0 where
-  group : g ≡ h
-  rest : r ≡ q
-
--- nothing is asked
-abbrev IsDone : {S : Type 0} → (S → Call → Type 0) → S → Type 0
-IsDone asks s = (call : Call) → asks s call → ⊥
-
--- a machine that has ended goes no further
-one_run : {S : Type 0} (asks : S → Call → Type 0) (heard : S → Answer → S) (s t u : S) (g h r q : List Logged) → Transitions asks heard s g t → Transitions asks heard s h u
-    → IsDone asks t → IsDone asks u → g ++ r ≡ h ++ q → Same g h r q
-one_run asks heard s t u [] [] r q x y x_done y_done e = record { group = refl; rest = e }
-one_run asks heard s t u [] (d ∷ ds) r q x y x_done y_done e = absurd (x_done d.call (subst (λ at. asks at d.call) (sym x) y.0))
-one_run asks heard s t u (c ∷ cs) [] r q x y x_done y_done e = absurd (y_done c.call (subst (λ at. asks at c.call) (sym y) x.0))
-one_run asks heard s t u (c ∷ cs) (d ∷ ds) r q x y x_done y_done e =
-    let first : c ≡ d = ap (first_or c) e in
-    let next = subst (λ k. Transitions asks heard (heard s k.answer) cs t) first x.2 in
-    let more = one_run asks heard (heard s d.answer) t u cs ds r q next y.2 x_done y_done (ap rest_of e) in
-    record { group = ap (λ k. k ∷ cs) first ∙ ap (λ l. d ∷ l) more.group; rest = more.rest }
 
 append_done : (name piece : List ℕ) (sync : Bool) (at : AppendState) (end : AppendEnd) → append_step (length piece) sync at ≡ Finish end → IsDone (AppendAsks name piece sync) at
 append_done name piece sync at end e call asks = subst (λ step. StepAsks name piece step call) e asks
@@ -76,10 +45,6 @@ same_call : (c d : Logged) (g h r q : List Logged) → g ≡ c ∷ [] → h ≡ 
 same_call c d g h r q x y e =
     let both : c ∷ r ≡ d ∷ q = ap (λ l. l ++ r) (sym x) ∙ e ∙ ap (λ l. l ++ q) y in
     record { group = x ∙ ap (λ k. k ∷ []) (ap (first_or c) both) ∙ sym y; rest = ap rest_of both }
-
--- groups of no call
-same_none : (g h r q : List Logged) → g ≡ [] → h ≡ [] → g ++ r ≡ h ++ q → Same g h r q
-same_none g h r q x y e = record { group = x ∙ sym y; rest = ap (λ l. l ++ r) (sym x) ∙ e ∙ ap (λ l. l ++ q) y }
 
 same_group : (act : Act) (reply : Reply) (g h r q : List Logged) → Protocol act reply g → Protocol act reply h → g ++ r ≡ h ++ q → Same g h r q
 same_group (ReadFile name) reply g h r q x y e =

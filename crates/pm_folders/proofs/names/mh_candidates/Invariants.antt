@@ -1,0 +1,10 @@
+use Rattle.std.proofs.Common.{◌≡◌, ◌≤◌, length}
+use Rattle.pm_journal.specs.Naming.{AreFrom, mh_candidate}
+use Rattle.pm_folders.proofs.names.mh_candidates.Given as goal
+
+abbrev pub invariant-loop-k : goal.invariant-loop-k
+invariant-loop-k l = record {
+  within : l.k ≤ 100;
+  count : length l.all.items ≡ l.k;
+  are : AreFrom (mh_candidate l.folder l.first) 0 l.all.items;
+}

@@ -1,0 +1,40 @@
+//! What is filed in a folder: its kinds, and the names that are tried there.
+use pm_bytes::Name;
+
+/// A folder that gets each mail as a file of its own: a maildir, an MH folder, or a plain one.
+#[derive(Clone, Copy, Debug, PartialEq, Eq)]
+pub enum FolderKind {
+    Maildir,
+    Mh,
+    Plain,
+}
+
+/// What makes a name in a folder: the moment in seconds since 1970 in UTC, the process number, a count, and the name of
+/// the machine.
+#[derive(Debug, Drop)]
+pub struct Stamp {
+    pub moment: i64,
+    pub pid: u32,
+    pub serial: u64,
+    pub host_name: Name,
+}
+
+/// A name at which a file is made, and the name to which it is moved once it is whole, where there is one.
+#[derive(Debug, Drop)]
+pub struct Candidate {
+    pub at: Name,
+    pub to: Option<Name>,
+}
+
+/// How the filing of a piece under one name ended.
+#[derive(Clone, Copy, Debug, PartialEq, Eq)]
+pub enum FileEnd {
+    /// The file is there with the whole piece, which was brought to the store.
+    Filed,
+    /// Something stands at the name.
+    Taken,
+    /// A call failed, and no file is there.
+    Undone,
+    /// A call failed: the first so many bytes of the piece are left at the name at which the file was made.
+    Torn(u64),
+}
