@@ -1,6 +1,7 @@
 //! The taking of a lock without a host: what to ask next, and how to go on after the answer.
 ghost use Rattle.std.specs.Prelude.{◌≡◌, ◌<◌, ◌≤◌, ◌+◌, ◌-◌, ◌*◌, IsTrue};
-ghost use Rattle.pm_journal.specs.Locking.{lock_step, lock_heard, lock_left, lock_within, no_tally, lose as try_lost};
+ghost use Rattle.pm_journal.specs.Locking.{lock_step, lock_heard, lock_left, lock_within, lose as try_lost};
+ghost use Rattle.pm_locks.specs.Machine.{taking, taking_heard};
 ghost use Rattle.pm_locks.specs.Steps.{as_answer, IsAnswerToLock};
 
 use pm_host::{Aged, Answer, Looked, Made, Removed};
@@ -41,7 +42,7 @@ impl LockCore {
     pub fn new(rule: LockRule) -> LockCore
         requires some { 1 ≤ rule.tries }
         requires few { rule.tries ≤ 1000000 }
-        ensures { result ≡ record { rule = rule; at = LockState.Trying no_tally } }
+        ensures { result ≡ taking rule }
     {
         LockCore {
             rule,
@@ -70,8 +71,7 @@ impl LockCore {
     /// Goes on after the answer to the step that `next` gives, which is not `Finish`.
     pub fn heard(&mut self, answer: LockAnswer)
         requires { IsAnswerToLock (lock_step self.old.at) answer }
-        ensures at { self.new.at ≡ lock_heard self.old.rule self.old.at (as_answer answer) }
-        ensures rule { self.new.rule ≡ self.old.rule }
+        ensures heard { self.new ≡ taking_heard self.old (as_answer answer) }
         ensures fewer { lock_left self.new.rule self.new.at < lock_left self.old.rule self.old.at }
     {
         self.at = match answer {

@@ -2,6 +2,8 @@
 ghost use Rattle.std.specs.Prelude.{◌≡◌, ◌≤◌};
 ghost use Rattle.pm_journal.specs.Locking.{TakesLock};
 ghost use Rattle.pm_locks.specs.Steps.{as_answer, IsAnswerToLock, MakesLockStep, IsOpenStep};
+ghost use Rattle.pm_locks.specs.Machine.{taking};
+ghost use Rattle.pm_locks.specs.Walks.{RunsTaking};
 
 use crate::{LockAnswer, LockCore};
 use pm_bytes::Name;
@@ -13,7 +15,8 @@ use pm_journal::{LockEnd, LockRule, LockStep};
 pub fn take_lock<H: Host>(host: &mut H, name: &Name, rule: LockRule) -> LockEnd
     requires some { 1 ≤ rule.tries }
     requires few { rule.tries ≤ 1000000 }
-    ensures { TakesLock rule name.now result (H.told host.old) (H.told host.new) }
+    ensures takes { TakesLock rule name.now result (H.told host.old) (H.told host.new) }
+    ensures steps { RunsTaking name.now (taking rule) result (H.told host.old) (H.told host.new) }
 {
     let mut core = LockCore::new(rule);
     loop {

@@ -1,0 +1,12 @@
+pub mod Deliveries
+pub mod Fits
+pub mod Listed
+pub mod Keeps
+pub mod KeptLaws
+pub mod Grows
+pub mod Room
+pub mod Begun
+pub mod Delivers
+pub mod CallLemmas
+pub mod TreeLemmas
+pub mod Rows
