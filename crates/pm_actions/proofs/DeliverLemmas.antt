@@ -21,7 +21,7 @@ use Rattle.pm_subst.specs.declared.kinds.Mode.TheVariants.{One, Many}
 use Rattle.pm_meaning.specs.Assigning.{value_in}
 use Rattle.pm_meaning.specs.Locks.{text_or, lock_word, blamed_text, is_lock_word, full_lock, is_taken, any_held}
 use Rattle.pm_meaning.specs.Turns.{Turn, Halts, not_built, refuse_name, is_too_long, has_command, skip_value}
-use Rattle.pm_meaning.specs.Delivering.{is_plain, is_folder_name, are_file_texts, Attempted, attempt, attempt_lines, attempt_turn, say_each, after_attempt, file_and_say, deliver_at, deliver_named, is_without, deliver_to, deliver_text, deliver, act_on, run_recipe}
+use Rattle.pm_meaning.specs.Delivering.{is_folder_name, are_file_texts, Attempted, attempt, attempt_lines, attempt_turn, say_each, settled, told, after_attempt, file_and_say, deliver_at, deliver_named, is_without, deliver_to, deliver_text, deliver, act_on}
 use Rattle.pm_meaning.specs.Minds.{Mind}
 use Rattle.pm_meaning.specs.Running.{no_flags, deliver_default}
 use Rattle.pm_meaning.specs.declared.process.End.TheVariants.{NotBuilt}
@@ -64,24 +64,16 @@ carried p q end answer x y a b e h = subst (λ plan. Carries plan end answer x y
 pub ends_unbuilt : (p : Mind) (plan : Plan Turn) (x : JournalState) (s : View) → not_built p ≡ plan → Executes plan (Halts NotBuilt p) x x s s
 ends_unbuilt p plan x s e = subst (λ q. Executes q (Halts NotBuilt p) x x s s) e (executes_nothing (Halts NotBuilt p) x x s refl)
 
--- a recipe that is tied to others or has conditions
-pub tied : (top : Top) (action : Action) (p : Mind) → is_plain top ≡ false → not_built p ≡ run_recipe top (act_of action) p
-tied top action p e = if_no (is_plain top) (act_on top (act_of action) p) (not_built p) e
+pub acts_otherwise : (top : Top) (action : Action) (p : Mind) → ((text : List ℕ) → action ≢ Mailbox text) → not_built p ≡ act_on top (act_of action) p
+acts_otherwise top (Mailbox text) p other = absurd (other text refl)
+acts_otherwise top (Pipe line) p other = refl
+acts_otherwise top (Capture name line) p other = refl
+acts_otherwise top (Forward text) p other = refl
+acts_otherwise top WriteOut p other = refl
+acts_otherwise top (Block statements) p other = refl
 
-other_act : (top : Top) (action : Action) (p : Mind) → ((text : List ℕ) → action ≢ Mailbox text) → not_built p ≡ act_on top (act_of action) p
-other_act top (Mailbox text) p other = absurd (other text refl)
-other_act top (Pipe line) p other = refl
-other_act top (Capture name line) p other = refl
-other_act top (Forward text) p other = refl
-other_act top WriteOut p other = refl
-other_act top (Block statements) p other = refl
-
-pub acts_otherwise : (top : Top) (action : Action) (p : Mind) → is_plain top ≡ true → ((text : List ℕ) → action ≢ Mailbox text) → not_built p ≡ run_recipe top (act_of action) p
-acts_otherwise top action p e other = other_act top action p other ∙ if_yes (is_plain top) (act_on top (act_of action) p) (not_built p) e
-
-pub stores : (top : Top) (action : Action) (text shown : List ℕ) (p : Mind) → is_plain top ≡ true → action ≡ Mailbox text → shown ≡ text → deliver top.flags top.lock shown p ≡ run_recipe top (act_of action) p
-stores top action text shown p e is same =
-    ap (λ t. deliver top.flags top.lock t p) same ∙ (ap (λ act. act_on top (act_of act) p) (sym is) ∙ if_yes (is_plain top) (act_on top (act_of action) p) (not_built p) e)
+pub stores : (top : Top) (action : Action) (text shown : List ℕ) (p : Mind) → action ≡ Mailbox text → shown ≡ text → deliver top.flags top.lock shown p ≡ act_on top (act_of action) p
+stores top action text shown p is same = ap (λ t. deliver top.flags top.lock t p) same ∙ ap (λ act. act_on top (act_of act) p) (sym is)
 
 -- the texts have commands, or the lock file's expands to too much, or it has this value
 abbrev after_commands : Flags → Option (List ℕ) → List ℕ → Mind → Plan Turn
@@ -201,8 +193,8 @@ pub attempt_then_out : (flags : Flags) (lock : Option (List ℕ)) (words : List 
 attempt_then_out flags lock words p done x y z a b c h k = out_then (attempt lock flags words p) (after_attempt flags) done x y z a b c h k
 
 -- what is told behind an attempt, and what comes then
-pub said_after : (flags : Flags) (a : Attempt) (q : Mind) (lines : List (List ℕ)) (turn : Turn) → lines ≡ attempt_lines a → attempt_turn flags a q ≡ turn → say_each q lines turn ≡ after_attempt flags (attempted_of a q)
-said_after flags a q lines turn e f = ap (λ l. say_each q l turn) e ∙ ap (say_each q (attempt_lines a)) (sym f)
+pub said_after : (flags : Flags) (a : Attempt) (m q : Mind) (lines : List (List ℕ)) (turn : Turn) → lines ≡ attempt_lines a → q ≡ settled a m → attempt_turn flags a q ≡ turn → say_each q lines turn ≡ after_attempt flags (attempted_of a m)
+said_after flags a m q lines turn e is f = ap (λ l. say_each q l turn) e ∙ (ap (say_each q (attempt_lines a)) (sym f) ∙ ap (told flags a) is)
 
 -- what is handed on for a default mailbox
 pub default_is : (mailbox text word lock value : List ℕ) (flags : Flags) (p : Mind) → text ≡ mailbox → word ≡ mailbox → lock ≡ [] → value ≡ [] → flags ≡ no_flags

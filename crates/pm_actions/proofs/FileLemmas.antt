@@ -20,12 +20,12 @@ use Rattle.pm_recipe.specs.declared.tree.Flags.{Flags}
 use Rattle.pm_vars.specs.Table.{Table}
 use Rattle.pm_vars.specs.Variables.{Variable, with_value}
 use Rattle.pm_meaning.specs.Changes.{stored_in}
-use Rattle.pm_meaning.specs.Delivering.{Filing, filed_by, file_at, file_all, mailbox_piece}
+use Rattle.pm_meaning.specs.Delivering.{is_stored, Filing, filed_by, file_at, file_all, mailbox_piece}
 use Rattle.pm_meaning.specs.Locks.{is_nothing}
 use Rattle.pm_meaning.specs.Minds.{Mind}
 use Rattle.pm_meaning.specs.declared.process.Filed.{Filed}
 use Rattle.pm_meaning.specs.declared.process.Filed.TheVariants.{Stored, Unwritten, Left, Folder}
-use Rattle.pm_actions.specs.Copies.{copy_for, remembered, file_copies, filing_of, mind_after, is_stored_end, with_vars, AllShown}
+use Rattle.pm_actions.specs.Copies.{copy_for, remembered, file_copies, filing_of, mind_after, with_vars, AllShown}
 use Rattle.pm_actions.specs.declared.filing.Copy.{Copy}
 use Rattle.pm_actions.proofs.Choices.{choose_then, choose_else}
 
@@ -95,7 +95,7 @@ tried : (whole : Plan Filing) (items rest : List Copy) (copy : Copy) (filed : Fi
 tried whole items rest copy filed p x y z a b c h e k =
     leads_on whole (file_at copy.name copy.piece) (behind rest copy.vars p) filed x y z a b c (subst (λ l. LeadsTo whole (file_copies l p) x y a b) e h) k
 
-stored_is : (filed : Filed) → true ≡ is_stored_end filed → filed ≡ Stored
+stored_is : (filed : Filed) → true ≡ is_stored filed → filed ≡ Stored
 stored_is Stored h = refl
 stored_is (Unwritten name) h = let e : true ≡ false = h in absurd (cc)
 stored_is (Left name count) h = let e : true ≡ false = h in absurd (cc)
@@ -103,14 +103,14 @@ stored_is Folder h = let e : true ≡ false = h in absurd (cc)
 
 -- a copy was taken, and the next comes
 pub copy_on : (whole : Plan Filing) (items rest : List Copy) (copy : Copy) (filed : Filed) (p q : Mind) (x y z : JournalState) (a b c : View) → LeadsTo whole (file_copies items p) x y a b → items ≡ copy ∷ rest
-    → Executes (file_at copy.name copy.piece) filed y z b c → q ≡ mind_after filed copy.vars p → true ≡ is_stored_end filed → LeadsTo whole (file_copies rest q) x z a c
+    → Executes (file_at copy.name copy.piece) filed y z b c → q ≡ mind_after filed copy.vars p → true ≡ is_stored filed → LeadsTo whole (file_copies rest q) x z a c
 copy_on whole items rest copy filed p q x y z a b c h e k m s =
     let is : filed ≡ Stored = stored_is filed s in
     let r : mind_after filed copy.vars p ≡ with_vars copy.vars p = ap (λ f. mind_after f copy.vars p) is in
     subst (λ v. LeadsTo whole (file_copies rest v) x z a c) (sym (m ∙ r))
     (tried whole items rest copy Stored p x y z a b c h e (subst (λ f. Executes (file_at copy.name copy.piece) f y z b c) is k))
 
-stops : (rest : List Copy) (vars : Table) (p : Mind) (filed : Filed) → false ≡ is_stored_end filed → behind rest vars p filed ≡ Ends (filing_of filed (mind_after filed vars p))
+stops : (rest : List Copy) (vars : Table) (p : Mind) (filed : Filed) → false ≡ is_stored filed → behind rest vars p filed ≡ Ends (filing_of filed (mind_after filed vars p))
 stops rest vars p Stored h = let e : false ≡ true = h in absurd (cc)
 stops rest vars p (Unwritten name) h = refl
 stops rest vars p (Left name count) h = refl
@@ -118,7 +118,7 @@ stops rest vars p Folder h = refl
 
 -- a copy wasn't taken, and the rest isn't tried
 pub copy_stops : (whole : Plan Filing) (items rest : List Copy) (copy : Copy) (filed : Filed) (p q : Mind) (x y z : JournalState) (a b c : View) → LeadsTo whole (file_copies items p) x y a b → items ≡ copy ∷ rest
-    → Executes (file_at copy.name copy.piece) filed y z b c → q ≡ mind_after filed copy.vars p → false ≡ is_stored_end filed → Executes whole (filing_of filed q) x z a c
+    → Executes (file_at copy.name copy.piece) filed y z b c → q ≡ mind_after filed copy.vars p → false ≡ is_stored filed → Executes whole (filing_of filed q) x z a c
 copy_stops whole items rest copy filed p q x y z a b c h e k m s =
     let last = filing_of filed (mind_after filed copy.vars p) in
     subst (λ v. Executes whole (filing_of filed v) x z a c) (sym m)

@@ -48,11 +48,6 @@ abbrev pub mind_after : Filed → Table → Mind → Mind
 mind_after Stored vars p = with_vars vars p
 mind_after other vars p = p
 
--- the destination has the mail
-abbrev pub is_stored_end : Filed → Bool
-is_stored_end Stored = true
-is_stored_end other = false
-
 -- each copy in order, up to one that isn't taken
 abbrev pub file_copies : List Copy → Mind → Plan Filing
 file_copies [] p = Ends (filing_of Stored p)

@@ -5,11 +5,11 @@ ghost use Rattle.pm_subst.specs.declared.kinds.Mode.TheVariants.{Many};
 ghost use Rattle.pm_journal.specs.Held.{Keeping};
 ghost use Rattle.pm_recipe.specs.View.{act_of};
 ghost use Rattle.pm_meaning.specs.Locks.{blamed_text as blamed};
-ghost use Rattle.pm_meaning.specs.Delivering.{is_plain as is_plain_top, attempt_turn, filed_turn};
+ghost use Rattle.pm_meaning.specs.Delivering.{attempt_turn, filed_turn, is_done as is_done_by, settled};
 ghost use Rattle.pm_meaning.specs.Delivering.{file_and_say as filed_and_said};
 ghost use Rattle.pm_meaning.specs.Turns.{has_command, refuse_name};
 ghost use Rattle.pm_meaning.specs.Delivering.{deliver_at as to_names, deliver_named as to_usable};
-ghost use Rattle.pm_meaning.specs.Delivering.{deliver_to as to_words, deliver_text as by_value, deliver, run_recipe};
+ghost use Rattle.pm_meaning.specs.Delivering.{deliver_to as to_words, deliver_text as by_value, deliver, act_on};
 ghost use Rattle.pm_meaning.specs.Minds.{Mind, mind_of};
 ghost use Rattle.pm_meaning.specs.Running.{deliver_default as to_default, no_flags as none_flags};
 ghost use Rattle.pm_actions.specs.Copies.{IsFreeLock};
@@ -18,6 +18,7 @@ ghost use Rattle.pm_actions.specs.Turning.{turn_of};
 
 use crate::attempting::attempt;
 use crate::expanding::{Expansion, expand_text, first_word, runs_command};
+use crate::filing::is_stored;
 use crate::locks::{
     any_held, blamed_text, full_lock, full_names, is_taken, lock_name, lock_text, lock_word,
 };
@@ -27,7 +28,7 @@ use crate::skipping::skip_value;
 use pm_acts::{Outside, say};
 use pm_bytes::{Blob, Memory, Name, NameRefused};
 use pm_journal::{Journal, unusable_name};
-use pm_meaning::{Attempt, End, Filed, Process};
+use pm_meaning::{Attempt, End, Filed, Process, succeed};
 use pm_recipe::{Action, Flags, Recipe};
 use pm_subst::Mode;
 use std::alloc::Global;
@@ -40,7 +41,7 @@ struct Order<'a> {
     text: &'a [u8],
 }
 
-/// Carries a recipe out whose conditions hold.
+/// Does the action of a recipe that is executed. One with a block isn't done here.
 pub fn perform<D: Outside>(
     alloc: Global,
     recipe: &Recipe,
@@ -50,14 +51,11 @@ pub fn perform<D: Outside>(
 ) -> Result<Option<End>, Memory>
     requires keeping { Keeping journal.old process.old.locks.names }
     ensures carries { Carries
-        (run_recipe (top_of recipe.now) (act_of recipe.now.action) (mind_of process.old))
+        (act_on (top_of recipe.now) (act_of recipe.now.action) (mind_of process.old))
         (λ end. turn_of end (mind_of process.new)) result
         journal.old journal.new (D.told outside.old) (D.told outside.new) }
     ensures keeping { Keeping journal.new process.new.locks.names }
 {
-    if !is_plain(recipe) {
-        return Ok(Some(End::NotBuilt));
-    }
     match &recipe.action {
         Action::Mailbox(text) => {
             let order = Order {
@@ -69,14 +67,6 @@ pub fn perform<D: Outside>(
         }
         _ => Ok(Some(End::NotBuilt)),
     }
-}
-
-// Whether the recipe isn't tied to the recipes before it.
-fn is_plain(recipe: &Recipe) -> bool
-    ensures { result ≡ is_plain_top (top_of recipe.now) }
-{
-    let flags = recipe.flags;
-    !(flags.and_chain || flags.and_ok || flags.or_else || flags.on_error)
 }
 
 /// Delivers to a default mailbox, under its automatic lock file.
@@ -311,6 +301,7 @@ fn file_and_say<D: Outside>(
     ensures keeping { Keeping journal.new process.new.locks.names }
 {
     let attempt = attempt(alloc, lock, flags, names, process, outside, journal)?;
+    settle(&attempt, process);
     let end = end_of(flags, &attempt);
     let lines = attempt_lines(alloc, &attempt)?;
     say_each(lines, end, process, outside, journal)
@@ -333,6 +324,26 @@ pub fn refuse<D: Outside>(
     let line = unusable_name(alloc, text)?;
     say(&process.locks, line, outside, journal)?;
     Ok(None)
+}
+
+// A recipe that got the mail to each destination succeeded.
+fn settle(attempt: &Attempt, process: &mut Process)
+    ensures mind { mind_of process.new ≡ settled attempt.now (mind_of process.old) }
+    ensures locks { process.new.locks ≡ process.old.locks }
+{
+    if is_done(attempt) {
+        process.chain = succeed(&process.chain);
+    }
+}
+
+fn is_done(attempt: &Attempt) -> bool
+    ensures { result ≡ is_done_by attempt.now }
+{
+    match attempt {
+        Attempt::Unlocked(filed) => is_stored(filed),
+        Attempt::NotLocked(_) => false,
+        Attempt::Locked { filed, .. } => is_stored(filed),
+    }
 }
 
 // What comes behind an attempt.

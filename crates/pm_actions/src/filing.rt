@@ -5,11 +5,11 @@ ghost use Rattle.pm_bytes.specs.Path.{full_name};
 ghost use Rattle.pm_journal.specs.Appending.{append_reply};
 ghost use Rattle.pm_journal.specs.Executed.{Executes};
 ghost use Rattle.pm_journal.specs.Held.{Keeping};
-ghost use Rattle.pm_meaning.specs.Delivering.{feed_of, filed_by, file_at};
+ghost use Rattle.pm_meaning.specs.Delivering.{feed_of, filed_by, file_at, is_stored as is_stored_by};
 ghost use Rattle.pm_meaning.specs.Locks.{is_nothing as is_null_device};
 ghost use Rattle.pm_meaning.specs.Minds.{mind_of};
 ghost use Rattle.pm_actions.specs.Copies.{copy_for, remembered, file_copies, filing_of, mind_after};
-ghost use Rattle.pm_actions.specs.Copies.{is_stored_end, AllShown};
+ghost use Rattle.pm_actions.specs.Copies.{AllShown};
 
 use pm_acts::Outside;
 use pm_append::AppendEnd;
@@ -170,8 +170,9 @@ fn filed_of(end: AppendEnd, name: Name) -> Filed
     }
 }
 
-fn is_stored(filed: &Filed) -> bool
-    ensures { result ≡ is_stored_end filed.now }
+/// Whether the destinations have the mail.
+pub fn is_stored(filed: &Filed) -> bool
+    ensures { result ≡ is_stored_by filed.now }
 {
     matches!(filed, Filed::Stored)
 }

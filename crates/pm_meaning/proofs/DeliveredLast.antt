@@ -4,13 +4,15 @@ use Rattle.std.specs.Prelude.{if◌then◌else◌, map, ◌||◌}
 use Rattle.std.specs.List.{list_any}
 use Rattle.pm_bytes.specs.Path.{full_name}
 use Rattle.pm_bytes.specs.declared.environment.Environ.{Environ}
-use Rattle.pm_recipe.specs.Tree.{Top, Act as Action, Mailbox, Tree, Assign, Unset, Recipe, Defect}
+use Rattle.pm_recipe.specs.Tree.{Top, Act as Action, Mailbox, Block, Tree, Assign, Unset, Recipe, Defect}
 use Rattle.pm_recipe.specs.declared.tree.Flags.{Flags}
 use Rattle.pm_subst.specs.Words.{words_in}
 use Rattle.pm_subst.specs.declared.kinds.Mode.TheVariants.{One, Many}
 use Rattle.pm_conds.specs.declared.question.Verdict.TheVariants.{Matched, Unmatched, Defective, TooLong, NotBuilt}
+use Rattle.pm_meaning.specs.Chains.{is_admitted, passed, executed}
 use Rattle.pm_meaning.specs.Changes.{overflowed}
-use Rattle.pm_meaning.specs.Judging.{is_tied, judgement, behind_conditions, by_verdict, judge_first}
+use Rattle.pm_meaning.specs.Blocks.{carry_out, begun_block, closed, give_maybe}
+use Rattle.pm_meaning.specs.Judging.{judgement, behind_conditions, by_verdict, judge_first}
 use Rattle.pm_journal.specs.LogText.{skipped_line, unusable_name_line, defective_condition_line, value_too_long_line}
 use Rattle.pm_journal.specs.declared.acts.Entry.{Entry}
 use Rattle.pm_journal.specs.Held.{without}
@@ -18,28 +20,28 @@ use Rattle.pm_journal.specs.Locking.{lock_act}
 use Rattle.pm_journal.specs.declared.locking.LockRule.{LockRule}
 use Rattle.pm_journal.specs.declared.acts.Reply.{Reply}
 use Rattle.pm_journal.specs.declared.acts.Reply.TheVariants.{Held}
-use Rattle.pm_journal.specs.Plan.{Plan, Ends, and_then, Plays}
+use Rattle.pm_journal.specs.Plan.{Plan, Ends, Plays}
 use Rattle.pm_journal.specs.Walking.{Next, Stop, Go, walk, reach, Means}
 use Rattle.pm_journal.proofs.PlanJoin.{plays_then}
 use Rattle.pm_meaning.specs.Minds.{Mind}
-use Rattle.pm_meaning.specs.Turns.{Turn, GoesOn, Halts, not_built, say_then, refuse_name, has_command, is_too_long, skip_value}
+use Rattle.pm_meaning.specs.Turns.{Turn, GoesOn, Halts, Enters, not_built, refuse_name, has_command, is_too_long, skip_value}
 use Rattle.pm_meaning.specs.Assigning.{value_in}
 use Rattle.pm_meaning.specs.GlobalLock.{give_named}
-use Rattle.pm_meaning.specs.Locks.{text_or, rule_of, lock_word, blamed_text, is_lock_word, full_lock, is_taken, any_held, with_lock}
-use Rattle.pm_meaning.specs.Delivering.{is_plain, mailbox_piece, is_folder_name, Filing, file_all, Attempted, give_back, under_lock, attempt, attempt_lines, filed_turn, attempt_turn, say_each, after_attempt, file_and_say, are_file_texts, deliver_at, deliver_named, is_without, deliver_to, deliver_text, deliver, act_on, run_recipe}
-use Rattle.pm_meaning.specs.Running.{State, Arrived, Running, FallingOff, Over, Closing, Item, Open, Do, no_flags, deliver_default, default_mailboxes, next_default, step, statement, next_of, ending}
+use Rattle.pm_meaning.specs.Locks.{is_fault, text_or, rule_of, lock_word, blamed_text, is_lock_word, full_lock, is_taken, any_held, with_lock}
+use Rattle.pm_meaning.specs.Delivering.{mailbox_piece, is_folder_name, Filing, file_all, Attempted, give_back, under_lock, attempt, attempt_lines, filed_turn, attempt_turn, say_each, settled, after_attempt, file_and_say, are_file_texts, deliver_at, deliver_named, is_without, deliver_to, deliver_text, deliver}
+use Rattle.pm_meaning.specs.Running.{State, Arrived, Running, FallingOff, Leaving, Over, Closing, Item, Open, Do, BlockEnd, locks_of, block_of, inside, no_flags, deliver_default, default_mailboxes, next_default, step, statement, next_of, ending}
 use Rattle.pm_meaning.specs.Laws.{files_of, AreDone, IsGot, IsGiven, AreLines, IsFiled, AreClosing, DeliversAt, DeliversLast}
 use Rattle.pm_meaning.specs.declared.command_line.CommandLine.{CommandLine}
-use Rattle.pm_meaning.specs.declared.process.Attempt.TheVariants.{Unlocked, NotLocked, Locked}
+use Rattle.pm_meaning.specs.declared.process.Attempt.TheVariants.{Unlocked, Locked}
 use Rattle.pm_meaning.specs.declared.process.Filed.{Filed}
 use Rattle.pm_meaning.specs.declared.process.Filed.TheVariants.{Stored, Unwritten, Left, Folder}
 use Rattle.pm_meaning.specs.declared.process.End.{End}
 use Rattle.pm_meaning.specs.declared.process.End.TheVariants.{Delivered}
 use Rattle.pm_meaning.specs.declared.process.Ending.{Ending}
 use Rattle.pm_meaning.proofs.OneOutcome.{not_over}
-use Rattle.pm_meaning.proofs.Unlocks.{all_given, global_given, closing_join}
+use Rattle.pm_meaning.proofs.Unlocks.{all_given, global_given, block_given, closing_join}
 use Rattle.pm_meaning.proofs.StoredDone.{stored_is_done}
-use Rattle.pm_meaning.proofs.NoDelivery.{parts_of, is_delivered, delivers, never_built, never_goes, never_said, never_told, never_skipped, never_assign, never_unset, is_last, never_ends, never_prepared, never_read, never_lost}
+use Rattle.pm_meaning.proofs.NoDelivery.{parts_of, is_delivered, delivers, never_built, never_goes, never_entered, never_said, never_told, never_skipped, never_assign, never_unset, is_last, never_ends, never_prepared, never_read, never_lost}
 
 -- what a delivery for good did, in its own entries
 record DeliversHere (flags : Flags) (words : List (List ℕ)) (p : Mind) (es : List Entry) : Type 0 where
@@ -51,9 +53,9 @@ record DeliversTree (tree : Tree) (p : Mind) (es : List Entry) : Type 0 where
   top : Top
   text : List ℕ
   is : tree ≡ Recipe top (Mailbox text)
-  plain : is_plain top ≡ true
+  admitted : is_admitted top.flags p.chain ≡ true
   holds : (judgement top p).verdict ≡ Matched
-  here : DeliversHere top.flags (words_in Many (behind_conditions top p).vars [] text) (behind_conditions top p) es
+  here : DeliversHere top.flags (words_in Many (behind_conditions top p).vars [] text) (executed top.flags (behind_conditions top p)) es
 
 record DeliversState (s : State) (es : List Entry) : Type 0 where
   flags : Flags
@@ -103,12 +105,12 @@ record Files (flags : Flags) (words : List (List ℕ)) (p : Mind) (es : List Ent
   is_given : IsGiven lock given
 
 abbrev turn_after : Flags → Attempted → Turn
-turn_after flags done = attempt_turn flags done.attempt done.mind
+turn_after flags done = attempt_turn flags done.attempt (settled done.attempt done.mind)
 
 unlocked_end : (flags : Flags) (words : List (List ℕ)) (p : Mind) (es : List Entry) (done : Attempted) (filing : Filing) (front rest : List Entry) → es ≡ front ++ rest
     → Plays (file_all flags words p) front filing → Plays (Ends (record { attempt = Unlocked filing.filed; mind = filing.mind })) rest done → delivers (turn_after flags done) ≡ true → Files flags words p es
 unlocked_end flags words p es done filing front [] whole h k passes =
-    let final = final_filed flags filing.filed filing.mind (sym (ap (λ d. delivers (turn_after flags d)) k) ∙ passes) in
+    let final = final_filed flags filing.filed (settled (Unlocked filing.filed) filing.mind) (sym (ap (λ d. delivers (turn_after flags d)) k) ∙ passes) in
     record { final = final.final; lock = None; got = []; appends = front; given = []; whole = whole; is_got = refl; done = stored_is_done flags words p front filing h final.stored; is_given = refl }
 unlocked_end flags words p es done filing front (e ∷ rest) whole h k passes = absurd k
 
@@ -123,7 +125,7 @@ given_end : (flags : Flags) (name : List ℕ) (forced : ℕ) (filing : Filing) (
     → IsGiven (Some name) es × IsFinal flags filing.filed
 given_end flags name forced filing [] done h passes = absurd h
 given_end flags name forced filing (e ∷ []) done h passes =
-    ((h.0, refl), final_filed flags filing.filed (record filing.mind { locks = without filing.mind.locks name }) (sym (ap (λ d. delivers (turn_after flags d)) h.2) ∙ passes))
+    ((h.0, refl), final_filed flags filing.filed (settled (Locked name forced filing.filed (is_fault e.reply)) (record filing.mind { locks = without filing.mind.locks name })) (sym (ap (λ d. delivers (turn_after flags d)) h.2) ∙ passes))
 given_end flags name forced filing (e ∷ f ∷ es) done h passes = absurd h.2
 
 locked_end : (flags : Flags) (words : List (List ℕ)) (p : Mind) (name : List ℕ) (rule : LockRule) (e : Entry) (es : List Entry) (done : Attempted) (reply : Reply) → e.act ≡ lock_act name rule → e.reply ≡ reply
@@ -156,7 +158,7 @@ filed_and_said : (flags : Flags) (lock : Option (List ℕ)) (words : List (List 
     → Plays (file_and_say flags lock words p) es turn → delivers turn ≡ true → DeliversHere flags words p es
 filed_and_said flags lock words p es turn usable h passes =
     let k = parts_of (attempt lock flags words p) (after_attempt flags) es turn h in
-    let said = all_said k.middle.mind (attempt_lines k.middle.attempt) (turn_after flags k.middle) turn k.rest k.plays_rest in
+    let said = all_said (settled k.middle.attempt k.middle.mind) (attempt_lines k.middle.attempt) (turn_after flags k.middle) turn k.rest k.plays_rest in
     let files = attempt_files lock flags words p k.front k.middle k.plays_front (ap delivers (sym said.same) ∙ passes) in
     record {
       final = files.final;
@@ -226,40 +228,42 @@ delivered_by flags lock text p es turn h passes =
     (if_last P (is_too_long Many text p.vars) (skip_value Many text p) last es turn (λ l. absurd (never_skipped Many text p es turn l passes))
     (λ l. delivered_to flags lock value text words p es turn l passes))) h
 
--- a recipe that is tied to none delivered so
-record DeliversPlain (top : Top) (act : Action) (p : Mind) (es : List Entry) : Type 0 where
+-- the action of a recipe delivered so
+record DeliversBy (top : Top) (act : Action) (p : Mind) (es : List Entry) : Type 0 where
   text : List ℕ
   is : act ≡ Mailbox text
-  plain : is_plain top ≡ true
   here : DeliversHere top.flags (words_in Many p.vars [] text) p es
 
-by_act : (top : Top) (act : Action) (p : Mind) (es : List Entry) (turn : Turn) → is_plain top ≡ true → Plays (act_on top act p) es turn → delivers turn ≡ true → DeliversPlain top act p es
-by_act top (Mailbox text) p es turn plain h passes = record { text = text; is = refl; plain = plain; here = delivered_by top.flags top.lock text p es turn h passes }
-by_act top other p es turn plain h passes = absurd (never_built p es turn h passes)
+by_act : (top : Top) (act : Action) (p : Mind) (es : List Entry) (turn : Turn) → Plays (carry_out top act p) es turn → delivers turn ≡ true → DeliversBy top act p es
+by_act top (Mailbox text) p es turn h passes = record { text = text; is = refl; here = delivered_by top.flags top.lock text p es turn h passes }
+by_act top (Block trees) p es turn h passes = absurd (never_entered top p es turn h passes)
+by_act top other p es turn h passes = absurd (never_built p es turn h passes)
 
-by_recipe : (top : Top) (act : Action) (p : Mind) (es : List Entry) (turn : Turn) → Plays (run_recipe top act p) es turn → delivers turn ≡ true → DeliversPlain top act p es
-by_recipe top act p es turn h passes =
-    elim (is_plain top) as (λ b. is_plain top ≡ b → Plays (if b then act_on top act p else not_built p) es turn → DeliversPlain top act p es) [
-      | true ↦ λ plain k. by_act top act p es turn plain k passes
-      | false ↦ λ plain k. absurd (never_built p es turn k passes)
-    ] refl h
+with_conditions : (top : Top) (act : Action) (p : Mind) (es : List Entry) → is_admitted top.flags p.chain ≡ true → (judgement top p).verdict ≡ Matched
+    → DeliversBy top act (executed top.flags (behind_conditions top p)) es → DeliversTree (Recipe top act) p es
+with_conditions top act p es admitted holds d = record { top = top; text = d.text; is = ap (Recipe top) d.is; admitted = admitted; holds = holds; here = d.here }
 
-with_conditions : (top : Top) (act : Action) (p : Mind) (es : List Entry) → (judgement top p).verdict ≡ Matched → DeliversPlain top act (behind_conditions top p) es → DeliversTree (Recipe top act) p es
-with_conditions top act p es holds d = record { top = top; text = d.text; is = ap (Recipe top) d.is; plain = d.plain; holds = holds; here = d.here }
-
-by_conditions : (top : Top) (act : Action) (p : Mind) (es : List Entry) (turn : Turn) → Plays (judge_first top (λ q. run_recipe top act q) p) es turn → delivers turn ≡ true → DeliversTree (Recipe top act) p es
-by_conditions top act p es turn h passes =
-    let q = behind_conditions top p in
-    let P = DeliversTree (Recipe top act) p es in
-    let judged : Plan Turn = by_verdict (judgement top p).verdict q (run_recipe top act q) in
-    if_last P (is_tied top.flags) (not_built p) judged es turn (λ k. absurd (never_built p es turn k passes))
-    (elim (judgement top p).verdict as (λ v. (judgement top p).verdict ≡ v → Plays (by_verdict v q (run_recipe top act q)) es turn → DeliversTree (Recipe top act) p es) [
-      | Matched ↦ λ holds k. with_conditions top act p es holds (by_recipe top act q es turn k passes)
+by_judgement : (top : Top) (act : Action) (p : Mind) (es : List Entry) (turn : Turn) → is_admitted top.flags p.chain ≡ true
+    → Plays (by_verdict (judgement top p).verdict (passed top.flags (behind_conditions top p)) (carry_out top act (executed top.flags (behind_conditions top p)))) es turn
+    → delivers turn ≡ true → DeliversTree (Recipe top act) p es
+by_judgement top act p es turn admitted h passes =
+    let q = passed top.flags (behind_conditions top p) in
+    let r = executed top.flags (behind_conditions top p) in
+    elim (judgement top p).verdict as (λ v. (judgement top p).verdict ≡ v → Plays (by_verdict v q (carry_out top act r)) es turn → DeliversTree (Recipe top act) p es) [
+      | Matched ↦ λ holds k. with_conditions top act p es admitted holds (by_act top act r es turn k passes)
       | Unmatched ↦ λ holds k. absurd (never_goes q es turn k passes)
       | Defective text ↦ λ holds k. absurd (never_told q (defective_condition_line text) es turn k passes)
       | TooLong size ↦ λ holds k. absurd (never_said delivers q (value_too_long_line size) (GoesOn (overflowed q)) refl es turn k passes)
       | NotBuilt ↦ λ holds k. absurd (never_built q es turn k passes)
-    ] refl) h
+    ] refl h
+
+by_conditions : (top : Top) (act : Action) (p : Mind) (es : List Entry) (turn : Turn) → Plays (judge_first top (λ q. carry_out top act q) p) es turn → delivers turn ≡ true → DeliversTree (Recipe top act) p es
+by_conditions top act p es turn h passes =
+    let judged = by_verdict (judgement top p).verdict (passed top.flags (behind_conditions top p)) (carry_out top act (executed top.flags (behind_conditions top p))) in
+    elim (is_admitted top.flags p.chain) as (λ b. is_admitted top.flags p.chain ≡ b → Plays (if not b then Ends (GoesOn (passed top.flags p)) else judged) es turn → DeliversTree (Recipe top act) p es) [
+      | true ↦ λ admitted k. by_judgement top act p es turn admitted k passes
+      | false ↦ λ admitted k. absurd (never_goes (passed top.flags p) es turn k passes)
+    ] refl h
 
 by_statement : (tree : Tree) (p : Mind) (es : List Entry) (turn : Turn) → Plays (statement tree p) es turn → delivers turn ≡ true → DeliversTree tree p es
 by_statement (Assign name text) p es turn h passes = absurd (never_assign name text p es turn h passes)
@@ -268,29 +272,31 @@ by_statement (Recipe top act) p es turn h passes = by_conditions top act p es tu
 by_statement (Defect line text) p es turn h passes = absurd (never_told p (skipped_line text) es turn h passes)
 
 -- after a step that is the last, the turn delivered
-last_turn : (rest : List Item) (turn : Turn) → is_last (next_of rest turn) ≡ true → delivers turn ≡ true
-last_turn rest (GoesOn p) e = e
-last_turn rest (Halts end p) e = e
+last_turn : (tree : Tree) (rest : List Item) (turn : Turn) → is_last (next_of tree rest turn) ≡ true → delivers turn ≡ true
+last_turn tree rest (GoesOn p) e = e
+last_turn tree rest (Halts end p) e = e
+last_turn tree rest (Enters lock p) e = e
 
 last_default : (rest : List (List ℕ)) (turn : Turn) → is_last (next_default rest turn) ≡ true → delivers turn ≡ true
 last_default rest (GoesOn p) e = e
 last_default rest (Halts end p) e = e
+last_default rest (Enters lock p) e = e
 
 by_turn : (rest : List Item) (turn : Turn) (tree : Tree) (p : Mind) (front later : List Entry) (next : Next State Ending)
-    → Plays (statement tree p) front turn → Plays (Ends (next_of rest turn)) later next → is_last next ≡ true → DeliversTree tree p (front ++ later)
+    → Plays (statement tree p) front turn → Plays (Ends (next_of tree rest turn)) later next → is_last next ≡ true → DeliversTree tree p (front ++ later)
 by_turn rest turn tree p front [] next h k passes =
-    subst (DeliversTree tree p) (sym (append-nil front)) (by_statement tree p front turn h (last_turn rest turn (sym (ap is_last k) ∙ passes)))
+    subst (DeliversTree tree p) (sym (append-nil front)) (by_statement tree p front turn h (last_turn tree rest turn (sym (ap is_last k) ∙ passes)))
 by_turn rest turn tree p front (e ∷ later) next h k passes = absurd k
 
 by_tree : (tree : Tree) (rest : List Item) (p : Mind) (es : List Entry) → DeliversTree tree p es → DeliversState (Running (Do tree ∷ rest) p) es
 by_tree tree rest p es d =
-    let q = behind_conditions d.top p in
+    let q = executed d.top.flags (behind_conditions d.top p) in
     let words = words_in Many q.vars [] d.text in
     record {
       flags = d.top.flags;
       words = words;
       mind = q;
-      delivers = subst (λ t. DeliversAt (Running (Do t ∷ rest) p) d.top.flags words q) (sym d.is) (d.plain, d.holds, refl, refl, refl);
+      delivers = subst (λ t. DeliversAt (Running (Do t ∷ rest) p) d.top.flags words q) (sym d.is) (d.admitted, d.holds, refl, refl, refl);
       here = d.here;
     }
 
@@ -307,6 +313,7 @@ by_default mailbox rest p turn front (e ∷ later) next h k passes = absurd k
 
 -- the process is over as delivered
 abbrev IsEnded : State → Type 0
+IsEnded (Leaving locks end p) = end ≡ Delivered
 IsEnded (Over end p) = end ≡ Delivered
 IsEnded (Closing end p) = end ≡ Delivered
 IsEnded other = ⊥
@@ -324,9 +331,12 @@ running_last : (items : List Item) (p : Mind) (es : List Entry) (next : Next Sta
 running_last [] p es next h passes = absurd (never_ends is_last (Go (FallingOff (default_mailboxes p.vars) p)) refl es next h passes)
 running_last (Open name ∷ rest) p es next h passes = absurd (never_read name rest p es next h passes)
 running_last (Do tree ∷ rest) p es next h passes =
-    let f : Turn → Plan (Next State Ending) = λ turn. Ends (next_of rest turn) in
+    let f : Turn → Plan (Next State Ending) = λ turn. Ends (next_of tree rest turn) in
     let k = parts_of (statement tree p) f es next h in
     by_tree tree rest p es (subst (DeliversTree tree p) (sym k.whole) (by_turn rest k.middle tree p k.front k.rest next k.plays_front k.plays_rest passes))
+running_last (BlockEnd saved lock ∷ rest) p es next h passes =
+    let k = parts_of (give_maybe lock p) (λ q. Ends (Go (Running rest (closed saved q)))) es next h in
+    absurd (never_ends is_last (Go (Running rest (closed saved k.middle))) refl k.rest next k.plays_rest passes)
 
 falling_last : (mailboxes : List (List ℕ)) (p : Mind) (es : List Entry) (next : Next State Ending) → Plays (step (FallingOff mailboxes p)) es next → is_last next ≡ true → DeliversState (FallingOff mailboxes p) es
 falling_last [] p es next h passes = absurd (never_lost p es next h passes)
@@ -335,19 +345,21 @@ falling_last (mailbox ∷ rest) p es next h passes =
     subst (DeliversState (FallingOff (mailbox ∷ rest) p)) (sym k.whole) (by_default mailbox rest p k.middle k.front k.rest next k.plays_front k.plays_rest passes)
 
 -- a statement doesn't end the run
-no_stop : (rest : List Item) (turn : Turn) (es : List Entry) (z : Ending) → Plays (Ends (next_of rest turn)) es (Stop z) → ⊥
-no_stop rest (GoesOn p) [] z h = let e : Stop z ≡ Go (Running rest p) = h in cc
-no_stop rest (Halts end p) [] z h = let e : Stop z ≡ Go (Over end p) = h in cc
-no_stop rest turn (e ∷ es) z h = h
+no_stop : (tree : Tree) (rest : List Item) (turn : Turn) (es : List Entry) (z : Ending) → Plays (Ends (next_of tree rest turn)) es (Stop z) → ⊥
+no_stop tree rest (GoesOn p) [] z h = let e : Stop z ≡ Go (Running rest p) = h in cc
+no_stop tree rest (Halts end p) [] z h = let e : Stop z ≡ Go (Leaving (locks_of rest) end p) = h in cc
+no_stop tree rest (Enters lock p) [] z h = let e : Stop z ≡ Go (Running (inside (block_of tree) p.chain lock rest) (begun_block p)) = h in cc
+no_stop tree rest turn (e ∷ es) z h = h
 
 no_default_stop : (rest : List (List ℕ)) (turn : Turn) (es : List Entry) (z : Ending) → Plays (Ends (next_default rest turn)) es (Stop z) → ⊥
 no_default_stop rest (GoesOn p) [] z h = let e : Stop z ≡ Go (FallingOff rest p) = h in cc
 no_default_stop rest (Halts end p) [] z h = let e : Stop z ≡ Go (Over end p) = h in cc
+no_default_stop rest (Enters lock p) [] z h = let e : Stop z ≡ Go (FallingOff rest p) = h in cc
 no_default_stop rest turn (e ∷ es) z h = h
 
-no_close_stop : (end : End) (q : Mind) (es : List Entry) (z : Ending) → Plays {R = Next State Ending} (Ends (Go (Closing end q))) es (Stop z) → ⊥
-no_close_stop end q [] z h = let e : Stop z ≡ Go (Closing end q) = h in cc
-no_close_stop end q (e ∷ es) z h = h
+no_go_stop : (t : State) (es : List Entry) (z : Ending) → Plays {R = Next State Ending} (Ends (Go t)) es (Stop z) → ⊥
+no_go_stop t [] z h = let e : Stop z ≡ Go t = h in cc
+no_go_stop t (e ∷ es) z h = h
 
 -- only a process that is over ends the run, and it gives its locks back alone
 stops : (s : State) (es : List Entry) (z : Ending) → Plays (step s) es (Stop z) → z.end ≡ Delivered → IsOver s es
@@ -355,12 +367,17 @@ stops (Arrived line env bytes) es z h good = absurd (never_prepared line env byt
 stops (Running [] p) es z h good = absurd (never_ends is_last (Go (FallingOff (default_mailboxes p.vars) p)) refl es (Stop z) h refl)
 stops (Running (Open name ∷ rest) p) es z h good = absurd (never_read name rest p es (Stop z) h refl)
 stops (Running (Do tree ∷ rest) p) es z h good =
-    let k = parts_of (statement tree p) (λ turn. Ends (next_of rest turn)) es (Stop z) h in absurd (no_stop rest k.middle k.rest z k.plays_rest)
+    let k = parts_of (statement tree p) (λ turn. Ends (next_of tree rest turn)) es (Stop z) h in absurd (no_stop tree rest k.middle k.rest z k.plays_rest)
+stops (Running (BlockEnd saved lock ∷ rest) p) es z h good =
+    let k = parts_of (give_maybe lock p) (λ q. Ends (Go (Running rest (closed saved q)))) es (Stop z) h in absurd (no_go_stop (Running rest (closed saved k.middle)) k.rest z k.plays_rest)
+stops (Leaving [] end p) es z h good = absurd (no_go_stop (Over end p) es z h)
+stops (Leaving (lock ∷ locks) end p) es z h good =
+    let k = parts_of (give_maybe lock p) (λ q. Ends (Go (Leaving locks end q))) es (Stop z) h in absurd (no_go_stop (Leaving locks end k.middle) k.rest z k.plays_rest)
 stops (FallingOff [] p) es z h good = absurd (never_lost p es (Stop z) h refl)
 stops (FallingOff (mailbox ∷ rest) p) es z h good =
     let k = parts_of (deliver_default mailbox p) (λ turn. Ends (next_default rest turn)) es (Stop z) h in absurd (no_default_stop rest k.middle k.rest z k.plays_rest)
 stops (Over end p) es z h good =
-    let k = parts_of (give_named p.global p) (λ q. Ends (Go (Closing end q))) es (Stop z) h in absurd (no_close_stop end k.middle k.rest z k.plays_rest)
+    let k = parts_of (give_named p.global p) (λ q. Ends (Go (Closing end q))) es (Stop z) h in absurd (no_go_stop (Closing end k.middle) k.rest z k.plays_rest)
 stops (Closing end p) es z h good =
     let given = all_given p.locks (Stop (ending end p)) es (Stop z) h in
     let e : Stop z ≡ Stop (ending end p) = given.1 in
@@ -376,10 +393,24 @@ closes end p q t front [] h k passes =
     record { ended = delivered_end end (sym (ap is_last k) ∙ passes); closing = closing_join front [] (global_given p.global p q front h) tt }
 closes end p q t front (e ∷ rest) h k passes = absurd k
 
+leaves : (lock : Option (List ℕ)) (locks : List (Option (List ℕ))) (end : End) (p q : Mind) (t : State) (front rest : List Entry) → Plays (give_maybe lock p) front q
+    → Plays {R = Next State Ending} (Ends (Go (Leaving locks end q))) rest (Go t) → is_last (Go t) ≡ true → IsOver (Leaving (lock ∷ locks) end p) (front ++ rest)
+leaves lock locks end p q t front [] h k passes =
+    record { ended = delivered_end end (sym (ap is_last k) ∙ passes); closing = closing_join front [] (block_given lock p q front h) tt }
+leaves lock locks end p q t front (e ∷ rest) h k passes = absurd k
+
+left_all : (end : End) (p : Mind) (t : State) (es : List Entry) → Plays {R = Next State Ending} (Ends (Go (Over end p))) es (Go t) → is_last (Go t) ≡ true → IsOver (Leaving [] end p) es
+left_all end p t [] h passes = record { ended = delivered_end end (sym (ap is_last h) ∙ passes); closing = tt }
+left_all end p t (e ∷ es) h passes = absurd h
+
 last_step : (s t : State) (es : List Entry) → Plays (step s) es (Go t) → is_last (Go t) ≡ true → EndsOrDelivers s es
 last_step (Arrived line env bytes) t es h passes = absurd (never_prepared line env bytes es (Go t) h passes)
 last_step (Running items p) t es h passes = inr (running_last items p es (Go t) h passes)
 last_step (FallingOff mailboxes p) t es h passes = inr (falling_last mailboxes p es (Go t) h passes)
+last_step (Leaving [] end p) t es h passes = inl (left_all end p t es h passes)
+last_step (Leaving (lock ∷ locks) end p) t es h passes =
+    let k = parts_of (give_maybe lock p) (λ q. Ends (Go (Leaving locks end q))) es (Go t) h in
+    inl (subst (IsOver (Leaving (lock ∷ locks) end p)) (sym k.whole) (leaves lock locks end p k.middle t k.front k.rest k.plays_front k.plays_rest passes))
 last_step (Over end p) t es h passes =
     let k = parts_of (give_named p.global p) (λ q. Ends (Go (Closing end q))) es (Go t) h in
     inl (subst (IsOver (Over end p)) (sym k.whole) (closes end p k.middle t k.front k.rest k.plays_front k.plays_rest passes))
@@ -389,6 +420,7 @@ last_step (Closing end p) t es h passes =
     absurd (cc)
 
 ended_last : (t : State) → IsEnded t → is_last (Go t) ≡ true
+ended_last (Leaving locks end p) e = ap is_delivered e
 ended_last (Over end p) e = ap is_delivered e
 ended_last (Closing end p) e = ap is_delivered e
 ended_last (Arrived line env bytes) e = absurd e

@@ -1,5 +1,5 @@
 -- The parts of plans, and what never ends a process as delivered.
-use Rattle.std.proofs.Common.{◌≡◌, ℕ, Bool, true, false, List, [], ◌∷◌, ◌++◌, refl, ap}
+use Rattle.std.proofs.Common.{◌≡◌, ℕ, Bool, true, false, not, List, [], ◌∷◌, ◌++◌, Option, Some, None, refl, ap}
 use Rattle.std.specs.Prelude.{if◌then◌else◌, codes, ◌||◌, bytes_eq, nat_lt}
 use Rattle.pm_bytes.specs.Path.{full_name}
 use Rattle.pm_bytes.specs.declared.environment.Environ.{Environ}
@@ -7,9 +7,10 @@ use Rattle.pm_host.specs.declared.answers.Looked.TheVariants.{Folder as LookedFo
 use Rattle.pm_message.specs.FromLine.{makes_line, prepared_of}
 use Rattle.pm_message.specs.Split.{split_of}
 use Rattle.pm_recipe.specs.Listed.{rc_of}
+use Rattle.pm_recipe.specs.Tree.{Top}
 use Rattle.pm_subst.specs.declared.kinds.Mode.{Mode}
 use Rattle.pm_subst.specs.declared.kinds.Mode.TheVariants.{One}
-use Rattle.pm_journal.specs.LogText.{couldnt_read_line, no_delivery_line, unusable_name_line, couldnt_chdir_line, couldnt_lock_line, forcing_lock_line}
+use Rattle.pm_journal.specs.LogText.{couldnt_read_line, no_delivery_line, unusable_name_line, couldnt_chdir_line, couldnt_lock_line, forcing_lock_line, no_lock_line}
 use Rattle.pm_journal.specs.declared.acts.Act.{Act}
 use Rattle.pm_journal.specs.declared.acts.Act.TheVariants.{Probe, Moment, ReadFile}
 use Rattle.pm_journal.specs.declared.acts.Reply.{Reply}
@@ -21,13 +22,14 @@ use Rattle.pm_journal.specs.Plan.{Plan, Ends, Asks, and_then, ask, Plays}
 use Rattle.pm_journal.specs.Walking.{Next, Stop, Go}
 use Rattle.pm_meaning.specs.Changes.{with_variable, with_base, without_variable, entered}
 use Rattle.pm_meaning.specs.Minds.{Mind}
-use Rattle.pm_meaning.specs.Turns.{Turn, GoesOn, Halts, not_built, say_then, refuse_name, has_command, is_too_long, skip_value}
+use Rattle.pm_meaning.specs.Turns.{Turn, GoesOn, Halts, Enters, not_built, say_then, refuse_name, has_command, is_too_long, skip_value}
 use Rattle.pm_meaning.specs.Assigning.{is_later, leads_elsewhere, value_in, probed, change_folder, assigned, assign, unset}
 use Rattle.pm_meaning.specs.FirstValues.{login_name}
 use Rattle.pm_meaning.specs.GlobalLock.{with_global, give_named, drop_lock, got_lock, take_lock, change_lock}
-use Rattle.pm_meaning.specs.Locks.{rule_of}
+use Rattle.pm_meaning.specs.Locks.{rule_of, with_lock}
+use Rattle.pm_meaning.specs.Blocks.{got_block_lock, lock_block, enter_under, enter, enter_block}
 use Rattle.pm_meaning.specs.Texts.{is_empty, is_file_text}
-use Rattle.pm_meaning.specs.Running.{State, Running, Over, Closing, Item, renewal, begun, dated, prepare, unread, ahead, after_read}
+use Rattle.pm_meaning.specs.Running.{State, Running, Leaving, Over, Closing, Item, renewal, begun, dated, prepare, unread, ahead, after_read}
 use Rattle.pm_meaning.specs.declared.command_line.CommandLine.{CommandLine}
 use Rattle.pm_meaning.specs.declared.process.End.{End}
 use Rattle.pm_meaning.specs.declared.process.End.TheVariants.{Delivered, FellOff, NoRc, NotBuilt}
@@ -77,6 +79,7 @@ is_delivered other = false
 abbrev pub delivers : Turn → Bool
 delivers (GoesOn p) = false
 delivers (Halts end p) = is_delivered end
+delivers (Enters lock p) = false
 
 pub never_goes : (p : Mind) → Never delivers (Ends (GoesOn p))
 never_goes p = never_ends delivers (GoesOn p) refl
@@ -96,6 +99,45 @@ never_changed value p =
     let name = full_name p.base value in
     never_if delivers (is_file_text value) (and_then (ask (Probe name)) (probed name p)) (say_then p (unusable_name_line value) (GoesOn p))
     (never_asked delivers (Probe name) (probed name p) (never_probed name p)) (never_told p (unusable_name_line value))
+
+pub never_skipped : (mode : Mode) (text : List ℕ) (p : Mind) → Never delivers (skip_value mode text p)
+never_skipped mode text p [] end h passes = h
+never_skipped mode text p (e ∷ es) end h passes = never_ends delivers (GoesOn _) refl es end h.2 passes
+
+-- entering a block is no delivery
+never_locked_block : (name : List ℕ) (p : Mind) (reply : Reply) → Never delivers (got_block_lock name p reply)
+never_locked_block name p (Held sleeps forced) =
+    let q = with_lock name p in
+    never_if delivers (nat_lt 0 forced) (say_then q (forcing_lock_line name) (Enters (Some name) q)) (Ends (Enters (Some name) q))
+    (never_said delivers q (forcing_lock_line name) (Enters (Some name) q) refl) (never_ends delivers (Enters (Some name) q) refl)
+never_locked_block name p other = never_told p (couldnt_lock_line name)
+
+never_block_lock : (text value : List ℕ) (p : Mind) → Never delivers (lock_block text value p)
+never_block_lock text value p =
+    let name = full_name p.base value in
+    let act = lock_act name (rule_of p.vars) in
+    let asked : Plan Turn = and_then (ask act) (got_block_lock name p) in
+    let free : Plan Turn = if holds_name p.locks name then refuse_name text p else asked in
+    never_if delivers (not (is_file_text value)) (refuse_name text p) free (never_told p (unusable_name_line text))
+    (never_if delivers (holds_name p.locks name) (refuse_name text p) asked (never_told p (unusable_name_line text))
+    (never_asked delivers act (got_block_lock name p) (never_locked_block name p)))
+
+never_under : (text : List ℕ) (p : Mind) → Never delivers (enter_under text p)
+never_under text p =
+    let locks = lock_block text (value_in p.vars text) p in
+    let sized : Plan Turn = if is_too_long One text p.vars then skip_value One text p else locks in
+    let runs : Plan Turn = if has_command One text then not_built p else sized in
+    let told : Plan Turn = say_then p (no_lock_line (codes "{")) (Enters None p) in
+    never_if delivers (is_empty text) told runs (never_said delivers p (no_lock_line (codes "{")) (Enters None p) refl)
+    (never_if delivers (has_command One text) (not_built p) sized (never_built p)
+    (never_if delivers (is_too_long One text p.vars) (skip_value One text p) locks (never_skipped One text p) (never_block_lock text (value_in p.vars text) p)))
+
+never_in : (lock : Option (List ℕ)) (p : Mind) → Never delivers (enter lock p)
+never_in None p = never_ends delivers (Enters None p) refl
+never_in (Some text) p = never_under text p
+
+pub never_entered : (top : Top) (p : Mind) → Never delivers (enter_block top p)
+never_entered top p = never_if delivers top.flags.copy (not_built p) (enter top.lock p) (never_built p) (never_in top.lock p)
 
 never_dropped : (p : Mind) → Never delivers (drop_lock p)
 never_dropped p es end h passes =
@@ -131,10 +173,6 @@ never_set name value p =
     (never_built p) (never_if delivers (bytes_eq name (codes "MAILDIR")) (change_folder value q) lock (never_changed value q)
     (never_if delivers (bytes_eq name (codes "LOCKFILE")) (change_lock value q) (Ends (GoesOn q)) (never_changed_lock value q) (never_goes q)))
 
-pub never_skipped : (mode : Mode) (text : List ℕ) (p : Mind) → Never delivers (skip_value mode text p)
-never_skipped mode text p [] end h passes = h
-never_skipped mode text p (e ∷ es) end h passes = never_ends delivers (GoesOn _) refl es end h.2 passes
-
 pub never_assign : (name text : List ℕ) (p : Mind) → Never delivers (assign name text p)
 never_assign name text p =
     let rest : Plan Turn = if is_too_long One text p.vars then skip_value One text p else assigned name (value_in p.vars text) p in
@@ -152,6 +190,7 @@ never_unset name p =
 -- the run ends, or the process is over as delivered
 abbrev pub is_last : Next State Ending → Bool
 is_last (Stop ending) = true
+is_last (Go (Leaving locks end p)) = is_delivered end
 is_last (Go (Over end p)) = is_delivered end
 is_last (Go (Closing end p)) = is_delivered end
 is_last (Go other) = false

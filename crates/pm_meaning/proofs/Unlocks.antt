@@ -5,11 +5,12 @@ use Rattle.pm_host.specs.declared.calls.Logged.{Logged}
 use Rattle.pm_journal.specs.Entries.{Honest}
 use Rattle.pm_journal.specs.Held.{AreUnlocks, holds_name}
 use Rattle.pm_journal.specs.LogText.{couldnt_unlock_line}
-use Rattle.pm_journal.specs.Plan.{Plan, Ends, and_then, ask, Plays}
+use Rattle.pm_journal.specs.Plan.{Ends, and_then, ask, Plays}
 use Rattle.pm_journal.specs.Replies.{IsReplyTo}
 use Rattle.pm_journal.specs.declared.acts.Act.TheVariants.{Unlock}
 use Rattle.pm_journal.specs.declared.acts.Entry.{Entry}
 use Rattle.pm_journal.proofs.ReplyOf.{protocol_reply}
+use Rattle.pm_meaning.specs.Blocks.{without_lock, give_maybe}
 use Rattle.pm_meaning.specs.GlobalLock.{without_global, after_giving, give_named}
 use Rattle.pm_meaning.specs.Laws.{IsClosing, AreClosing}
 use Rattle.pm_meaning.specs.Locks.{is_fault}
@@ -56,6 +57,18 @@ pub global_given : (name : Option (List ℕ)) (p q : Mind) (es : List Entry) →
 global_given None p q [] h = tt
 global_given None p q (e ∷ es) h = absurd h
 global_given (Some name) p q es h = held_only (holds_name p.locks name) name p q es h
+
+-- and giving back the lock of a block
+block_only : (b : Bool) (name : List ℕ) (p q : Mind) (es : List Entry) → Plays (if b then and_then (ask (Unlock name)) (after_giving name (without_lock name p)) else Ends p) es q → AreClosing es
+block_only true name p q [] h = absurd h
+block_only true name p q (e ∷ es) h = (subst IsClosing (sym h.0) tt, line_only (is_fault e.reply) (couldnt_unlock_line name) (without_lock name p) q es h.2)
+block_only false name p q [] h = tt
+block_only false name p q (e ∷ es) h = absurd h
+
+pub block_given : (name : Option (List ℕ)) (p q : Mind) (es : List Entry) → Plays (give_maybe name p) es q → AreClosing es
+block_given None p q [] h = tt
+block_given None p q (e ∷ es) h = absurd h
+block_given (Some name) p q es h = block_only (holds_name p.locks name) name p q es h
 
 pub closing_join : (es fs : List Entry) → AreClosing es → AreClosing fs → AreClosing (es ++ fs)
 closing_join [] fs h k = k

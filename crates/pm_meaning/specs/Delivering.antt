@@ -17,6 +17,7 @@ use Rattle.pm_journal.specs.declared.acts.Act.TheVariants.{Append, Unlock}
 use Rattle.pm_journal.specs.declared.acts.Reply.{Reply}
 use Rattle.pm_journal.specs.declared.acts.Reply.TheVariants.{Done, IsFolder, Torn, Held}
 use Rattle.pm_journal.specs.Plan.{Plan, Ends, and_then, ask}
+use Rattle.pm_meaning.specs.Chains.{succeeded}
 use Rattle.pm_meaning.specs.Changes.{stored_in}
 use Rattle.pm_meaning.specs.Locks.{is_fault, text_or, rule_of, is_nothing, lock_word, blamed_text, is_lock_word, full_lock, is_taken, any_held, with_lock}
 use Rattle.pm_meaning.specs.Turns.{Turn, GoesOn, Halts, not_built, log_act, refuse_name, has_command, is_too_long, skip_value}
@@ -28,10 +29,6 @@ use Rattle.pm_meaning.specs.declared.process.Filed.{Filed}
 use Rattle.pm_meaning.specs.declared.process.Filed.TheVariants.{Stored, Unwritten, Left, Folder}
 use Rattle.pm_meaning.specs.declared.process.Attempt.{Attempt}
 use Rattle.pm_meaning.specs.declared.process.Attempt.TheVariants.{Unlocked, NotLocked, Locked}
-
--- the flags that tie a recipe to those before it aren't built yet
-abbrev pub is_plain : Top → Bool
-is_plain top = not (top.flags.and_chain || top.flags.and_ok || top.flags.or_else || top.flags.on_error)
 
 -- one of the flags h and b feeds that part alone
 abbrev pub feed_of : Flags → Feed
@@ -134,9 +131,28 @@ abbrev pub say_each : Mind → List (List ℕ) → Turn → Plan Turn
 say_each p [] turn = Ends turn
 say_each p (line ∷ lines) turn = and_then (ask (log_act p line)) (λ reply. say_each p lines turn)
 
+-- each destination has the mail
+abbrev pub is_stored : Filed → Bool
+is_stored Stored = true
+is_stored other = false
+
+-- the attempt got the mail to each destination
+abbrev pub is_done : Attempt → Bool
+is_done (Unlocked filed) = is_stored filed
+is_done (NotLocked name) = false
+is_done (Locked name forced filed stuck) = is_stored filed
+
+-- a recipe that got the mail to each destination succeeded
+abbrev pub settled : Attempt → Mind → Mind
+settled attempt p = if is_done attempt then succeeded p else p
+
 -- what is told of an attempt, and what comes behind it
+abbrev pub told : Flags → Attempt → Mind → Plan Turn
+told flags attempt p = say_each p (attempt_lines attempt) (attempt_turn flags attempt p)
+
+-- what comes behind an attempt, once it is known whether the recipe succeeded
 abbrev pub after_attempt : Flags → Attempted → Plan Turn
-after_attempt flags done = say_each done.mind (attempt_lines done.attempt) (attempt_turn flags done.attempt done.mind)
+after_attempt flags done = told flags done.attempt (settled done.attempt done.mind)
 
 -- the mail is delivered, and what came of it is told
 abbrev pub file_and_say : Flags → Option (List ℕ) → List (List ℕ) → Mind → Plan Turn
@@ -183,11 +199,7 @@ deliver flags lock text p =
     else if is_too_long One (text_or [] lock) p.vars then skip_value One (text_or [] lock) p
     else deliver_text flags lock (value_in p.vars (text_or [] lock)) text p
 
--- programs, other addresses, standard output and blocks aren't built yet
+-- what a recipe without a block does that is executed; programs, other addresses and standard output aren't built yet
 abbrev pub act_on : Top → Act → Mind → Plan Turn
 act_on top (Mailbox text) p = deliver top.flags top.lock text p
 act_on top other p = not_built p
-
--- a recipe that is plain does its action
-abbrev pub run_recipe : Top → Act → Mind → Plan Turn
-run_recipe top act p = if is_plain top then act_on top act p else not_built p

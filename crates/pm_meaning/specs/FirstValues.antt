@@ -5,6 +5,7 @@ use Rattle.pm_bytes.specs.declared.environment.Environ.{Environ}
 use Rattle.pm_message.specs.declared.head.Message.{Message}
 use Rattle.pm_vars.specs.Table.{Table}
 use Rattle.pm_vars.specs.Variables.{Variable, value_of, with_value, variable_of}
+use Rattle.pm_meaning.specs.Chains.{new_chain}
 use Rattle.pm_meaning.specs.Texts.{is_empty}
 use Rattle.pm_meaning.specs.Minds.{Mind}
 
@@ -112,4 +113,5 @@ first_process filter env message = record {
   host_name = env.host_name;
   locks = [];
   global = None;
+  chain = new_chain;
 }

@@ -1,5 +1,5 @@
 -- What comes of a recipe's conditions before its action.
-use Rattle.std.specs.Prelude.{ℕ, Bool, ◌||◌, List, if◌then◌else◌}
+use Rattle.std.specs.Prelude.{not, if◌then◌else◌}
 use Rattle.pm_recipe.specs.Tree.{Top}
 use Rattle.pm_recipe.specs.declared.tree.Flags.{Flags}
 use Rattle.pm_vars.specs.Table.{Table}
@@ -9,13 +9,10 @@ use Rattle.pm_conds.specs.declared.question.Verdict.{Verdict}
 use Rattle.pm_conds.specs.declared.question.Verdict.TheVariants.{Matched, Unmatched, Defective, TooLong, NotBuilt}
 use Rattle.pm_journal.specs.LogText.{defective_condition_line, value_too_long_line}
 use Rattle.pm_journal.specs.Plan.{Plan, Ends}
+use Rattle.pm_meaning.specs.Chains.{is_admitted, passed, executed}
 use Rattle.pm_meaning.specs.Changes.{overflowed}
 use Rattle.pm_meaning.specs.Minds.{Mind}
 use Rattle.pm_meaning.specs.Turns.{Turn, GoesOn, not_built, say_then}
-
--- the flags that tie a recipe to those before it aren't built yet
-abbrev pub is_tied : Flags → Bool
-is_tied flags = flags.and_chain || flags.and_ok || flags.or_else || flags.on_error
 
 -- what the conditions see of a process
 abbrev pub seen : Flags → Mind → Sight
@@ -41,8 +38,8 @@ by_verdict (Defective text) p acts = say_then p (defective_condition_line text) 
 by_verdict (TooLong size) p acts = say_then p (value_too_long_line size) (GoesOn (overflowed p))
 by_verdict NotBuilt p acts = not_built p
 
--- a recipe is acted on only where its conditions hold
+-- a recipe that its flags admit is judged, and acted on only where its conditions hold
 abbrev pub judge_first : Top → (Mind → Plan Turn) → Mind → Plan Turn
 judge_first top acts p =
-    if is_tied top.flags then not_built p
-    else by_verdict (judgement top p).verdict (behind_conditions top p) (acts (behind_conditions top p))
+    if not (is_admitted top.flags p.chain) then Ends (GoesOn (passed top.flags p))
+    else by_verdict (judgement top p).verdict (passed top.flags (behind_conditions top p)) (acts (executed top.flags (behind_conditions top p)))

@@ -14,7 +14,8 @@ use Rattle.pm_journal.specs.declared.acts.Reply.TheVariants.{Done, Held}
 use Rattle.pm_journal.specs.Locking.{lock_act}
 use Rattle.pm_journal.specs.declared.locking.LockRule.{LockRule}
 use Rattle.pm_journal.specs.declared.acts.Entry.{Entry}
-use Rattle.pm_meaning.specs.Delivering.{Filing, is_plain, mailbox_piece, are_file_texts, file_all}
+use Rattle.pm_meaning.specs.Delivering.{Filing, mailbox_piece, are_file_texts, file_all}
+use Rattle.pm_meaning.specs.Chains.{is_admitted, executed}
 use Rattle.pm_meaning.specs.Locks.{is_nothing}
 use Rattle.pm_conds.specs.declared.question.Verdict.TheVariants.{Matched}
 use Rattle.pm_meaning.specs.Judging.{judgement, behind_conditions}
@@ -86,12 +87,12 @@ pub record IsFiled (piece : List ℕ) (names : List (List ℕ)) (entries : List 
   pub is_given : IsGiven lock given
   pub are_lines : AreLines lines
 
--- where a process stands so, it delivers by these flags to these destinations: a recipe whose conditions hold to those of its text, and
--- one that falls off to a default mailbox
+-- where a process stands so, it delivers by these flags to these destinations: a recipe that is admitted and whose conditions hold to those
+-- of its text, and one that falls off to a default mailbox
 abbrev pub DeliversAt : State → Flags → List (List ℕ) → Mind → Type 0
 DeliversAt (Running (Do (Recipe top (Mailbox text)) ∷ rest) p) flags words mind =
-    (is_plain top ≡ true) × ((judgement top p).verdict ≡ Matched) × (flags ≡ top.flags)
-    × (words ≡ words_in Many (behind_conditions top p).vars [] text) × (mind ≡ behind_conditions top p)
+    (is_admitted top.flags p.chain ≡ true) × ((judgement top p).verdict ≡ Matched) × (flags ≡ top.flags)
+    × (words ≡ words_in Many (behind_conditions top p).vars [] text) × (mind ≡ executed top.flags (behind_conditions top p))
 DeliversAt (FallingOff (mailbox ∷ rest) p) flags words mind = (flags ≡ no_flags) × (words ≡ mailbox ∷ []) × (mind ≡ p)
 DeliversAt other flags words mind = ⊥
 

@@ -1,5 +1,6 @@
 pub mod Texts
 pub mod Minds
+pub mod Chains
 pub mod CommandLine
 pub mod FirstValues
 pub mod Changes
@@ -8,6 +9,7 @@ pub mod Locks
 pub mod GlobalLock
 pub mod Assigning
 pub mod Delivering
+pub mod Blocks
 pub mod Judging
 pub mod Running
 pub mod Status

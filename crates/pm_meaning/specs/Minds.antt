@@ -2,10 +2,12 @@
 use Rattle.std.specs.Prelude.{ℕ, Bool, List, Option}
 use Rattle.pm_message.specs.declared.head.Message.{Message}
 use Rattle.pm_vars.specs.Table.{Table}
+use Rattle.pm_meaning.specs.declared.chain.Chain.{Chain}
 use Rattle.pm_meaning.specs.declared.process.Process.{Process}
 
 -- The state of a process: the message that it delivers, its variables, the folder from which names are seen, the host's
--- name, whether it is a mail filter, the locks that it holds, the last taken first, and which of them is LOCKFILE's.
+-- name, whether it is a mail filter, the locks that it holds, the last taken first, which of them is LOCKFILE's, and what came of
+-- the recipes before.
 pub record Mind : Type 0 where
   pub filter : Bool
   pub message : Message
@@ -14,6 +16,7 @@ pub record Mind : Type 0 where
   pub host_name : List ℕ
   pub locks : List (List ℕ)
   pub global : Option (List ℕ)
+  pub chain : Chain
 
 -- how much room there is for more locks isn't spoken of
 abbrev pub mind_of : Process → Mind
@@ -25,4 +28,5 @@ mind_of p = record {
   host_name = p.host_name;
   locks = p.locks.names;
   global = p.global;
+  chain = p.chain;
 }

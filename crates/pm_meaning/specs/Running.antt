@@ -1,12 +1,12 @@
 -- The meaning of a run: a process as a machine whose steps are plans.
-use Rattle.std.specs.Prelude.{ℕ, Bool, false, ◌||◌, List, [], ◌∷◌, ◌++◌, Some, codes, bytes_eq, if◌then◌else◌}
+use Rattle.std.specs.Prelude.{ℕ, Bool, false, ◌||◌, List, [], ◌∷◌, ◌++◌, Option, Some, codes, bytes_eq, if◌then◌else◌}
 use Rattle.pm_bytes.specs.declared.environment.Environ.{Environ}
 use Rattle.pm_message.specs.FromLine.{makes_line, prepared_of}
 use Rattle.pm_message.specs.Split.{split_of}
 use Rattle.pm_message.specs.declared.head.Message.{Message}
 use Rattle.pm_message.specs.declared.renewal.Renew.{Renew}
 use Rattle.pm_message.specs.declared.renewal.Renew.TheVariants.{Keep, AddMissing}
-use Rattle.pm_recipe.specs.Tree.{Trees, nil, cons, Tree, Assign, Unset, Recipe, Defect}
+use Rattle.pm_recipe.specs.Tree.{Trees, nil, cons, Tree, Assign, Unset, Recipe, Defect, Act, Block}
 use Rattle.pm_recipe.specs.Listed.{rc_of}
 use Rattle.pm_journal.specs.LogText.{couldnt_read_line, no_delivery_line}
 use Rattle.pm_journal.specs.declared.acts.Act.TheVariants.{ReadFile, Unlock, Moment}
@@ -16,9 +16,10 @@ use Rattle.pm_journal.specs.Plan.{Plan, Ends, and_then, ask}
 use Rattle.pm_journal.specs.Walking.{Next, Stop, Go}
 use Rattle.pm_meaning.specs.FirstValues.{login_name, first_process}
 use Rattle.pm_meaning.specs.Changes.{entered}
-use Rattle.pm_meaning.specs.Turns.{Turn, GoesOn, Halts, say_then}
+use Rattle.pm_meaning.specs.Turns.{Turn, GoesOn, Halts, Enters, say_then}
 use Rattle.pm_meaning.specs.Assigning.{assign, unset, skip_defect}
-use Rattle.pm_meaning.specs.Delivering.{deliver_to, run_recipe}
+use Rattle.pm_meaning.specs.Delivering.{deliver_to}
+use Rattle.pm_meaning.specs.Blocks.{carry_out, begun_block, closed, give_maybe}
 use Rattle.pm_meaning.specs.Judging.{judge_first}
 use Rattle.pm_meaning.specs.GlobalLock.{give_named}
 use Rattle.pm_meaning.specs.Locks.{value_or}
@@ -27,21 +28,24 @@ use Rattle.pm_vars.specs.Table.{Table}
 use Rattle.pm_recipe.specs.declared.tree.Flags.{Flags}
 use Rattle.pm_meaning.specs.declared.command_line.CommandLine.{CommandLine}
 use Rattle.pm_meaning.specs.Minds.{Mind}
+use Rattle.pm_meaning.specs.declared.chain.Chain.{Chain}
 use Rattle.pm_meaning.specs.declared.process.End.{End}
 use Rattle.pm_meaning.specs.declared.process.Ending.{Ending}
-use Rattle.pm_meaning.specs.declared.process.End.TheVariants.{FellOff, NoRc, NotBuilt}
+use Rattle.pm_meaning.specs.declared.process.End.TheVariants.{FellOff, NoRc}
 
--- what is left to do: an rcfile to open, or a statement
+-- what is left to do: an rcfile to open, a statement, or the end of a block, with the chain of its recipe and its lock
 pub data Item : Type 0 where
   Open : List ℕ → Item
   Do : Tree → Item
+  BlockEnd : Chain → Option (List ℕ) → Item
 
 -- the command line was read in this environment and these bytes came, a process has so much left to do, no statement ended
--- it and these default mailboxes are left to try, it is over, or LOCKFILE's lock was given back too
+-- it and these default mailboxes are left to try, it leaves blocks with these locks, it is over, or LOCKFILE's lock was given back too
 pub data State : Type 0 where
   Arrived : CommandLine → Environ → List ℕ → State
   Running : List Item → Mind → State
   FallingOff : List (List ℕ) → Mind → State
+  Leaving : List (Option (List ℕ)) → End → Mind → State
   Over : End → Mind → State
   Closing : End → Mind → State
 
@@ -115,29 +119,56 @@ default_mailboxes vars =
 abbrev pub statement : Tree → Mind → Plan Turn
 statement (Assign name text) p = assign name text p
 statement (Unset name) p = unset name p
-statement (Recipe top act) p = judge_first top (λ q. run_recipe top act q) p
+statement (Recipe top act) p = judge_first top (λ q. carry_out top act q) p
 statement (Defect line text) p = skip_defect text p
 
--- the process goes on with what is left, or is over
-abbrev pub next_of : List Item → Turn → Next State Ending
-next_of rest (GoesOn p) = Go (Running rest p)
-next_of rest (Halts end p) = Go (Over end p)
+-- what the open blocks have for locks, the innermost first
+abbrev pub locks_of : List Item → List (Option (List ℕ))
+locks_of [] = []
+locks_of (BlockEnd saved lock ∷ items) = lock ∷ locks_of items
+locks_of (other ∷ items) = locks_of items
 
--- what comes behind a default mailbox
+-- the statements of a block
+abbrev pub block_of_act : Act → Trees
+block_of_act (Block trees) = trees
+block_of_act other = nil
+
+abbrev pub block_of : Tree → Trees
+block_of (Recipe top act) = block_of_act act
+block_of other = nil
+
+-- what is left once a block was entered under this lock
+abbrev pub inside : Trees → Chain → Option (List ℕ) → List Item → List Item
+inside trees saved lock rest = ahead trees (BlockEnd saved lock ∷ rest)
+
+-- the process goes on with what is left, leaves all blocks to end, or goes on with a block's statements
+abbrev pub next_of : Tree → List Item → Turn → Next State Ending
+next_of tree rest (GoesOn p) = Go (Running rest p)
+next_of tree rest (Halts end p) = Go (Leaving (locks_of rest) end p)
+next_of tree rest (Enters lock p) = Go (Running (inside (block_of tree) p.chain lock rest) (begun_block p))
+
+-- what comes behind a default mailbox; no block is open there
 abbrev pub next_default : List (List ℕ) → Turn → Next State Ending
 next_default rest (GoesOn p) = Go (FallingOff rest p)
 next_default rest (Halts end p) = Go (Over end p)
+next_default rest (Enters lock p) = Go (FallingOff rest p)
 
 -- the next default mailbox is tried; without one no delivery was made
 abbrev pub falling_off : List (List ℕ) → Mind → Plan (Next State Ending)
 falling_off [] p = say_then p no_delivery_line (Go (Over FellOff p))
 falling_off (mailbox ∷ rest) p = and_then (deliver_default mailbox p) (λ turn. Ends (next_default rest turn))
 
--- what a process does next: it falls off the end, opens an rcfile, or carries a statement out
+-- what a process does next: it falls off the end, opens an rcfile, carries a statement out, or leaves a block, whose lock is given back
 abbrev pub running : List Item → Mind → Plan (Next State Ending)
 running [] p = Ends (Go (FallingOff (default_mailboxes p.vars) p))
 running (Open name ∷ rest) p = and_then (ask (ReadFile name)) (after_read name rest p)
-running (Do tree ∷ rest) p = and_then (statement tree p) (λ turn. Ends (next_of rest turn))
+running (Do tree ∷ rest) p = and_then (statement tree p) (λ turn. Ends (next_of tree rest turn))
+running (BlockEnd saved lock ∷ rest) p = and_then (give_maybe lock p) (λ q. Ends (Go (Running rest (closed saved q))))
+
+-- a process that ends inside blocks gives their locks back, the innermost first
+abbrev pub leaving : List (Option (List ℕ)) → End → Mind → Plan (Next State Ending)
+leaving [] end p = Ends (Go (Over end p))
+leaving (lock ∷ locks) end p = and_then (give_maybe lock p) (λ q. Ends (Go (Leaving locks end q)))
 
 -- how the run ends where the process ended so: what happens at its end isn't built yet
 abbrev pub ending : End → Mind → Ending
@@ -153,5 +184,6 @@ abbrev pub step : State → Plan (Next State Ending)
 step (Arrived line env bytes) = prepare line env bytes
 step (Running items p) = running items p
 step (FallingOff mailboxes p) = falling_off mailboxes p
+step (Leaving locks end p) = leaving locks end p
 step (Over end p) = and_then (give_named p.global p) (λ q. Ends (Go (Closing end q)))
 step (Closing end p) = unlock_each p.locks (Stop (ending end p))

@@ -1,5 +1,5 @@
 -- What comes of a statement, and what every statement may ask for.
-use Rattle.std.specs.Prelude.{ℕ, Bool, not, ◌-◌, ◌^◌, min, nat_eq, nat_lt, length, List, []}
+use Rattle.std.specs.Prelude.{ℕ, Bool, not, ◌-◌, ◌^◌, min, nat_eq, nat_lt, length, List, [], Option}
 use Rattle.pm_vars.specs.Table.{Table}
 use Rattle.pm_subst.specs.Commands.{commands_in}
 use Rattle.pm_subst.specs.Words.{size_in}
@@ -13,10 +13,11 @@ use Rattle.pm_meaning.specs.Minds.{Mind}
 use Rattle.pm_meaning.specs.declared.process.End.{End}
 use Rattle.pm_meaning.specs.declared.process.End.TheVariants.{NotBuilt}
 
--- the next statement comes, or the process ends
+-- the next statement comes, the process ends, or a block is entered under this lock
 pub data Turn : Type 0 where
   GoesOn : Mind → Turn
   Halts : End → Mind → Turn
+  Enters : Option (List ℕ) → Mind → Turn
 
 -- the statement has a form that isn't built yet
 abbrev pub not_built : Mind → Plan Turn

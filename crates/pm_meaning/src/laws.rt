@@ -1,4 +1,5 @@
 //! Laws of the meaning, each as the contract of a call that does nothing.
+ghost use Rattle.pm_meaning.specs.Chains.{SuccessIsLast};
 ghost use Rattle.pm_meaning.specs.Laws.{EndsOrWants, OneEnd, StoredIsDone, DeliveredIsDone};
 
 /// Over the same entries a step that ends wants no act.
@@ -20,4 +21,9 @@ pub fn stored_is_done()
 /// destinations of the recipe to which it came.
 pub fn delivered_is_done()
     ensures { DeliveredIsDone }
+{}
+
+/// A recipe that is executed and then succeeds leaves the chain of one that matched, was executed and succeeded.
+pub fn success_is_last()
+    ensures { SuccessIsLast }
 {}

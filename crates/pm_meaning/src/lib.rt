@@ -2,11 +2,13 @@
 //! exit status.
 #![tactic(auto)]
 
+pub mod chain;
 pub mod command_line;
 pub mod laws;
 pub mod process;
 pub mod status;
 
+pub use chain::{Chain, admits, after, new_chain, succeed};
 pub use command_line::CommandLine;
 pub use process::{Attempt, End, Ending, Filed, Process};
 pub use status::{Status, status_of};

@@ -1,4 +1,5 @@
 //! A process that runs recipes, what comes of a delivery, and how a process ends.
+use crate::Chain;
 use pm_bytes::Name;
 use pm_journal::HeldLocks;
 use pm_message::Message;
@@ -6,7 +7,7 @@ use pm_vars::Vars;
 
 /// The state of a process: the message that it delivers, its variables, the folder `base` from which names are seen
 /// (MAILDIR, procmailrc(5)), the host's name, whether the program is a mail filter (`-m`, procmail(1)), the locks that
-/// it holds, and which of them LOCKFILE names.
+/// it holds, which of them LOCKFILE names, and what came of the recipes before.
 #[derive(Drop)]
 pub struct Process {
     pub filter: bool,
@@ -16,6 +17,7 @@ pub struct Process {
     pub host_name: Name,
     pub locks: HeldLocks,
     pub global: Option<Name>,
+    pub chain: Chain,
 }
 
 /// How a process ended.

@@ -1,6 +1,6 @@
 -- Assignments in plans.
-use Rattle.std.proofs.Common.{◌≡◌, ◌≢◌, Bool, true, false, List, ℕ, Some, None, Result, Ok, Err, IfOk, OnErr, refl, sym, ap, ◌∙◌, subst}
-use Rattle.std.specs.Prelude.{if◌then◌else◌, bytes_eq, codes, ◌||◌}
+use Rattle.std.proofs.Common.{◌≡◌, ◌≢◌, Bool, true, false, List, ℕ, Some, None, refl, sym, ap, ◌∙◌, subst}
+use Rattle.std.specs.Prelude.{if◌then◌else◌, bytes_eq, codes}
 use Rattle.pm_bytes.specs.Path.{full_name}
 use Rattle.pm_host.specs.declared.answers.Looked.{Looked}
 use Rattle.pm_host.specs.declared.answers.Looked.TheVariants.{File as LookedFile, Folder, Nothing, Failed as LookFailed}
@@ -9,8 +9,6 @@ use Rattle.pm_journal.specs.Entries.{View}
 use Rattle.pm_journal.specs.LogText.{couldnt_chdir_line, unusable_name_line}
 use Rattle.pm_journal.specs.declared.acts.Act.TheVariants.{Probe, SayErr}
 use Rattle.pm_journal.specs.declared.acts.Reply.TheVariants.{Found}
-use Rattle.pm_vars.specs.Table.{Table}
-use Rattle.pm_vars.specs.Variables.{with_value}
 use Rattle.pm_subst.specs.declared.kinds.Mode.TheVariants.{One}
 use Rattle.pm_journal.specs.Plan.{Plan, Ends, and_then, ask}
 use Rattle.pm_journal.specs.Executed.{Executes, OutOfMemory}

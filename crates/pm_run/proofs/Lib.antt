@@ -3,3 +3,7 @@ pub mod EnvironmentLemmas
 pub mod JudgeLemmas
 pub mod ProcessLemmas
 mod GlobalLemmas
+mod FrameLemmas
+mod WalkLemmas
+mod LeaveLemmas
+mod GateLemmas

@@ -1,13 +1,11 @@
 -- The steps of a process, one after the other.
-use Rattle.std.proofs.Common.{◌≡◌, ◌≢◌, true, false, List, ℕ, [], ◌∷◌, ◌++◌, Option, Some, None, refl, sym, ap, ◌∙◌, subst, append_assoc}
+use Rattle.std.proofs.Common.{◌≡◌, true, false, List, ℕ, [], ◌∷◌, ◌++◌, Option, Some, None, refl, sym, ap, ◌∙◌, subst, append_assoc}
 use Rattle.std.specs.Prelude.{ℤ}
 use Rattle.pm_bytes.specs.declared.environment.Environ.{Environ}
 use Rattle.pm_message.specs.FromLine.{makes_line, prepared_of}
 use Rattle.pm_message.specs.Split.{split_of}
 use Rattle.pm_message.specs.declared.head.Message.{Message}
 use Rattle.pm_recipe.specs.Tree.{Trees}
-use Rattle.pm_recipe.specs.View.{tree_of, trees_of}
-use Rattle.pm_recipe.specs.declared.tree.Statement.{Statement}
 use Rattle.pm_recipe.specs.Listed.{rc_of}
 use Rattle.pm_append.specs.ReadsFile.{content_of}
 use Rattle.pm_journal.specs.JournalState.{JournalState}
@@ -23,7 +21,7 @@ use Rattle.pm_meaning.specs.FirstValues.{login_name, first_process}
 use Rattle.pm_meaning.specs.Changes.{entered}
 use Rattle.pm_meaning.specs.Turns.{Turn, GoesOn, Halts, say_then}
 use Rattle.pm_journal.specs.Walking.{Next, Stop, Go, Means, IsUnfinished, Reaches, Completes, Interrupted}
-use Rattle.pm_meaning.specs.Running.{State, Arrived, Running, FallingOff, Over, Closing, Item, Do, step, renewal, begun, dated, unread, ahead, after_read, default_mailboxes, deliver_default, next_default, statement, next_of}
+use Rattle.pm_meaning.specs.Running.{State, Arrived, Running, FallingOff, Over, Closing, step, renewal, begun, dated, unread, ahead, after_read, default_mailboxes, deliver_default, next_default}
 use Rattle.pm_meaning.specs.declared.command_line.CommandLine.{CommandLine}
 use Rattle.pm_meaning.specs.Minds.{Mind}
 use Rattle.pm_meaning.specs.declared.process.End.{End}
@@ -165,39 +163,6 @@ dated_then_wants line env bytes moment x y a b e h =
     then_out (makes_line bytes (renewal line.filter)) (and_then (ask Moment) (dated line env bytes)) (Ends (begun line env (split_of bytes))) x y a b e
     (out_then (ask Moment) (dated line env bytes) (Now moment) x y y a b b h (out_anywhere (dated line env bytes (Now moment)) y y b refl))
 
--- one statement of several
-first_statement : (items : List Statement) (item : Statement) (rest : List Statement) (p : Mind) → items ≡ item ∷ rest → Running (ahead (trees_of items) []) p ≡ Running (Do (tree_of item) ∷ ahead (trees_of rest) []) p
-first_statement items item rest p e = ap (λ l. Running (ahead (trees_of l) []) p) e
-
-stepped : (tree : Statement) (rest : List Item) (p : Mind) (turn : Turn) (x y : JournalState) (a b : View) → Executes (statement (tree_of tree) p) turn x y a b → Executes (step (Running (Do (tree_of tree) ∷ rest) p)) (next_of rest turn) x y a b
-stepped tree rest p turn x y a b h =
-    executes_then (statement (tree_of tree) p) (λ turn. Ends (next_of rest turn)) turn (next_of rest turn) x y y a b b h (executes_nothing (next_of rest turn) y y b refl)
-
-pub statement_on : (s : State) (items rest : List Statement) (item : Statement) (p q : Mind) (x y z : JournalState) (a b c : View) → items ≡ item ∷ rest → Reaches {X = Ending} step s (Running (ahead (trees_of items) []) p) x y a b
-    → Executes (statement (tree_of item) p) (GoesOn q) y z b c → Reaches {X = Ending} step s (Running (ahead (trees_of rest) []) q) x z a c
-statement_on s items rest item p q x y z a b c e h k =
-    reaches_then step s (Running (Do (tree_of item) ∷ ahead (trees_of rest) []) p) (Running (ahead (trees_of rest) []) q) x y z a b c
-    (subst (λ t. Reaches {X = Ending} step s t x y a b) (first_statement items item rest p e) h) (stepped item (ahead (trees_of rest) []) p (GoesOn q) y z b c k)
-
-pub statement_ends : (s : State) (items rest : List Statement) (item : Statement) (p q : Mind) (end : End) (x y z : JournalState) (a b c : View) → items ≡ item ∷ rest → Reaches {X = Ending} step s (Running (ahead (trees_of items) []) p) x y a b
-    → Executes (statement (tree_of item) p) (Halts end q) y z b c → Reaches {X = Ending} step s (Over end q) x z a c
-statement_ends s items rest item p q end x y z a b c e h k =
-    reaches_then step s (Running (Do (tree_of item) ∷ ahead (trees_of rest) []) p) (Over end q) x y z a b c
-    (subst (λ t. Reaches {X = Ending} step s t x y a b) (first_statement items item rest p e) h) (stepped item (ahead (trees_of rest) []) p (Halts end q) y z b c k)
-
-pub statement_wants : (s : State) (items rest : List Statement) (item : Statement) (p : Mind) (x y z : JournalState) (a b c : View) → items ≡ item ∷ rest → Reaches {X = Ending} step s (Running (ahead (trees_of items) []) p) x y a b
-    → OutOfMemory (statement (tree_of item) p) y z b c → Interrupted {X = Ending} step s x z a c
-statement_wants s items rest item p x y z a b c e h k =
-    interrupted_then step s (Running (Do (tree_of item) ∷ ahead (trees_of rest) []) p) x y z a b c
-    (subst (λ t. Reaches {X = Ending} step s t x y a b) (first_statement items item rest p e) h) (out_front (statement (tree_of item) p) (λ turn. Ends (next_of (ahead (trees_of rest) []) turn)) y z b c k)
-
--- what a statement is
-pub by_text : (item shown : Statement) (p : Mind) (turn : Turn) (x y : JournalState) (a b : View) → item ≡ shown → Executes (statement (tree_of shown) p) turn x y a b → Executes (statement (tree_of item) p) turn x y a b
-by_text item shown p turn x y a b e h = subst (λ i. Executes (statement (tree_of i) p) turn x y a b) (sym e) h
-
-pub by_text_out : (item shown : Statement) (p : Mind) (x y : JournalState) (a b : View) → item ≡ shown → OutOfMemory (statement (tree_of shown) p) x y a b → OutOfMemory (statement (tree_of item) p) x y a b
-by_text_out item shown p x y a b e h = subst (λ i. OutOfMemory (statement (tree_of i) p) x y a b) (sym e) h
-
 -- a process that is over, and gave its locks back
 pub over_completes : (s : State) (end : End) (q : Mind) (x y z : JournalState) (a b c : View) → Reaches {X = Ending} step s (Closing end q) x y a b → GivesEach q.locks y z b c
     → Completes step s (record { end = end }) x z a c
@@ -208,10 +173,6 @@ over_completes s end q x y z a b c h k =
       plays = unlocks_played q.locks (Stop (record { end = end })) k.given k.accounts.groups k.unlocks k.accounts.honest;
       accounts = k.accounts;
     })
-
-pub none_left : (o : Option End) → ((end : End) → o ≢ Some end) → o ≡ None
-none_left None h = refl
-none_left (Some end) h = absurd (h end refl)
 
 -- the lock of LOCKFILE was given back, and memory may have been wanting in it
 pub over_closes : (s : State) (end : End) (p q : Mind) (x y z : JournalState) (a b c : View) → Reaches {X = Ending} step s (Over end p) x y a b → Executes (give_named p.global p) q y z b c

@@ -1,2 +1,5 @@
 pub mod Ends
 pub mod Stretches
+pub mod Coming
+pub mod Frames
+pub mod Walk

@@ -10,7 +10,7 @@ ghost use Rattle.pm_meaning.specs.FirstValues.{program_values, file_values, all_
 
 use pm_bytes::{Blob, Environ, Memory, Name};
 use pm_journal::HeldLocks;
-use pm_meaning::Process;
+use pm_meaning::{Process, new_chain};
 use pm_message::Message;
 use pm_vars::Vars;
 use std::alloc::Global;
@@ -41,6 +41,7 @@ pub fn begin(
         host_name,
         locks: HeldLocks::new(alloc),
         global: None,
+        chain: new_chain(),
     })
 }
 

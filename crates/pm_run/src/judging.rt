@@ -1,30 +1,117 @@
-//! Recipes: the conditions are judged before the action (procmailrc(5), "Recipe format").
-ghost use Rattle.std.specs.Prelude.{◌≡◌};
-ghost use Rattle.pm_journal.specs.Executed.{Carries};
+//! Recipes: whether one is admitted by those before it, and its conditions, which are judged before the action
+//! (procmailrc(5), "Recipe format").
+ghost use Rattle.std.specs.Prelude.{◌≡◌, IfOk, OnErr};
+ghost use Rattle.pm_journal.specs.Executed.{Carries, OutOfMemory};
 ghost use Rattle.pm_journal.specs.Held.{Keeping};
 ghost use Rattle.pm_journal.specs.LogText.{defective_condition_line};
+ghost use Rattle.pm_journal.specs.Plan.{Plan, Ends};
 ghost use Rattle.pm_recipe.specs.View.{act_of};
-ghost use Rattle.pm_meaning.specs.Delivering.{run_recipe as acted};
-ghost use Rattle.pm_meaning.specs.Judging.{is_tied as is_tied_by, judge_first};
-ghost use Rattle.pm_meaning.specs.Minds.{mind_of};
-ghost use Rattle.pm_meaning.specs.Turns.{GoesOn, say_then};
+ghost use Rattle.pm_meaning.specs.Chains.{passed, executed};
+ghost use Rattle.pm_meaning.specs.Delivering.{act_on};
+ghost use Rattle.pm_meaning.specs.Judging.{by_verdict, judge_first};
+ghost use Rattle.pm_meaning.specs.Minds.{Mind, mind_of};
+ghost use Rattle.pm_meaning.specs.Turns.{Turn, GoesOn, say_then};
 ghost use Rattle.pm_actions.specs.Names.{top_of};
 ghost use Rattle.pm_actions.specs.Turning.{turn_of};
+ghost use Rattle.pm_run.specs.Coming.{ComesTo, is_matched as is_match};
 
 use pm_actions::{perform, skip_value};
 use pm_acts::{Outside, say};
 use pm_bytes::{Blob, Memory};
 use pm_conds::{Verdict, judge};
 use pm_journal::{Journal, defective_condition};
-use pm_meaning::{End, Process};
+use pm_meaning::{End, Process, admits, after};
 use pm_recipe::{Flags, Recipe};
 use std::alloc::Global;
 
-// Whether the recipe is tied to the recipes before it.
-fn is_tied(flags: Flags) -> bool
-    ensures { result ≡ is_tied_by flags }
+/// What comes of a recipe before its action: it is executed, or it isn't, and the process goes on or ends.
+#[derive(Drop)]
+pub enum Come {
+    Acts,
+    Ended(Option<End>),
+}
+
+/// Comes to a recipe: its conditions are judged where its flags admit it.
+pub fn come_to<D: Outside>(
+    alloc: Global,
+    recipe: &Recipe,
+    process: &mut Process,
+    outside: &mut D,
+    journal: &mut Journal,
+) -> Result<Come, Memory>
+    requires keeping { Keeping journal.old process.old.locks.names }
+    ensures comes { IfOk result (λ come. ComesTo come (top_of recipe.now) (mind_of process.old) (mind_of process.new)
+        journal.old journal.new (D.told outside.old) (D.told outside.new)) }
+    ensures memory { OnErr result ((acts : Mind → Plan Turn) →
+        OutOfMemory (judge_first (top_of recipe.now) acts (mind_of process.old))
+        journal.old journal.new (D.told outside.old) (D.told outside.new)) }
+    ensures keeping { Keeping journal.new process.new.locks.names }
 {
-    flags.and_chain || flags.and_ok || flags.or_else || flags.on_error
+    let flags = recipe.flags;
+    if !admits(&flags, &process.chain) {
+        pass(&flags, process);
+        return Ok(Come::Ended(None));
+    }
+    let conditions = recipe.conditions.as_slice();
+    let message = &process.message;
+    match judge(alloc, conditions, flags, message, &mut process.vars) {
+        Err(Memory) => Err(Memory),
+        Ok(verdict) => {
+            if is_matched(&verdict) {
+                execute(&flags, process);
+                return Ok(Come::Acts);
+            }
+            pass(&flags, process);
+            match tell_verdict(alloc, verdict, process, outside, journal) {
+                Err(Memory) => Err(Memory),
+                Ok(end) => Ok(Come::Ended(end)),
+            }
+        }
+    }
+}
+
+// The recipe isn't executed.
+fn pass(flags: &Flags, process: &mut Process)
+    ensures mind { mind_of process.new ≡ passed flags.now (mind_of process.old) }
+    ensures locks { process.new.locks ≡ process.old.locks }
+{
+    process.chain = after(flags, &process.chain, false, false, false);
+}
+
+// The recipe is executed, and has failed unless its action succeeds.
+fn execute(flags: &Flags, process: &mut Process)
+    ensures mind { mind_of process.new ≡ executed flags.now (mind_of process.old) }
+    ensures locks { process.new.locks ≡ process.old.locks }
+{
+    process.chain = after(flags, &process.chain, true, true, false);
+}
+
+fn is_matched(verdict: &Verdict) -> bool
+    ensures { result ≡ is_match verdict.now }
+{
+    matches!(verdict, Verdict::Matched)
+}
+
+// What is told of conditions that don't hold.
+fn tell_verdict<D: Outside>(
+    alloc: Global,
+    verdict: Verdict,
+    process: &mut Process,
+    outside: &mut D,
+    journal: &mut Journal,
+) -> Result<Option<End>, Memory>
+    requires keeping { Keeping journal.old process.old.locks.names }
+    ensures carries { let p = mind_of process.old in
+        Carries (by_verdict verdict p (Ends (GoesOn p))) (λ end. turn_of end (mind_of process.new)) result
+        journal.old journal.new (D.told outside.old) (D.told outside.new) }
+    ensures keeping { Keeping journal.new process.new.locks.names }
+{
+    match verdict {
+        Verdict::Matched | Verdict::Unmatched => Ok(None),
+        Verdict::Defective(text) => tell_defect(alloc, text, process, outside, journal),
+        Verdict::TooLong(length) => skip_value(alloc, length, process, outside, journal),
+        Verdict::NotBuilt => Ok(Some(End::NotBuilt)),
+    }
 }
 
 // A condition whose text is none is told.
@@ -47,7 +134,7 @@ fn tell_defect<D: Outside>(
     Ok(None)
 }
 
-/// Judges the conditions of a recipe, and carries it out where they hold.
+/// Comes to a recipe without a block, and does its action where it is executed.
 pub fn run_recipe<D: Outside>(
     alloc: Global,
     recipe: &Recipe,
@@ -57,21 +144,13 @@ pub fn run_recipe<D: Outside>(
 ) -> Result<Option<End>, Memory>
     requires keeping { Keeping journal.old process.old.locks.names }
     ensures carries { let top = top_of recipe.now in
-        Carries (judge_first top (λ p. acted top (act_of recipe.now.action) p) (mind_of process.old))
+        Carries (judge_first top (λ p. act_on top (act_of recipe.now.action) p) (mind_of process.old))
         (λ end. turn_of end (mind_of process.new)) result
         journal.old journal.new (D.told outside.old) (D.told outside.new) }
     ensures keeping { Keeping journal.new process.new.locks.names }
 {
-    if is_tied(recipe.flags) {
-        return Ok(Some(End::NotBuilt));
-    }
-    let conditions = recipe.conditions.as_slice();
-    let message = &process.message;
-    match judge(alloc, conditions, recipe.flags, message, &mut process.vars)? {
-        Verdict::Matched => perform(alloc, recipe, process, outside, journal),
-        Verdict::Unmatched => Ok(None),
-        Verdict::Defective(text) => tell_defect(alloc, text, process, outside, journal),
-        Verdict::TooLong(length) => skip_value(alloc, length, process, outside, journal),
-        Verdict::NotBuilt => Ok(Some(End::NotBuilt)),
+    match come_to(alloc, recipe, process, outside, journal)? {
+        Come::Acts => perform(alloc, recipe, process, outside, journal),
+        Come::Ended(end) => Ok(end),
     }
 }

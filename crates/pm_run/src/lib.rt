@@ -6,9 +6,13 @@
 mod assigning;
 mod falling_off;
 mod first_values;
+mod frames;
+mod gates;
 mod global_lock;
 mod judging;
+mod leaving;
 mod process;
 mod statements;
+mod walk;
 
 pub use process::run_process;

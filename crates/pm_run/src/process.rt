@@ -11,19 +11,23 @@ ghost use Rattle.pm_meaning.specs.Running.{Arrived, Running, Over, Closing, ahea
 ghost use Rattle.pm_meaning.specs.Running.{unread};
 ghost use Rattle.pm_meaning.specs.declared.process.Ending.{Ending};
 ghost use Rattle.pm_run.specs.Ends.{opening, opened_next};
+ghost use Rattle.pm_run.specs.Frames.{items_of};
 ghost use Rattle.pm_run.specs.Stretches.{Walks};
 
 use crate::falling_off::fall_off;
 use crate::first_values::{begin, login};
+use crate::frames::RcFrame;
 use crate::global_lock::give_lock;
-use crate::statements::run_statements;
+use crate::walk::run_frame;
 use pm_acts::{Outside, ask_moment, give_all, read, say};
 use pm_bytes::{Blob, Environ, Memory, Name};
+use pm_code::compile;
 use pm_journal::{HeldLocks, Journal, couldnt_read};
 use pm_meaning::{CommandLine, End, Ending, Process};
 use pm_message::{Message, Renew, needs_line, prepare, split};
 use pm_recipe::{Rc, RcRefused, Statements, one_rc, read_rc};
 use std::alloc::Global;
+use std::collections::VecDeque;
 
 // What came of opening an rcfile.
 #[derive(Drop)]
@@ -139,28 +143,42 @@ fn run_rcfile<D: Outside>(
 {
     match open_rcfile(alloc, name, process, outside, journal)? {
         Opened::Ended(end) => Ok(end),
-        Opened::Read(statements) => run_rest(alloc, &statements, process, outside, journal),
+        Opened::Read(statements) => run_rest(alloc, statements, process, outside, journal),
     }
 }
 
 // The statements, and what comes where none of them ends the process.
 fn run_rest<D: Outside>(
     alloc: Global,
-    statements: &Statements,
+    statements: Statements,
     process: &mut Process,
     outside: &mut D,
     journal: &mut Journal,
 ) -> Result<End, Memory>
     requires keeping { Keeping journal.old process.old.locks.names }
-    ensures walks { Walks (Running (ahead statements.now []) (mind_of process.old))
+    ensures walks { Walks (Running (ahead statements []) (mind_of process.old))
         (λ end. Over end (mind_of process.new)) result
         journal.old journal.new (D.told outside.old) (D.told outside.new) }
     ensures keeping { Keeping journal.new process.new.locks.names }
 {
-    match run_statements(alloc, statements, process, outside, journal)? {
+    let mut frame = begin_frame(alloc, statements)?;
+    match run_frame(alloc, &mut frame, process, outside, journal)? {
         Some(end) => Ok(end),
         None => fall_off(alloc, process, outside, journal),
     }
+}
+
+// The rcfile of these statements, with all of it left.
+fn begin_frame(alloc: Global, statements: Statements) -> Result<RcFrame, Memory>
+    ensures { IfOk result (λ frame. items_of frame ≡ ahead statements []) }
+{
+    let rc = Rc { statements };
+    let code = compile(alloc, &rc)?;
+    Ok(RcFrame {
+        code,
+        place: 0,
+        blocks: VecDeque::new(alloc),
+    })
 }
 
 // Reads the rcfile.

@@ -1,24 +1,18 @@
-use Rattle.std.proofs.Common.{sym, ◌∙◌}
 use Rattle.pm_recipe.specs.View.{act_of}
-use Rattle.pm_meaning.specs.Delivering.{deliver, run_recipe}
+use Rattle.pm_meaning.specs.Delivering.{deliver, act_on}
 use Rattle.pm_meaning.specs.Minds.{mind_of}
 use Rattle.pm_actions.specs.Names.{top_of}
-use Rattle.pm_actions.proofs.DeliverLemmas.{carried, ends_unbuilt, tied, acts_otherwise, stores}
+use Rattle.pm_actions.proofs.DeliverLemmas.{carried, ends_unbuilt, acts_otherwise, stores}
 use Rattle.pm_actions.proofs.delivering.perform.Goals as goal
-
-pub returns-then-not-is_plain-clause-carries : goal.returns-then-not-is_plain-clause-carries
-returns-then-not-is_plain-clause-carries g c =
-    let p = mind_of c.args.process.now in
-    (ends_unbuilt p _ _ _ (tied (top_of c.args.recipe.now) c.args.recipe.now.action p (sym c.is_plain.ensures ∙ c.if-not-is_plain.true)), tt)
 
 pub returns-in-Mailbox-clause-carries : goal.returns-in-Mailbox-clause-carries
 returns-in-Mailbox-clause-carries g c =
     let p = mind_of c.args.process.now in
     let top = top_of c.args.recipe.now in
-    let same = stores top c.args.recipe.now.action c.in-Mailbox.text c.as_slice.result.now p (sym c.is_plain.ensures ∙ c.if-not-is_plain.false) c.in-Mailbox.is c.as_slice.ensures in
-    carried (deliver top.flags top.lock c.as_slice.result.now p) (run_recipe top (act_of c.args.recipe.now.action) p) _ _ _ _ _ _ same c.deliver_mail.ensures.carries
+    let same = stores top c.args.recipe.now.action c.in-Mailbox.text c.as_slice.result.now p c.in-Mailbox.is c.as_slice.ensures in
+    carried (deliver top.flags top.lock c.as_slice.result.now p) (act_on top (act_of c.args.recipe.now.action) p) _ _ _ _ _ _ same c.deliver_mail.ensures.carries
 
 pub returns-in_default : goal.returns-in_default
 returns-in_default g c =
     let p = mind_of c.args.process.now in
-    record { carries = (ends_unbuilt p _ _ _ (acts_otherwise (top_of c.args.recipe.now) c.args.recipe.now.action p (sym c.is_plain.ensures ∙ c.if-not-is_plain.false) c.in_default.not-Mailbox), tt); keeping = c.requires.keeping }
+    record { carries = (ends_unbuilt p _ _ _ (acts_otherwise (top_of c.args.recipe.now) c.args.recipe.now.action p c.in_default.not-Mailbox), tt); keeping = c.requires.keeping }

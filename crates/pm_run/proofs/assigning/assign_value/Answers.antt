@@ -1,12 +1,11 @@
-use Rattle.std.proofs.Common.{◌≡◌, false, rules, refl, sym, ◌∙◌, ap}
+use Rattle.std.proofs.Common.{rules, refl, sym, ◌∙◌, ap}
 use Rattle.pm_journal.proofs.WantsMemory.{on_err, out_anywhere}
-use Rattle.pm_meaning.specs.Assigning.{leads_elsewhere, change_folder, assigned}
-use Rattle.pm_meaning.specs.GlobalLock.{change_lock}
+use Rattle.pm_meaning.specs.Assigning.{leads_elsewhere, assigned}
 use Rattle.pm_meaning.specs.Minds.{mind_of}
 use Rattle.pm_meaning.specs.Turns.{GoesOn}
 use Rattle.pm_actions.proofs.DeliverLemmas.{carried, ends_unbuilt}
 use Rattle.pm_actions.proofs.SkipLemmas.{set_then}
-use Rattle.pm_run.proofs.AssignLemmas.{ended, led_away, folder_changed, lock_changed, set_plainly}
+use Rattle.pm_run.proofs.AssignLemmas.{ended, led_away, folder_changed, set_plainly}
 use Rattle.pm_run.proofs.assigning.assign_value.Goals as goal
 
 pub returns-then-leads_elsewhere-clause-carries : goal.returns-then-leads_elsewhere-clause-carries

@@ -1,4 +1,4 @@
-use Rattle.std.proofs.Common.{None, refl, rules, sym, ap, ◌∙◌}
+use Rattle.std.proofs.Common.{None, rules, sym, ap, ◌∙◌}
 use Rattle.pm_journal.specs.Entries.{unlock_reply}
 use Rattle.pm_journal.proofs.WantsMemory.{on_err}
 use Rattle.pm_meaning.specs.Minds.{mind_of}

@@ -1,5 +1,3 @@
-use Rattle.std.proofs.Common.{rules, sym, subst}
-use Rattle.pm_journal.specs.Held.{Keeping}
 use Rattle.pm_journal.proofs.WalkJoin.{interrupted_at_once, interrupted_after, reaches_after, abandoned_by, gives_none}
 use Rattle.pm_journal.proofs.WantsMemory.{on_err}
 use Rattle.pm_meaning.specs.Minds.{mind_of}

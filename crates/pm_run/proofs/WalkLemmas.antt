@@ -1,0 +1,264 @@
+-- One item of an rcfile.
+use Rattle.std.proofs.Common.{◌≡◌, ◌<◌, ◌≤◌, ◌+◌, ◌∙◌, ℕ, List, [], ◌∷◌, true, false, Option, Some, None, length, drop, get_or, refl, sym, ap, subst, arith}
+use Rattle.std.proofs.lemmas.List.{drop_more, length-map, get_or-map}
+use Rattle.pm_recipe.specs.Tree.{Top, Trees, Tree, Assign, Unset, Recipe, Defect, Act, Mailbox, Pipe, Capture, Forward, WriteOut, Block}
+use Rattle.pm_recipe.specs.View.{act_of, top_of}
+use Rattle.pm_recipe.specs.declared.tree.Recipe.{Recipe as CodeRecipe}
+use Rattle.pm_code.specs.Flat.{Flat, Does, Enters, Leaves, flat_of, flats_of, written}
+use Rattle.pm_code.specs.Ahead.{first, others, lists_of, is_single, has_no_block}
+use Rattle.pm_code.proofs.Reading.{lists-whole}
+use Rattle.pm_code.specs.declared.steps.Step.{Step}
+use Rattle.pm_code.specs.declared.steps.Step.TheVariants as step_is
+use Rattle.pm_journal.specs.JournalState.{JournalState}
+use Rattle.pm_journal.specs.Entries.{View}
+use Rattle.pm_journal.specs.Plan.{Plan, Ends, and_then}
+use Rattle.pm_journal.specs.Executed.{Executes, OutOfMemory}
+use Rattle.pm_journal.specs.Walking.{Next, Go, Reaches, Interrupted}
+use Rattle.pm_journal.proofs.ActPlans.{executes_then}
+use Rattle.pm_journal.proofs.WalkJoin.{reaches_itself, reaches_once, interrupted_at_once}
+use Rattle.pm_journal.proofs.WantsMemory.{executes_nothing, out_front, out_then, out_anywhere}
+use Rattle.pm_meaning.specs.Blocks.{enter_block, begun_block, closed, give_maybe}
+use Rattle.pm_meaning.specs.Judging.{judge_first}
+use Rattle.pm_meaning.specs.Minds.{Mind}
+use Rattle.pm_meaning.specs.Turns.{Turn, GoesOn}
+use Rattle.pm_meaning.specs.Running.{State, Running, Leaving, Item, statement, next_of, ahead, step}
+use Rattle.pm_meaning.specs.declared.process.End.{End}
+use Rattle.pm_meaning.specs.declared.process.Ending.{Ending}
+use Rattle.pm_actions.specs.Turning.{turn_of}
+use Rattle.pm_run.specs.Frames.{weave, steps_of, items_of, block_locks, left_in}
+use Rattle.pm_run.specs.Walk.{single, plan_of, gate_turn, stands, stepped_of, IsStepAt, EndsAt, Entered, less_by}
+use Rattle.pm_run.specs.declared.frames.Open.{Open}
+use Rattle.pm_run.specs.declared.frames.RcFrame.{RcFrame}
+use Rattle.pm_run.specs.declared.gates.Gate.{Gate}
+use Rattle.pm_run.specs.declared.gates.Gate.TheVariants as gate
+use Rattle.pm_run.specs.declared.walk.Stepped.{Stepped}
+use Rattle.pm_run.proofs.FrameLemmas.{weave_does, weave_enters, weave_stops, weave_leaves, weave_over, weave_left, locks_woven, Jumps, jumps, single_here}
+
+abbrev Onward : Type 0
+Onward = Next State Ending
+
+-- the step that stands at a place
+step_here : (items : List Step) (i : ℕ) (s : Step) → i < length items → s ≡ get_or items i s → drop i (flats_of items) ≡ flat_of s ∷ drop (i + 1) (flats_of items)
+step_here items i s h e =
+    let fits : i < length (flats_of items) = subst (λ n. i < n) (sym (length-map items flat_of)) h in
+    drop_more (flats_of items) i (flat_of s) fits ∙ ap (λ q. q ∷ drop (i + 1) (flats_of items)) (get_or-map flat_of items i s (flat_of s) h ∙ ap flat_of (sym e))
+
+pub is_step_at : (items : List Step) (i : ℕ) (s : Step) → i < length items → s ≡ get_or items i s → IsStepAt s (flats_of items) i
+is_step_at items i s h e = record { fits = subst (λ n. i < n) (sym (length-map items flat_of)) h; ahead = step_here items i s h e }
+
+pub step_in : (s : Step) (items more : List Step) (place : ℕ) → IsStepAt s (flats_of more) place → more ≡ items → IsStepAt s (flats_of items) place
+step_in s items more place h e = subst (λ l. IsStepAt s (flats_of l) place) e h
+
+pub none_in : (items more : List Step) (place : ℕ) → drop place (flats_of more) ≡ [] → more ≡ items → drop place (flats_of items) ≡ []
+none_in items more place h e = subst (λ l. drop place (flats_of l) ≡ []) e h
+
+-- the step at a place, by what it is
+pub step_by : (s shown : Step) (steps : List Flat) (place : ℕ) → IsStepAt s steps place → s ≡ shown → drop place steps ≡ flat_of shown ∷ drop (place + 1) steps
+step_by s shown steps place h e = h.ahead ∙ ap (λ q. flat_of q ∷ drop (place + 1) steps) e
+
+pub enter_at : (f : RcFrame) (s : Step) (recipe : CodeRecipe) (end : ℕ) → IsStepAt s (steps_of f) f.place → s ≡ step_is.Enter recipe end → drop f.place (steps_of f) ≡ Enters (top_of recipe) end ∷ drop (f.place + 1) (steps_of f)
+enter_at f s recipe end at e = step_by s (step_is.Enter recipe end) (steps_of f) f.place at e
+
+pub jump_at : (f : RcFrame) (top : Top) (end : ℕ) → drop f.place (steps_of f) ≡ Enters top end ∷ drop (f.place + 1) (steps_of f) → Jumps (steps_of f) f.place end (drop (f.place + 1) (steps_of f))
+jump_at f top end e = jumps (steps_of f) f.place top end (drop (f.place + 1) (steps_of f)) f.code.ends e
+
+pub jump_fits : (f : RcFrame) (end : ℕ) (more : List Flat) → Jumps (steps_of f) f.place end more → end < length f.code.steps.items
+jump_fits f end more j = subst (λ n. end < n) (length-map f.code.steps.items flat_of) j.within
+
+-- a statement that has no block
+single_act : (top : Top) (act : Act) (p : Mind) → has_no_block act ≡ true → single (Recipe top act) p ≡ statement (Recipe top act) p
+single_act top (Mailbox text) p h = refl
+single_act top (Pipe line) p h = refl
+single_act top (Capture name line) p h = refl
+single_act top (Forward text) p h = refl
+single_act top WriteOut p h = refl
+single_act top (Block trees) p h = let e : false ≡ true = h in absurd (cc)
+
+single_is : (tree : Tree) (p : Mind) → is_single tree ≡ true → single tree p ≡ statement tree p
+single_is (Assign name value) p h = refl
+single_is (Unset name) p h = refl
+single_is (Defect line text) p h = refl
+single_is (Recipe top act) p h = single_act top act p h
+
+-- what comes of a statement, in an rcfile
+next_by : (tree : Tree) (g : RcFrame) (end : Option End) (q : Mind) → next_of tree (items_of g) (turn_of end q) ≡ Go (stands (stepped_of end) g q)
+next_by tree g None q = refl
+next_by tree g (Some end) q = ap (λ l. Go (Leaving l end q)) (locks_woven (lists_of (drop g.place (steps_of g))) g.blocks.items)
+
+-- a step that neither enters nor leaves a block is a statement
+pub record DoesOne (s : Step) : Type 0 where
+  pub tree : Tree
+  pub is : flat_of s ≡ Does tree
+
+pub does_one : (s : Step) → ((recipe : CodeRecipe) (end : ℕ) → s ≡ step_is.Enter recipe end → ⊥) → ((enter : ℕ) → s ≡ step_is.Leave enter → ⊥) → DoesOne s
+does_one (step_is.Assign name value) e l = record { tree = Assign name value; is = refl }
+does_one (step_is.Unset name) e l = record { tree = Unset name; is = refl }
+does_one (step_is.Defect line text) e l = record { tree = Defect line text; is = refl }
+does_one (step_is.Plain recipe) e l = record { tree = Recipe (top_of recipe) (act_of recipe.action); is = refl }
+does_one (step_is.Enter recipe end) e l = absurd (e recipe end refl)
+does_one (step_is.Leave enter) e l = absurd (l enter refl)
+
+-- what the step of the machine is at a statement
+statement_step : (f : RcFrame) (tree : Tree) (p : Mind) → drop f.place (steps_of f) ≡ Does tree ∷ drop (f.place + 1) (steps_of f)
+    → step (Running (items_of f) p) ≡ and_then (statement tree p) (λ turn. Ends (next_of tree (items_of (record f { place = f.place + 1 })) turn))
+statement_step f tree p e = ap (λ items. step (Running items p)) (weave_does (drop f.place (steps_of f)) tree (drop (f.place + 1) (steps_of f)) f.blocks.items e)
+
+-- the statement at a step, by what it does
+module _ (f : RcFrame) (s : Step) (p : Mind) (at : IsStepAt s (steps_of f) f.place) (d : DoesOne s) where
+  ahead_of : drop f.place (steps_of f) ≡ Does d.tree ∷ drop (f.place + 1) (steps_of f)
+  ahead_of = at.ahead ∙ ap (λ q. q ∷ drop (f.place + 1) (steps_of f)) d.is
+
+  plan_is : plan_of (flat_of s) p ≡ statement d.tree p
+  plan_is = ap (λ q. plan_of q p) d.is ∙ single_is d.tree p (single_here (steps_of f) f.place d.tree (drop (f.place + 1) (steps_of f)) f.code.ends ahead_of)
+
+  pub one_reaches : (end : Option End) (q : Mind) (x y : JournalState) (a b : View) → Executes (plan_of (flat_of s) p) (turn_of end q) x y a b
+      → Reaches {X = Ending} step (Running (items_of f) p) (stands (stepped_of end) (record f { place = f.place + 1 }) q) x y a b
+  one_reaches end q x y a b h =
+      let g = record f { place = f.place + 1 } in
+      let go : Turn → Plan Onward = λ turn. Ends (next_of d.tree (items_of g) turn) in
+      let next : Onward = Go (stands (stepped_of end) g q) in
+      let last : Executes (go (turn_of end q)) next y y b b = subst (λ n. Executes (Ends n) next y y b b) (sym (next_by d.tree g end q)) (executes_nothing next y y b refl) in
+      reaches_once step (Running (items_of f) p) (stands (stepped_of end) g q) x y a b
+      (subst (λ plan. Executes plan next x y a b) (sym (statement_step f d.tree p ahead_of))
+      (executes_then (statement d.tree p) go (turn_of end q) next x y y a b b (subst (λ plan. Executes plan (turn_of end q) x y a b) plan_is h) last))
+
+  pub one_wants : (x y : JournalState) (a b : View) → OutOfMemory (plan_of (flat_of s) p) x y a b → Interrupted {X = Ending} step (Running (items_of f) p) x y a b
+  one_wants x y a b h =
+      let go : Turn → Plan Onward = λ turn. Ends (next_of d.tree (items_of (record f { place = f.place + 1 })) turn) in
+      interrupted_at_once step (Running (items_of f) p) x y a b
+      (subst (λ plan. OutOfMemory plan x y a b) (sym (statement_step f d.tree p ahead_of))
+      (out_front (statement d.tree p) go x y a b (subst (λ plan. OutOfMemory plan x y a b) plan_is h)))
+
+-- a recipe with a block
+module _ (f : RcFrame) (top : Top) (end : ℕ) (p : Mind) (e : drop f.place (steps_of f) ≡ Enters top end ∷ drop (f.place + 1) (steps_of f)) where
+  abbrev more : List Flat
+  more = drop (f.place + 1) (steps_of f)
+
+  abbrev behind : List Item
+  behind = weave (others (lists_of more)) f.blocks.items
+
+  abbrev onto : Turn → Plan Onward
+  onto turn = Ends (next_of (Recipe top (Block (first (lists_of more)))) behind turn)
+
+  abbrev gate_plan : Plan Turn
+  gate_plan = judge_first top (λ q. enter_block top q) p
+
+  gate_step : step (Running (items_of f) p) ≡ and_then gate_plan onto
+  gate_step = ap (λ items. step (Running items p)) (weave_enters (drop f.place (steps_of f)) top end more f.blocks.items e)
+
+  pub gate_wants : (x y : JournalState) (a b : View) → OutOfMemory gate_plan x y a b → Interrupted {X = Ending} step (Running (items_of f) p) x y a b
+  gate_wants x y a b h =
+      interrupted_at_once step (Running (items_of f) p) x y a b (subst (λ plan. OutOfMemory plan x y a b) (sym gate_step) (out_front gate_plan onto x y a b h))
+
+  pub gate_then_wants : (turn : Turn) (x y : JournalState) (a b : View) → Executes gate_plan turn x y a b → Interrupted {X = Ending} step (Running (items_of f) p) x y a b
+  gate_then_wants turn x y a b h =
+      interrupted_at_once step (Running (items_of f) p) x y a b
+      (subst (λ plan. OutOfMemory plan x y a b) (sym gate_step) (out_then gate_plan onto turn x y y a b b h (out_anywhere (onto turn) y y b refl)))
+
+  -- the items of another frame
+  items_at : (g : RcFrame) (place : ℕ) → g ≡ record f { place = place } → weave (lists_of (drop place (steps_of f))) f.blocks.items ≡ items_of g
+  items_at g place is = ap items_of (sym is)
+
+  items_in : (g : RcFrame) (saved : Open) → g.code ≡ f.code → g.place ≡ f.place + 1 → g.blocks.items ≡ saved ∷ f.blocks.items → weave (lists_of more) (saved ∷ f.blocks.items) ≡ items_of g
+  items_in g saved c k b =
+      ap (λ l. weave (lists_of more) l) (sym b) ∙ ap (λ n. weave (lists_of (drop n (steps_of f))) g.blocks.items) (sym k)
+      ∙ ap (λ q. weave (lists_of (drop g.place (flats_of q.steps.items))) g.blocks.items) (sym c)
+
+  next_is : (was : Gate) (s : Stepped) (g : RcFrame) (q r : Mind) → Jumps (steps_of f) f.place end more → Entered (end + 1) was s f g q r
+      → next_of (Recipe top (Block (first (lists_of more)))) behind (gate_turn was q) ≡ Go (stands s g r)
+  next_is gate.Passes s g q r j h =
+      ap (λ l. Go (Running (weave l f.blocks.items) q)) (sym j.behind) ∙ ap (λ items. Go (Running items q)) (items_at g (end + 1) h.1)
+      ∙ ap (λ m. Go (Running (items_of g) m)) (sym h.2) ∙ ap (λ t. Go (stands t g r)) (sym h.0)
+  next_is (gate.Halts end) s g q r j h =
+      ap (λ l. Go (Leaving l end q)) (locks_woven (others (lists_of more)) f.blocks.items) ∙ ap (λ (k : RcFrame). Go (Leaving (block_locks k.blocks.items) end q)) (sym h.1)
+      ∙ ap (λ m. Go (Leaving (block_locks g.blocks.items) end m)) (sym h.2) ∙ ap (λ t. Go (stands t g r)) (sym h.0)
+  next_is (gate.Enters lock) s g q r j h =
+      ap (λ items. Go (Running items (begun_block q))) (items_in g (record { saved = q.chain; lock = lock }) h.1 h.2 h.3)
+      ∙ ap (λ m. Go (Running (items_of g) m)) (sym h.4) ∙ ap (λ t. Go (stands t g r)) (sym h.0)
+
+  pub gate_reaches : (was : Gate) (s : Stepped) (g : RcFrame) (q r : Mind) (x y : JournalState) (a b : View) → Jumps (steps_of f) f.place end more → Entered (end + 1) was s f g q r
+      → Executes gate_plan (gate_turn was q) x y a b → Reaches {X = Ending} step (Running (items_of f) p) (stands s g r) x y a b
+  gate_reaches was s g q r x y a b j h k =
+      let next : Onward = Go (stands s g r) in
+      reaches_once step (Running (items_of f) p) (stands s g r) x y a b
+      (subst (λ plan. Executes plan next x y a b) (sym gate_step)
+      (executes_then gate_plan onto (gate_turn was q) next x y y a b b k (subst (λ n. Executes (Ends n) next y y b b) (sym (next_is was s g q r j h)) (executes_nothing next y y b refl))))
+
+pub entered_falls : (behind : ℕ) (was : Gate) (s : Stepped) (f g : RcFrame) (m n : Mind) → Entered behind was s f g m n → f.place < behind → behind ≤ length f.code.steps.items → left_in g + less_by s ≤ left_in f
+entered_falls behind gate.Passes s f g m n h further within = subst (λ q. left_in g + less_by q ≤ left_in f) (sym h.0) (subst (λ q. left_in q + 1 ≤ left_in f) (sym h.1) (omega arith))
+entered_falls behind (gate.Halts end) s f g m n h further within = subst (λ q. left_in g + less_by q ≤ left_in f) (sym h.0) (subst (λ q. left_in q + 0 ≤ left_in f) (sym h.1) (omega arith))
+entered_falls behind (gate.Enters lock) s f g m n h further within =
+    let fewer : left_in g + 1 ≤ left_in f = omega (arith, ap (λ c. length c.steps.items) h.1, h.2, ap length h.3) in
+    subst (λ q. left_in g + less_by q ≤ left_in f) (sym h.0) fewer
+
+less_one : (end : Option End) → less_by (stepped_of end) ≤ 1
+less_one None = omega arith
+less_one (Some end) = omega arith
+
+pub one_falls : (f : RcFrame) (end : Option End) (s : Stepped) → s ≡ stepped_of end → f.place < length (steps_of f) → left_in (record f { place = f.place + 1 }) + less_by s ≤ left_in f
+one_falls f end s e h =
+    let fits : f.place < length f.code.steps.items = subst (λ n. f.place < n) (length-map f.code.steps.items flat_of) h in
+    omega (arith, fits, less_one end, ap less_by e)
+
+-- a block that ends
+module _ (f : RcFrame) (block : Open) (blocks : List Open) (next : ℕ) (p : Mind) (ends : EndsAt (steps_of f) f.place next) (e : f.blocks.items ≡ block ∷ blocks) where
+  abbrev later : List Item
+  later = weave (lists_of (drop next (steps_of f))) blocks
+
+  abbrev close : Mind → Plan Onward
+  close q = Ends (Go (Running later (closed block.saved q)))
+
+  end_step : step (Running (items_of f) p) ≡ and_then (give_maybe block.lock p) close
+  end_step = ap (λ items. step (Running items p)) (ap (λ l. weave (lists_of (drop f.place (steps_of f))) l) e ∙ ends.block block blocks)
+
+  pub block_reaches : (g : RcFrame) (q r : Mind) (x y : JournalState) (a b : View) → g.code ≡ f.code → g.place ≡ next → g.blocks.items ≡ blocks → r ≡ closed block.saved q
+      → Executes (give_maybe block.lock p) q x y a b → Reaches {X = Ending} step (Running (items_of f) p) (Running (items_of g) r) x y a b
+  block_reaches g q r x y a b c k bs re h =
+      let to : Onward = Go (Running (items_of g) r) in
+      let after : later ≡ items_of g =
+      ap (λ l. weave (lists_of (drop next (steps_of f))) l) (sym bs) ∙ ap (λ n. weave (lists_of (drop n (steps_of f))) g.blocks.items) (sym k)
+      ∙ ap (λ q. weave (lists_of (drop g.place (flats_of q.steps.items))) g.blocks.items) (sym c) in
+      let same : Go (Running later (closed block.saved q)) ≡ to = ap (λ items. Go (Running items (closed block.saved q))) after ∙ ap (λ m. Go (Running (items_of g) m)) (sym re) in
+      reaches_once step (Running (items_of f) p) (Running (items_of g) r) x y a b
+      (subst (λ plan. Executes plan to x y a b) (sym end_step)
+      (executes_then (give_maybe block.lock p) close q to x y y a b b h (subst (λ n. Executes (Ends n) to y y b b) (sym same) (executes_nothing to y y b refl))))
+
+  pub block_wants : (x y : JournalState) (a b : View) → OutOfMemory (give_maybe block.lock p) x y a b → Interrupted {X = Ending} step (Running (items_of f) p) x y a b
+  block_wants x y a b h =
+      interrupted_at_once step (Running (items_of f) p) x y a b (subst (λ plan. OutOfMemory plan x y a b) (sym end_step) (out_front (give_maybe block.lock p) close x y a b h))
+
+-- nothing is left of the rcfile
+pub file_reaches : (f : RcFrame) (next : ℕ) (p : Mind) (x : JournalState) (a : View) → EndsAt (steps_of f) f.place next → f.blocks.items ≡ []
+    → Reaches {X = Ending} step (Running (items_of f) p) (Running [] p) x x a a
+file_reaches f next p x a ends e =
+    subst (λ items. Reaches {X = Ending} step (Running (items_of f) p) (Running items p) x x a a) (ap (λ l. weave (lists_of (drop f.place (steps_of f))) l) e ∙ ends.file)
+    (reaches_itself step (Running (items_of f) p) x a)
+
+pub ends_stop : (steps : List Flat) (place : ℕ) → drop place steps ≡ [] → EndsAt steps place place
+ends_stop steps place e = record {
+  block = λ block blocks. weave_stops (drop place steps) block blocks e;
+  file = weave_over (drop place steps) e;
+  later = omega arith;
+}
+
+pub ends_leave : (steps : List Flat) (place enter : ℕ) → drop place steps ≡ Leaves enter ∷ drop (place + 1) steps → EndsAt steps place (place + 1)
+ends_leave steps place enter e = record {
+  block = λ block blocks. weave_leaves (drop place steps) enter (drop (place + 1) steps) block blocks e;
+  file = weave_left (drop place steps) enter (drop (place + 1) steps) e;
+  later = omega arith;
+}
+
+-- of whole code all its statements are left
+pub whole_items : (flats : List Flat) (trees : Trees) (blocks : List Open) → flats ≡ written 0 trees → blocks ≡ [] → weave (lists_of (drop 0 flats)) blocks ≡ ahead trees []
+whole_items flats trees blocks e none = ap (weave (lists_of (drop 0 flats))) none ∙ (ap (λ l. weave (lists_of l) []) e ∙ ap (λ l. weave l []) (lists-whole trees))
+
+-- what a step is
+pub by_step : (s shown : Step) (p : Mind) (turn : Turn) (x y : JournalState) (a b : View) → s ≡ shown → Executes (plan_of (flat_of shown) p) turn x y a b → Executes (plan_of (flat_of s) p) turn x y a b
+by_step s shown p turn x y a b e h = subst (λ i. Executes (plan_of (flat_of i) p) turn x y a b) (sym e) h
+
+pub by_step_out : (s shown : Step) (p : Mind) (x y : JournalState) (a b : View) → s ≡ shown → OutOfMemory (plan_of (flat_of shown) p) x y a b → OutOfMemory (plan_of (flat_of s) p) x y a b
+by_step_out s shown p x y a b e h = subst (λ i. OutOfMemory (plan_of (flat_of i) p) x y a b) (sym e) h
+
+pub no_statement : (s : Step) (shown : Flat) (p : Mind) (x : JournalState) (a : View) → flat_of s ≡ shown → plan_of shown p ≡ Ends (GoesOn p) → Executes (plan_of (flat_of s) p) (GoesOn p) x x a a
+no_statement s shown p x a e is =
+    subst (λ i. Executes (plan_of i p) (GoesOn p) x x a a) (sym e) (subst (λ plan. Executes plan (GoesOn p) x x a a) (sym is) (executes_nothing (GoesOn p) x x a refl))

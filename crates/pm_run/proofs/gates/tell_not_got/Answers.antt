@@ -1,0 +1,20 @@
+use Rattle.std.proofs.Common.{refl, rules}
+use Rattle.pm_journal.specs.LogText.{couldnt_lock_line}
+use Rattle.pm_journal.proofs.WantsMemory.{on_err, out_anywhere}
+use Rattle.pm_meaning.specs.Minds.{mind_of}
+use Rattle.pm_meaning.specs.Turns.{GoesOn}
+use Rattle.pm_actions.proofs.Choices.{line_told, line_out}
+use Rattle.pm_run.proofs.gates.tell_not_got.Goals as goal
+
+pub returns-in_err-line-clause-carries : goal.returns-in_err-line-clause-carries
+returns-in_err-line-clause-carries g c = (search rules, on_err _ _ (out_anywhere _ _ _ _ refl))
+
+pub returns-in_err-say-clause-carries : goal.returns-in_err-say-clause-carries
+returns-in_err-say-clause-carries g c =
+    let p = mind_of c.args.process.now in
+    (search rules, on_err _ _ (line_out p (couldnt_lock_line c.args.name.now) _ (GoesOn p) _ _ _ _ c.in_ok-line.ensures c.in_err-say.ensures.memory))
+
+pub returns-clause-carries : goal.returns-clause-carries
+returns-clause-carries g c =
+    let p = mind_of c.args.process.now in
+    (line_told p (couldnt_lock_line c.args.name.now) _ (GoesOn p) _ _ _ _ c.in_ok-line.ensures c.in_ok-say.ensures.ok, tt)

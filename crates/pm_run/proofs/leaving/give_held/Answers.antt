@@ -1,0 +1,25 @@
+use Rattle.std.proofs.Common.{rules, sym, ap, ◌∙◌}
+use Rattle.pm_journal.specs.Entries.{unlock_reply}
+use Rattle.pm_journal.proofs.WantsMemory.{on_err}
+use Rattle.pm_meaning.specs.Minds.{mind_of}
+use Rattle.pm_run.proofs.LeaveLemmas.{stuck_told, stuck_out, unlocked_out}
+use Rattle.pm_run.proofs.leaving.give_held.Goals as goal
+
+pub returns-in_err-line-clause-carries : goal.returns-in_err-line-clause-carries
+returns-in_err-line-clause-carries g c =
+    let p = mind_of c.args.process.now in
+    (search rules, on_err _ _ (unlocked_out c.args.name.now p (unlock_reply c.give-removed.result) _ _ _ _ c.give-removed.ensures.notes))
+
+pub returns-in_err-say-clause-carries : goal.returns-in_err-say-clause-carries
+returns-in_err-say-clause-carries g c =
+    let p = mind_of c.args.process.now in
+    (search rules, on_err _ _ (stuck_out c.args.name.now c.in_ok-line.line p (unlock_reply c.give-removed.result) c.args.journal.now c.give-removed.new.journal c.say.new.journal _ _ _ c.give-removed.ensures.notes (sym c.is_stuck.ensures ∙ c.if-is_stuck.true) c.in_ok-line.ensures c.in_err-say.ensures.memory))
+
+pub returns-in_ok-say-clause-carries : goal.returns-in_ok-say-clause-carries
+returns-in_ok-say-clause-carries g c =
+    let p = mind_of c.args.process.now in
+    let r = record p { locks = c.give-removed.new.held.names } in (
+      stuck_told c.args.name.now c.in_ok-line.line p r (unlock_reply c.give-removed.result) c.args.journal.now c.give-removed.new.journal c.say.new.journal _ _ _ c.give-removed.ensures.notes (sym c.is_stuck.ensures ∙ c.if-is_stuck.true) c.in_ok-line.ensures
+          (ap (λ l. record p { locks = l }) c.give-removed.ensures.names) c.in_ok-say.ensures.ok,
+      tt,
+    )

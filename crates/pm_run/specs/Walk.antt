@@ -1,0 +1,73 @@
+-- What comes of one item of an rcfile.
+use Rattle.std.specs.Prelude.{◌≡◌, ◌≤◌, ◌<◌, length, ℕ, ◌+◌, List, [], ◌∷◌, drop, Option, Some, None}
+use Rattle.pm_code.specs.Flat.{Flat, Does, flat_of}
+use Rattle.pm_code.specs.Ahead.{lists_of}
+use Rattle.pm_code.specs.declared.steps.Step.{Step}
+use Rattle.pm_recipe.specs.Tree.{Tree, Recipe}
+use Rattle.pm_journal.specs.Plan.{Plan, Ends}
+use Rattle.pm_meaning.specs.Blocks.{begun_block}
+use Rattle.pm_meaning.specs.Delivering.{act_on}
+use Rattle.pm_meaning.specs.Judging.{judge_first}
+use Rattle.pm_meaning.specs.Minds.{Mind}
+use Rattle.pm_meaning.specs.Turns.{Turn, GoesOn, Halts, Enters}
+use Rattle.pm_meaning.specs.Running.{State, Running, Leaving, statement}
+use Rattle.pm_meaning.specs.declared.process.End.{End}
+use Rattle.pm_run.specs.Frames.{items_of, weave, end_of, block_locks}
+use Rattle.pm_run.specs.declared.frames.Open.{Open}
+use Rattle.pm_run.specs.declared.frames.RcFrame.{RcFrame}
+use Rattle.pm_run.specs.declared.gates.Gate.{Gate}
+use Rattle.pm_run.specs.declared.gates.Gate.TheVariants as gate
+use Rattle.pm_run.specs.declared.walk.Stepped.{Stepped}
+use Rattle.pm_run.specs.declared.walk.Stepped.TheVariants as stepped
+
+-- what a statement asks for whose recipe has no block
+abbrev pub single : Tree → Mind → Plan Turn
+single (Recipe top act) p = judge_first top (λ q. act_on top act q) p
+single tree p = statement tree p
+
+-- what a step asks for that is such a statement
+abbrev pub plan_of : Flat → Mind → Plan Turn
+plan_of (Does tree) p = single tree p
+plan_of other p = Ends (GoesOn p)
+
+-- what comes of a recipe with a block
+abbrev pub gate_turn : Gate → Mind → Turn
+gate_turn gate.Passes p = GoesOn p
+gate_turn (gate.Halts end) p = Halts end p
+gate_turn (gate.Enters lock) p = Enters lock p
+
+-- where the process stands behind an item
+abbrev pub stands : Stepped → RcFrame → Mind → State
+stands stepped.Went f p = Running (items_of f) p
+stands (stepped.Halts end) f p = Leaving (block_locks f.blocks.items) end p
+stands stepped.Over f p = Running [] p
+
+-- what comes of a statement
+abbrev pub stepped_of : Option End → Stepped
+stepped_of None = stepped.Went
+stepped_of (Some end) = stepped.Halts end
+
+-- this step stands at the place
+pub record IsStepAt (step : Step) (steps : List Flat) (place : ℕ) : Type 0 where
+  pub fits : place < length steps
+  pub ahead : drop place steps ≡ flat_of step ∷ drop (place + 1) steps
+
+-- the innermost block ends here, and without one the rcfile does
+pub record EndsAt (steps : List Flat) (place next : ℕ) : Type 0 where
+  pub block : (open_block : Open) (blocks : List Open)
+      → weave (lists_of (drop place steps)) (open_block ∷ blocks) ≡ end_of open_block ∷ weave (lists_of (drop next steps)) blocks
+  pub file : weave (lists_of (drop place steps)) [] ≡ []
+  pub later : place ≤ next
+
+-- how the frame and the mind are behind a gate
+abbrev pub Entered : ℕ → Gate → Stepped → RcFrame → RcFrame → Mind → Mind → Type 0
+Entered behind gate.Passes s f g p q = (s ≡ stepped.Went) × (g ≡ record f { place = behind }) × (q ≡ p)
+Entered behind (gate.Halts end) s f g p q = (s ≡ stepped.Halts end) × (g ≡ f) × (q ≡ p)
+Entered behind (gate.Enters lock) s f g p q =
+    (s ≡ stepped.Went) × (g.code ≡ f.code) × (g.place ≡ f.place + 1)
+    × (g.blocks.items ≡ record { saved = p.chain; lock = lock } ∷ f.blocks.items) × (q ≡ begun_block p)
+
+-- so much less is left behind it
+abbrev pub less_by : Stepped → ℕ
+less_by stepped.Went = 1
+less_by other = 0

@@ -1,0 +1,224 @@
+//! Recipes with a block: whether it is entered, and under which lock (procmailrc(5), "Recipe action line" and "Local
+//! lockfile").
+ghost use Rattle.std.specs.Prelude.{◌≡◌, false, nat_lt, Some, if◌then◌else◌};
+ghost use Rattle.pm_journal.specs.Executed.{Carries};
+ghost use Rattle.pm_journal.specs.Held.{Keeping, holds_name};
+ghost use Rattle.pm_journal.specs.Locking.{lock_act};
+ghost use Rattle.pm_journal.specs.LogText.{couldnt_lock_line, forcing_lock_line};
+ghost use Rattle.pm_journal.specs.Plan.{Ends, and_then, ask};
+ghost use Rattle.pm_meaning.specs.Blocks.{enter_block as block_entered, enter_under as entered_under};
+ghost use Rattle.pm_meaning.specs.Blocks.{lock_block as block_locked, got_block_lock};
+ghost use Rattle.pm_meaning.specs.Judging.{judge_first};
+ghost use Rattle.pm_meaning.specs.Locks.{rule_of};
+ghost use Rattle.pm_meaning.specs.Minds.{Mind, mind_of};
+ghost use Rattle.pm_meaning.specs.Turns.{GoesOn, Enters, say_then};
+ghost use Rattle.pm_actions.specs.Names.{top_of};
+ghost use Rattle.pm_actions.specs.Turning.{turn_of};
+ghost use Rattle.pm_run.specs.Walk.{gate_turn};
+
+use crate::judging::{Come, come_to};
+use pm_actions::{
+    Expansion, expand_text, file_name, first_word, lock_rule, refuse, runs_command, skip_value,
+};
+use pm_acts::{Outside, say, take};
+use pm_bytes::{Memory, Name, full};
+use pm_journal::{Journal, LockEnd, couldnt_lock, forcing_lock, no_lock};
+use pm_meaning::{End, Process};
+use pm_recipe::Recipe;
+use pm_subst::Mode;
+use std::alloc::Global;
+
+/// What comes of a recipe with a block: it is passed by, the process ends, or the block is entered under this lock.
+#[derive(Drop)]
+pub enum Gate {
+    Passes,
+    Halts(End),
+    Enters(Option<Name>),
+}
+
+/// Comes to a recipe with a block.
+pub fn pass_gate<D: Outside>(
+    alloc: Global,
+    recipe: &Recipe,
+    process: &mut Process,
+    outside: &mut D,
+    journal: &mut Journal,
+) -> Result<Gate, Memory>
+    requires keeping { Keeping journal.old process.old.locks.names }
+    ensures carries { let top = top_of recipe.now in
+        Carries (judge_first top (λ p. block_entered top p) (mind_of process.old))
+        (λ gate. gate_turn gate (mind_of process.new)) result
+        journal.old journal.new (D.told outside.old) (D.told outside.new) }
+    ensures keeping { Keeping journal.new process.new.locks.names }
+{
+    match come_to(alloc, recipe, process, outside, journal)? {
+        Come::Acts => enter_block(alloc, recipe, process, outside, journal),
+        Come::Ended(end) => Ok(gate_by(end)),
+    }
+}
+
+// The gate of a recipe that is over before its action, or whose lock wasn't got.
+fn gate_by(end: Option<End>) -> Gate
+    ensures { (p : Mind) → turn_of end p ≡ gate_turn result p }
+{
+    match end {
+        None => Gate::Passes,
+        Some(end) => Gate::Halts(end),
+    }
+}
+
+// The block of a recipe that is executed. A copy of the process isn't built yet.
+fn enter_block<D: Outside>(
+    alloc: Global,
+    recipe: &Recipe,
+    process: &mut Process,
+    outside: &mut D,
+    journal: &mut Journal,
+) -> Result<Gate, Memory>
+    requires keeping { Keeping journal.old process.old.locks.names }
+    ensures carries { Carries (block_entered (top_of recipe.now) (mind_of process.old))
+        (λ gate. gate_turn gate (mind_of process.new)) result
+        journal.old journal.new (D.told outside.old) (D.told outside.new) }
+    ensures keeping { Keeping journal.new process.new.locks.names }
+{
+    if recipe.flags.copy {
+        return Ok(Gate::Halts(End::NotBuilt));
+    }
+    match &recipe.lock {
+        None => Ok(Gate::Enters(None)),
+        Some(text) => enter_under(alloc, text.as_slice(), process, outside, journal),
+    }
+}
+
+// The block is entered under the lock of this text. A block has no automatic lock, which is told.
+fn enter_under<D: Outside>(
+    alloc: Global,
+    text: &[u8],
+    process: &mut Process,
+    outside: &mut D,
+    journal: &mut Journal,
+) -> Result<Gate, Memory>
+    requires keeping { Keeping journal.old process.old.locks.names }
+    ensures carries { Carries (entered_under text.now (mind_of process.old))
+        (λ gate. gate_turn gate (mind_of process.new)) result
+        journal.old journal.new (D.told outside.old) (D.told outside.new) }
+    ensures keeping { Keeping journal.new process.new.locks.names }
+{
+    if text.is_empty() {
+        let line = no_lock(alloc, b"{")?;
+        say(&process.locks, line, outside, journal)?;
+        return Ok(Gate::Enters(None));
+    }
+    if runs_command(alloc, text, Mode::One)? {
+        return Ok(Gate::Halts(End::NotBuilt));
+    }
+    match expand_text(alloc, text, Mode::One, &process.vars)? {
+        Expansion::Words(words) => {
+            let value = first_word(alloc, words);
+            lock_block(alloc, text, value.as_slice(), process, outside, journal)
+        }
+        Expansion::TooLong(length) => {
+            Ok(gate_by(skip_value(alloc, length, process, outside, journal)?))
+        }
+    }
+}
+
+// The lock of this value is asked for, unless it can't be a file's name or is held already.
+fn lock_block<D: Outside>(
+    alloc: Global,
+    text: &[u8],
+    value: &[u8],
+    process: &mut Process,
+    outside: &mut D,
+    journal: &mut Journal,
+) -> Result<Gate, Memory>
+    requires keeping { Keeping journal.old process.old.locks.names }
+    ensures carries { Carries (block_locked text.now value.now (mind_of process.old))
+        (λ gate. gate_turn gate (mind_of process.new)) result
+        journal.old journal.new (D.told outside.old) (D.told outside.new) }
+    ensures keeping { Keeping journal.new process.new.locks.names }
+{
+    match file_name(alloc, value)? {
+        None => Ok(gate_by(refuse(alloc, text, process, outside, journal)?)),
+        Some(name) => {
+            let lock = full(alloc, &process.base, &name)?;
+            if process.locks.holds(&lock) {
+                return Ok(gate_by(refuse(alloc, text, process, outside, journal)?));
+            }
+            ask_lock(alloc, lock, process, outside, journal)
+        }
+    }
+}
+
+fn ask_lock<D: Outside>(
+    alloc: Global,
+    name: Name,
+    process: &mut Process,
+    outside: &mut D,
+    journal: &mut Journal,
+) -> Result<Gate, Memory>
+    requires free { holds_name process.old.locks.names name ≡ false }
+    requires keeping { Keeping journal.old process.old.locks.names }
+    ensures carries { let p = mind_of process.old in
+        Carries (and_then (ask (lock_act name (rule_of p.vars))) (got_block_lock name p))
+        (λ gate. gate_turn gate (mind_of process.new)) result
+        journal.old journal.new (D.told outside.old) (D.told outside.new) }
+    ensures keeping { Keeping journal.new process.new.locks.names }
+{
+    let rule = lock_rule(&process.vars);
+    let noted = name.copy(alloc)?;
+    let kept = name.copy(alloc)?;
+    let shown = name.copy(alloc)?;
+    process.locks.reserve()?;
+    journal.reserve(process.locks.len() + 2)?;
+    match take(&mut process.locks, noted, kept, rule, outside, journal) {
+        LockEnd::Held { forced, .. } => {
+            tell_forced(alloc, forced, &shown, name, process, outside, journal)
+        }
+        _ => tell_not_got(alloc, &shown, process, outside, journal),
+    }
+}
+
+// A lock file that was removed by force is told, and the block is entered.
+fn tell_forced<D: Outside>(
+    alloc: Global,
+    forced: u32,
+    shown: &Name,
+    name: Name,
+    process: &Process,
+    outside: &mut D,
+    journal: &mut Journal,
+) -> Result<Gate, Memory>
+    requires keeping { Keeping journal.old process.now.locks.names }
+    ensures carries { let p = mind_of process.now in
+        Carries (if nat_lt 0 forced then say_then p (forcing_lock_line shown.now) (Enters (Some name) p)
+        else Ends (Enters (Some name) p)) (λ gate. gate_turn gate p) result
+        journal.old journal.new (D.told outside.old) (D.told outside.new) }
+    ensures keeping { Keeping journal.new process.now.locks.names }
+{
+    if forced == 0 {
+        return Ok(Gate::Enters(Some(name)));
+    }
+    let line = forcing_lock(alloc, shown)?;
+    say(&process.locks, line, outside, journal)?;
+    Ok(Gate::Enters(Some(name)))
+}
+
+// A lock that wasn't got is told, and the block isn't entered.
+fn tell_not_got<D: Outside>(
+    alloc: Global,
+    name: &Name,
+    process: &Process,
+    outside: &mut D,
+    journal: &mut Journal,
+) -> Result<Gate, Memory>
+    requires keeping { Keeping journal.old process.now.locks.names }
+    ensures carries { let p = mind_of process.now in
+        Carries (say_then p (couldnt_lock_line name.now) (GoesOn p)) (λ gate. gate_turn gate p) result
+        journal.old journal.new (D.told outside.old) (D.told outside.new) }
+    ensures keeping { Keeping journal.new process.now.locks.names }
+{
+    let line = couldnt_lock(alloc, name)?;
+    say(&process.locks, line, outside, journal)?;
+    Ok(Gate::Passes)
+}

@@ -1,0 +1,177 @@
+//! The items of an rcfile, one after the other.
+ghost use Rattle.std.specs.Prelude.{◌≡◌, ◌<◌, ◌≤◌, ◌+◌, [], length, drop, IfOk, MatchOption};
+ghost use Rattle.pm_code.specs.Flat.{flats_of};
+ghost use Rattle.pm_journal.specs.Held.{Keeping};
+ghost use Rattle.pm_meaning.specs.Minds.{mind_of};
+ghost use Rattle.pm_meaning.specs.Running.{Running};
+ghost use Rattle.pm_run.specs.Ends.{stands_at};
+ghost use Rattle.pm_run.specs.Frames.{items_of, steps_of, left_in};
+ghost use Rattle.pm_run.specs.Stretches.{Walks};
+ghost use Rattle.pm_run.specs.Walk.{stands, less_by, IsStepAt, EndsAt, Entered, stepped_of};
+
+use crate::frames::{Open, RcFrame};
+use crate::gates::{Gate, pass_gate};
+use crate::leaving::{give_maybe, leave_blocks};
+use crate::statements::run_statement;
+use pm_acts::Outside;
+use pm_bytes::Memory;
+use pm_code::Step;
+use pm_journal::Journal;
+use pm_meaning::{End, Process, new_chain, succeed};
+use std::alloc::Global;
+
+/// What comes of an item: the next one, the process's end, or the rcfile's.
+#[derive(Clone, Copy)]
+pub enum Stepped {
+    Went,
+    Halts(End),
+    Over,
+}
+
+/// Runs what is left of the rcfile, up to the process's end, if a statement ends it. Then the open blocks are left.
+pub fn run_frame<D: Outside>(
+    alloc: Global,
+    frame: &mut RcFrame,
+    process: &mut Process,
+    outside: &mut D,
+    journal: &mut Journal,
+) -> Result<Option<End>, Memory>
+    requires keeping { Keeping journal.old process.old.locks.names }
+    ensures walks { Walks (Running (items_of frame.old) (mind_of process.old))
+        (λ end. stands_at end (mind_of process.new)) result
+        journal.old journal.new (D.told outside.old) (D.told outside.new) }
+    ensures keeping { Keeping journal.new process.new.locks.names }
+{
+    loop {
+        match step_frame(alloc, frame, process, outside, journal)? {
+            Stepped::Went => {}
+            Stepped::Over => return Ok(None),
+            Stepped::Halts(end) => {
+                leave_blocks(alloc, &mut frame.blocks, end, process, outside, journal)?;
+                return Ok(Some(end));
+            }
+        }
+    }
+}
+
+// Does the first item of the rcfile.
+fn step_frame<D: Outside>(
+    alloc: Global,
+    frame: &mut RcFrame,
+    process: &mut Process,
+    outside: &mut D,
+    journal: &mut Journal,
+) -> Result<Stepped, Memory>
+    requires keeping { Keeping journal.old process.old.locks.names }
+    ensures walks { Walks (Running (items_of frame.old) (mind_of process.old))
+        (λ stepped. stands stepped frame.new (mind_of process.new)) result
+        journal.old journal.new (D.told outside.old) (D.told outside.new) }
+    ensures keeping { Keeping journal.new process.new.locks.names }
+    ensures falls { IfOk result (λ stepped. left_in frame.new + less_by stepped ≤ left_in frame.old) }
+{
+    match step_at(&frame.code.steps, frame.place) {
+        None => {
+            let place = frame.place;
+            end_innermost(alloc, frame, place, process, outside, journal)
+        }
+        Some(step) => match step {
+            Step::Leave { .. } => {
+                let next = frame.place + 1;
+                end_innermost(alloc, frame, next, process, outside, journal)
+            }
+            Step::Enter { recipe, end } => {
+                let behind = *end + 1;
+                match pass_gate(alloc, recipe, process, outside, journal) {
+                    Err(Memory) => Err(Memory),
+                    Ok(gate) => enter_block(frame, behind, gate, process),
+                }
+            }
+            _ => match run_statement(alloc, step, process, outside, journal) {
+                Err(Memory) => Err(Memory),
+                Ok(end) => {
+                    frame.place += 1;
+                    Ok(stepped_by(end))
+                }
+            },
+        },
+    }
+}
+
+// The step at this place, where the code goes so far.
+fn step_at(steps: &[Step], place: usize) -> Option<&Step>
+    ensures { MatchOption result (drop place (flats_of steps.now) ≡ [])
+        (λ step. IsStepAt step.now (flats_of steps.now) place) }
+{
+    if place < steps.len() {
+        Some(&steps[place])
+    } else {
+        None
+    }
+}
+
+// The block is entered or passed by.
+fn enter_block(
+    frame: &mut RcFrame,
+    behind: usize,
+    gate: Gate,
+    process: &mut Process,
+) -> Result<Stepped, Memory>
+    requires further { frame.old.place < behind }
+    requires within { behind ≤ length frame.old.code.steps.items }
+    ensures entered { IfOk result (λ stepped.
+        Entered behind gate stepped frame.old frame.new (mind_of process.old) (mind_of process.new)) }
+    ensures locks { process.new.locks ≡ process.old.locks }
+{
+    match gate {
+        Gate::Passes => {
+            frame.place = behind;
+            Ok(Stepped::Went)
+        }
+        Gate::Halts(end) => Ok(Stepped::Halts(end)),
+        Gate::Enters(lock) => {
+            let saved = process.chain;
+            frame.blocks.push_front(Open { saved, lock })?;
+            frame.place += 1;
+            process.chain = new_chain();
+            Ok(Stepped::Went)
+        }
+    }
+}
+
+// Ends the innermost block; without one the rcfile is over.
+fn end_innermost<D: Outside>(
+    alloc: Global,
+    frame: &mut RcFrame,
+    next: usize,
+    process: &mut Process,
+    outside: &mut D,
+    journal: &mut Journal,
+) -> Result<Stepped, Memory>
+    requires ends { EndsAt (steps_of frame.old) frame.old.place next }
+    requires keeping { Keeping journal.old process.old.locks.names }
+    ensures walks { Walks (Running (items_of frame.old) (mind_of process.old))
+        (λ stepped. stands stepped frame.new (mind_of process.new)) result
+        journal.old journal.new (D.told outside.old) (D.told outside.new) }
+    ensures keeping { Keeping journal.new process.new.locks.names }
+    ensures falls { IfOk result (λ stepped. left_in frame.new + less_by stepped ≤ left_in frame.old) }
+{
+    match frame.blocks.pop_front() {
+        None => Ok(Stepped::Over),
+        Some(open) => {
+            let Open { saved, lock } = open;
+            give_maybe(alloc, &lock, process, outside, journal)?;
+            frame.place = next;
+            process.chain = succeed(&saved);
+            Ok(Stepped::Went)
+        }
+    }
+}
+
+fn stepped_by(end: Option<End>) -> Stepped
+    ensures { result ≡ stepped_of end }
+{
+    match end {
+        None => Stepped::Went,
+        Some(end) => Stepped::Halts(end),
+    }
+}
