@@ -2,10 +2,9 @@
 #![tactic(auto)]
 
 use formail_top::formail;
-use pm_bytes::{Environ, Memory};
+use pm_bytes::{Environ, Memory, Pairs};
 use pm_real::{RealHost, RealSink, RealSource};
 use pm_start::{Words, machine_name, read_environment, read_words};
-use std::fs;
 use std::process::ExitCode;
 
 fn main(rt: HostRuntime) -> ExitCode {
@@ -26,7 +25,7 @@ fn status(rt: &HostRuntime) -> u8 {
 
 fn run(rt: &HostRuntime, words: &[String]) -> Result<u8, Memory> {
     let alloc = rt.alloc();
-    let env = surroundings(rt)?;
+    let env = surroundings(rt, words)?;
     let mut source = RealSource::stdin(rt, alloc)?;
     let mut host = RealHost::new(rt, alloc, env.pid)?;
     let mut out = RealSink::stdout(rt, alloc)?;
@@ -42,16 +41,30 @@ fn run(rt: &HostRuntime, words: &[String]) -> Result<u8, Memory> {
     ))
 }
 
-// A machine whose `/etc/hostname` can't be read has no name there.
-fn surroundings(rt: &HostRuntime) -> Result<Environ, Memory> {
+// Nothing of formail names the machine.
+fn surroundings(rt: &HostRuntime, words: &[String]) -> Result<Environ, Memory> {
     let alloc = rt.alloc();
-    let host_name = match fs::read(rt, "/etc/hostname") {
-        Ok(text) => machine_name(alloc, text.as_slice())?,
-        Err(_) => machine_name(alloc, b"")?,
-    };
     Ok(Environ {
-        vars: read_environment(alloc, rt)?,
+        vars: variables(rt, words)?,
         pid: std::process::id(rt.process()),
-        host_name,
+        host_name: machine_name(alloc, b"")?,
     })
+}
+
+// Only children are given the environment, so without any it isn't read.
+fn variables(rt: &HostRuntime, words: &[String]) -> Result<Pairs, Memory> {
+    let alloc = rt.alloc();
+    if may_start_programs(words) {
+        return read_environment(alloc, rt);
+    }
+    Ok(Pairs::from_vec(Vec::new(alloc)))
+}
+
+// Whether `-s` may stand among the words.
+fn may_start_programs(words: &[String]) -> bool {
+    words.iter().any(|word| may_split(word.as_bytes()))
+}
+
+fn may_split(word: &[u8]) -> bool {
+    word.starts_with(b"-") && word.contains(&b's')
 }

@@ -1,10 +1,10 @@
 -- Worked examples, computed.
-use Rattle.std.proofs.Common.{◌≡◌, ℕ, List, [], ◌∷◌, Bool, true, false, Option, Some, None, codes, refl}
+use Rattle.std.proofs.Common.{◌≡◌, ℕ, List, [], ◌∷◌, true, false, Some, None, codes, refl}
 use Rattle.pm_message.specs.Split.{split_of}
 use Rattle.formail_edit.specs.declared.edits.Edits.{Edits}
-use Rattle.formail_edit.specs.declared.edits.Put.{Put}
-use Rattle.formail_edit.specs.declared.edits.PutKind.TheVariants.{Old, Replace, IfNone, Always}
+use Rattle.formail_edit.specs.declared.edits.PutKind.TheVariants.{Old, Always}
 use Rattle.formail_extra.specs.Seen.{identifier_of}
+use Rattle.formail_extra.specs.Cache.{marks_of}
 use Rattle.formail_extra.specs.Reply.{reply_of, envelope_of}
 
 abbrev plain : Edits
@@ -36,3 +36,27 @@ long_identifier = refl
 
 no_identifier : identifier_of (split_of (codes "A: b\n\nhi\n")) ≡ None
 no_identifier = refl
+
+seen_before : marks_of 8_192 (codes "<a@x>\n") (Some (codes "<a@x>") ∷ []) ≡ record { kept = false ∷ []; cache = codes "<a@x>\n" }
+seen_before = refl
+
+added : marks_of 8_192 (codes "<a@x>\n") (identifier_of (split_of (codes "Message-Id: <b@x>\n\nhi\n")) ∷ []) ≡ record { kept = true ∷ []; cache = codes "<a@x>\n<b@x>\n" }
+added = refl
+
+full_begins_anew : marks_of 6 (codes "<a@x>\n") (Some (codes "<b@x>") ∷ []) ≡ record { kept = true ∷ []; cache = codes "<b@x>\n" }
+full_begins_anew = refl
+
+open_line_is_ended : marks_of 8_192 (codes "<a@") (Some (codes "<b@x>") ∷ []) ≡ record { kept = true ∷ []; cache = codes "<a@\n<b@x>\n" }
+open_line_is_ended = refl
+
+kept_without_one : marks_of 8_192 (codes "<a@x>\n") (None ∷ []) ≡ record { kept = true ∷ []; cache = codes "<a@x>\n" }
+kept_without_one = refl
+
+seen_in_the_same_mailbox : marks_of 8_192 [] (Some (codes "<a@x>") ∷ Some (codes "<a@x>") ∷ []) ≡ record { kept = true ∷ false ∷ []; cache = codes "<a@x>\n" }
+seen_in_the_same_mailbox = refl
+
+a_part_of_a_line_is_none : marks_of 8_192 (codes "a b\nc") (Some (codes "b") ∷ Some (codes "a") ∷ []) ≡ record { kept = true ∷ true ∷ []; cache = codes "a b\nc\nb\na\n" }
+a_part_of_a_line_is_none = refl
+
+an_open_line_is_none : marks_of 8_192 (codes "a b\nc") (Some (codes "c") ∷ []) ≡ record { kept = true ∷ []; cache = codes "a b\nc\nc\n" }
+an_open_line_is_none = refl

@@ -1,12 +1,9 @@
 -- The output for an input, put together.
-use Rattle.std.proofs.Common.{◌≡◌, ℕ, ◌+◌, ◌-◌, ℤ, pos, Bool, true, false, List, Option, length, map, take, drop, refl, sym, ◌∙◌, ap, subst}
-use Rattle.std.proofs.lemmas.List.{take-map, drop-map, length-map}
+use Rattle.std.proofs.Common.{◌≡◌, ◌<◌, ℕ, ◌-◌, Bool, List, [], ◌∷◌, ◌++◌, Option, arith, length, take, drop, refl, sym, ◌∙◌, ap, subst}
+use Rattle.std.proofs.lemmas.List.{take-map, drop-map, length-map, append-nil}
 use Rattle.std.specs.Borrow.{Bor}
-use Rattle.pm_host.specs.Told.{HostView}
 use Rattle.formail_split.specs.Parts.{first_of, behind_last_of, selected, texts_of}
-use Rattle.formail_top.specs.Outputs.{mails_of, wants_moment, outputs_of}
-use Rattle.formail_top.specs.Run.{Asks, AsksIf, IsOutput}
-use Rattle.formail_top.specs.declared.request.Request.{Request}
+use Rattle.formail_top.specs.Outputs.{kept_of}
 
 -- the texts of the slices between two places are the texts between them
 pub between : (slices : List (Bor (List ℕ))) (first count : ℕ) → texts_of (take count (drop first slices)) ≡ take count (drop first (texts_of slices))
@@ -24,18 +21,8 @@ are_selected slices skip total parts first last are first_is last_is =
     (subst (λ l. take (l - first_of (length parts) skip) (drop (first_of (length parts) skip) parts) ≡ selected skip total parts) (sym (last_is ∙ ap (λ n. behind_last_of n skip total) (long ∙ ap length are)))
     refl))
 
--- an output that names the moment
-pub with_moment : (request : Request) (bytes text : List ℕ) (mails : List (List ℕ)) (moment : ℤ) (before after : HostView) → mails ≡ mails_of request bytes → true ≡ wants_moment request mails → Asks moment before after → text ≡ outputs_of request moment mails → IsOutput request bytes text before after
-with_moment request bytes text mails moment before after are wants asks is = record {
-  moment = moment;
-  asks = subst (λ b. AsksIf b moment before after) (wants ∙ ap (wants_moment request) are) asks;
-  outputs = is ∙ ap (outputs_of request moment) are;
-}
-
--- and one that doesn't
-pub without_moment : (request : Request) (bytes text : List ℕ) (mails : List (List ℕ)) (moment : ℤ) (before after : HostView) → mails ≡ mails_of request bytes → false ≡ wants_moment request mails → after ≡ before → text ≡ outputs_of request moment mails → IsOutput request bytes text before after
-without_moment request bytes text mails moment before after are wants same is = record {
-  moment = moment;
-  asks = subst (λ b. AsksIf b moment before after) (wants ∙ ap (wants_moment request) are) same;
-  outputs = is ∙ ap (outputs_of request moment) are;
-}
+-- no mail is kept where none is left
+pub none_left : (front : List (List ℕ)) (kept : List Bool) (rest : List (Bor (List ℕ))) → length rest < 1 → front ++ kept_of kept (texts_of rest) ≡ front
+none_left front [] rest short = append-nil front
+none_left front (k ∷ kept) [] short = append-nil front
+none_left front (k ∷ kept) (r ∷ rest) short = absurd (omega (arith, short))

@@ -1,8 +1,8 @@
 -- What the words ask for.
-use Rattle.std.specs.Prelude.{ℕ, Bool, true, false, ◌&&◌, ◌||◌, not, nat_le, Option, Some, None, option_map, option_and_then, List, [], ◌∷◌, ◌++◌, codes, count_by, if◌then◌else◌}
-use Rattle.std.specs.List.{list_any, fold}
+use Rattle.std.specs.Prelude.{ℕ, Bool, true, false, ◌&&◌, ◌||◌, not, nat_le, Option, Some, None, option_and_then, List, [], ◌∷◌, ◌++◌, codes, count_by, if◌then◌else◌}
+use Rattle.std.specs.List.{list_any, list_all, fold}
 use Rattle.formail_top.specs.declared.settings.Setting.{Setting}
-use Rattle.formail_top.specs.declared.settings.Setting.TheVariants.{Join, Zap, KeepFrom, KeepBody, WithBody, Prefix, Take as TakeOf, Put as PutOf, Unique as UniqueOf, Rename as RenameOf, Reply, Trust, Skip, Total, Split}
+use Rattle.formail_top.specs.declared.settings.Setting.TheVariants.{Join, Zap, KeepFrom, KeepBody, WithBody, Prefix, Take as TakeOf, Put as PutOf, Unique as UniqueOf, Rename as RenameOf, Reply, Trust, Skip, Total, Split, Program, Argument, Cache as CacheOf}
 use Rattle.formail_top.specs.declared.request.Request.{Request}
 use Rattle.formail_top.specs.Words.{settings_of}
 
@@ -54,9 +54,33 @@ abbrev pub is_reply_sound : List Setting → Bool
 is_reply_sound settings =
     if list_any is_reply settings then not (list_any is_barred settings) else not (list_any is_trust settings)
 
+-- it is `-D`
+abbrev pub is_cache : Setting → Bool
+is_cache (CacheOf cache) = true
+is_cache setting = false
+
+-- it can stand beside `-D`: it is `-D` itself, `-s` with its program, `+N`, `-N`, `-f`, `-b` or `-r`
+abbrev pub is_beside_cache : Setting → Bool
+is_beside_cache (CacheOf cache) = true
+is_beside_cache Split = true
+is_beside_cache (Program name) = true
+is_beside_cache (Argument word) = true
+is_beside_cache (Skip n) = true
+is_beside_cache (Total n) = true
+is_beside_cache KeepFrom = true
+is_beside_cache KeepBody = true
+is_beside_cache Reply = true
+is_beside_cache setting = false
+
+-- `-D` stands at most once, and only with what can stand beside it
+abbrev pub is_cache_sound : List Setting → Bool
+is_cache_sound settings =
+    if list_any is_cache settings then nat_le (count_by is_cache settings) 1 && list_all is_beside_cache settings
+    else true
+
 -- the settings can stand together
 abbrev pub is_sound : List Setting → Bool
-is_sound settings = is_range_sound settings && is_reply_sound settings
+is_sound settings = is_range_sound settings && is_reply_sound settings && is_cache_sound settings
 
 -- nothing is asked for
 abbrev pub nothing : Request
@@ -76,8 +100,11 @@ nothing = record {
   reply = false;
   trust = false;
   split = false;
+  cache = None;
   skip = 0;
   total = None;
+  program = None;
+  arguments = [];
 }
 
 -- one thing more is asked for; of several prefixes the last one counts
@@ -98,9 +125,12 @@ asked request (RenameOf rename) =
     record request { edits = record request.edits { renames = request.edits.renames ++ rename ∷ [] } }
 asked request Reply = record request { reply = true }
 asked request Trust = record request { trust = true }
+asked request (CacheOf cache) = record request { cache = Some cache }
 asked request Split = record request { split = true }
 asked request (Skip n) = record request { skip = n }
 asked request (Total n) = record request { total = Some n }
+asked request (Program name) = record request { program = Some name }
+asked request (Argument word) = record request { arguments = request.arguments ++ word ∷ [] }
 
 -- what the settings ask for together
 abbrev pub request_of : List Setting → Request

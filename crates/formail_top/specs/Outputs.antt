@@ -1,5 +1,5 @@
 -- What formail writes for its input.
-use Rattle.std.specs.Prelude.{ℕ, ℤ, Bool, true, false, Option, Some, None, option_map, List, [], ◌∷◌, if◌then◌else◌}
+use Rattle.std.specs.Prelude.{ℕ, ℤ, Bool, true, false, Option, Some, None, option_map, List, [], ◌∷◌, map, take, if◌then◌else◌}
 use Rattle.std.specs.List.{list_any, flat_map}
 use Rattle.pm_message.specs.Date.{from_line_of}
 use Rattle.pm_message.specs.Split.{split_of}
@@ -7,7 +7,8 @@ use Rattle.pm_message.specs.declared.head.Message.{Message}
 use Rattle.formail_edit.specs.Output.{edited}
 use Rattle.formail_edit.specs.Sender.{sender_for}
 use Rattle.formail_edit.specs.declared.edits.Edits.{Edits}
-use Rattle.formail_extra.specs.Reply.{reply_of}
+use Rattle.formail_extra.specs.Reply.{reply_of, envelope_of}
+use Rattle.formail_extra.specs.Seen.{identifier_of}
 use Rattle.formail_split.specs.Parts.{parts_of, selected}
 use Rattle.formail_top.specs.declared.request.Request.{Request}
 
@@ -34,6 +35,22 @@ abbrev pub edited_at : ℤ → Message → Edits → List ℕ
 edited_at moment message edits =
     edited message edits (option_map (λ who. from_line_of who moment) (sender_for message edits))
 
+-- what a mail is remembered by: its identifier, or under `-r` the first 4,096 bytes of its sender
+abbrev pub id_of : Request → List ℕ → Option (List ℕ)
+id_of request mail =
+    if request.reply then option_map (take 4_096) (envelope_of (split_of mail)) else identifier_of (split_of mail)
+
+-- the same of some mails
+abbrev pub ids_of : Request → List (List ℕ) → List (Option (List ℕ))
+ids_of request mails = map (id_of request) mails
+
+-- those of some mails that are kept
+abbrev pub kept_of : List Bool → List (List ℕ) → List (List ℕ)
+kept_of [] mails = []
+kept_of kept [] = []
+kept_of (true ∷ kept) (mail ∷ mails) = mail ∷ kept_of kept mails
+kept_of (false ∷ kept) (mail ∷ mails) = kept_of kept mails
+
 -- the output of one mail
 abbrev pub output_of : Request → ℤ → List ℕ → List ℕ
 output_of request moment mail =
@@ -43,3 +60,7 @@ output_of request moment mail =
 -- the outputs of some mails, one behind the other
 abbrev pub outputs_of : Request → ℤ → List (List ℕ) → List ℕ
 outputs_of request moment mails = flat_map (output_of request moment) mails
+
+-- the outputs of some mails, each for itself
+abbrev pub each_output_of : Request → ℤ → List (List ℕ) → List (List ℕ)
+each_output_of request moment mails = map (output_of request moment) mails

@@ -1,15 +1,16 @@
 -- What the words of formail's command line say.
-use Rattle.std.specs.Prelude.{◌≡◌, ℕ, Bool, true, false, ◌==◌, ◌&&◌, ◌||◌, not, nat_lt, nat_le, Option, Some, None, option_map, List, [], ◌∷◌, ◌++◌, length, codes, bytes_eq, if◌then◌else◌}
+use Rattle.std.specs.Prelude.{◌≡◌, ℕ, Bool, true, false, ◌==◌, ◌&&◌, ◌||◌, not, nat_lt, nat_le, Option, Some, None, option_map, option_and_then, List, [], ◌∷◌, ◌++◌, length, codes, bytes_eq, if◌then◌else◌}
 use Rattle.std.specs.List.{list_all, list_any, fold}
 use Rattle.pm_bytes.specs.Letter.{is_blank_byte, is_digit_byte}
+use Rattle.pm_bytes.specs.Name.{is_usable}
 use Rattle.pm_bytes.specs.Number.{count_of}
 use Rattle.pm_message.specs.Field.{is_name_byte, is_named}
 use Rattle.formail_edit.specs.declared.edits.PutKind.{PutKind}
 use Rattle.formail_edit.specs.declared.edits.PutKind.TheVariants.{Old, Replace, IfNone, Always}
 use Rattle.formail_top.specs.declared.settings.Setting.{Setting}
-use Rattle.formail_top.specs.declared.settings.Setting.TheVariants.{Join, Zap, KeepFrom, KeepBody, WithBody, Prefix, Take as TakeOf, Put as PutOf, Unique as UniqueOf, Rename as RenameOf, Reply, Trust, Skip, Total, Split}
+use Rattle.formail_top.specs.declared.settings.Setting.TheVariants.{Join, Zap, KeepFrom, KeepBody, WithBody, Prefix, Take as TakeOf, Put as PutOf, Unique as UniqueOf, Rename as RenameOf, Reply, Trust, Skip, Total, Split, Program as ProgramOf, Argument as ArgumentOf, Cache as CacheOf}
 use Rattle.formail_top.specs.declared.settings.Waits.{Waits}
-use Rattle.formail_top.specs.declared.settings.Waits.TheVariants.{Ready, ForText, ForMore, Program, Unread}
+use Rattle.formail_top.specs.declared.settings.Waits.TheVariants.{Ready, ForText, ForMore, Program, Argument, Unread}
 
 -- each newline is followed by a blank
 abbrev pub is_folded : List ℕ → Bool
@@ -59,11 +60,45 @@ setting_for letter text =
     else if letter == 85 then unique_for true text
     else None
 
--- the same of a letter with two texts: of `-R` neither is empty, and the new name has no line that could be a field
+-- `-R`: neither text is empty, and the new name has no line that could be a field
+abbrev pub rename_for : List ℕ → List ℕ → Option Setting
+rename_for old new =
+    if nat_lt 0 (length old) && nat_lt 0 (length new) && is_folded new
+    then Some (RenameOf (record { old = old; new = new })) else None
+
+-- a word that can be a program's name or given to one: a text without the byte 0
+abbrev pub usable_name : List ℕ → Option (List ℕ)
+usable_name word = if is_usable word then Some word else None
+
+-- after how many bytes a cache begins anew: 1 to 1,048,576, in at most 7 digits
+abbrev pub bound_in : ℕ → Option ℕ
+bound_in most = if nat_le 1 most && nat_le most 1_048_576 then Some most else None
+
+abbrev pub bound_for : List ℕ → Option ℕ
+bound_for text = if nat_le (length text) 7 then option_and_then bound_in (count_of text) else None
+
+-- a cache with this bound, name and lock file
+abbrev pub cache_of : ℕ → List ℕ → List ℕ → Setting
+cache_of most name lock = CacheOf (record { most = most; name = name; lock = lock })
+
+-- its lock file is the name with `.lock` behind it
+abbrev pub cache_at : ℕ → List ℕ → Option Setting
+cache_at most name = option_map (cache_of most name) (usable_name (name ++ codes ".lock"))
+
+-- the name isn't empty
+abbrev pub cache_named : ℕ → List ℕ → Option Setting
+cache_named most name = if nat_lt 0 (length name) then option_and_then (cache_at most) (usable_name name) else None
+
+-- `-D`
+abbrev pub cache_for : List ℕ → List ℕ → Option Setting
+cache_for most name = option_and_then (λ bound. cache_named bound name) (bound_for most)
+
+-- the same of a letter with two texts
 abbrev pub setting_for_both : ℕ → List ℕ → List ℕ → Option Setting
 setting_for_both letter old new =
-    if (letter == 82) && nat_lt 0 (length old) && nat_lt 0 (length new) && is_folded new
-    then Some (RenameOf (record { old = old; new = new })) else None
+    if letter == 82 then rename_for old new
+    else if letter == 68 then cache_for old new
+    else None
 
 -- the letters that stand alone
 abbrev pub setting_of : ℕ → Option Setting
@@ -79,11 +114,11 @@ setting_of letter =
 
 -- the letters that take a text
 abbrev pub takes_text : ℕ → Bool
-takes_text letter = list_any (λ other. letter == other) (codes "pxXaAiIuUR")
+takes_text letter = list_any (λ other. letter == other) (codes "pxXaAiIuURD")
 
 -- and those that take one more
 abbrev pub takes_more : ℕ → Bool
-takes_more letter = letter == 82
+takes_more letter = (letter == 82) || (letter == 68)
 
 -- what some words ask for, and what the next one is
 pub record Words : Type 0 where
@@ -147,12 +182,21 @@ group (sign ∷ rest) =
     else if sign == 45 then behind_minus rest
     else waiting Unread
 
--- one word, which is what was waited for; a program can't be started yet
+-- the program behind `-s`, whose name isn't empty
+abbrev pub program_for : List ℕ → Option Setting
+program_for word = if nat_lt 0 (length word) then option_map ProgramOf (usable_name word) else None
+
+-- a word for it
+abbrev pub argument_for : List ℕ → Option Setting
+argument_for word = option_map ArgumentOf (usable_name word)
+
+-- one word, which is what was waited for
 abbrev pub one_word : Waits → List ℕ → Words
 one_word Ready word = group word
 one_word (ForText letter) word = with_text letter word
 one_word (ForMore letter text) word = with_setting (setting_for_both letter text word) (waiting Ready)
-one_word Program word = waiting Unread
+one_word Program word = with_setting (program_for word) (waiting Argument)
+one_word Argument word = with_setting (argument_for word) (waiting Argument)
 one_word Unread word = waiting Unread
 
 -- one word more
@@ -165,6 +209,7 @@ then_word words word =
 abbrev pub closed : Waits → List Setting → Option (List Setting)
 closed Ready settings = Some settings
 closed Program settings = Some settings
+closed Argument settings = Some settings
 closed waits settings = None
 
 -- the settings of all words, one by one

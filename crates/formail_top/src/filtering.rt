@@ -1,64 +1,227 @@
 //! A run of formail.
-ghost use Rattle.std.specs.Prelude.{◌≡◌, IfOk, OnErr, map, string_bytes};
-ghost use Rattle.formail_top.specs.Run.{IsOutput, AsksAtMost, Writes, Ended};
+ghost use Rattle.std.specs.Prelude.{◌≡◌, ◌⊎◌, IfOk, OnErr, map, string_bytes};
+ghost use Rattle.formail_top.specs.Run.{IsOutput, AsksAtMost, Writes, Puts, kept_status, PutsKept, AfterStep, Remembers, Treats, LeavesCache, Leaves, LeavesOff, Ended};
+ghost use Rattle.formail_top.specs.Outputs.{mails_of};
+ghost use Rattle.formail_split.specs.Parts.{texts_of};
+ghost use Rattle.std.specs.List.{list_any};
 
 use crate::Request;
-use crate::outputs::{mails, outputs, want_moment};
+use crate::feeding::{command, feed, moment_for};
+use crate::outputs::{ids, kept_mails, mails, outputs};
 use crate::request::read_request;
-use pm_bytes::{Blob, Environ, Memory};
-use pm_host::{Host, Sink, Source};
+use formail_cache::{Cache, CacheEnd, cache_step};
+use pm_bytes::{Blob, Environ, Memory, Pairs};
+use pm_host::{Child, Host, Sink, Source};
 use pm_streams::{Mail, WriteEnd, read_mail, write_text};
 use std::alloc::Global;
 
-// The output for an input, for which the host may be asked for the moment.
+// The output for some mails, for which the host may be asked for the moment.
 fn output<H: Host>(
     alloc: Global,
-    bytes: &[u8],
+    mails: &[&[u8]],
     request: &Request,
     host: &mut H,
 ) -> Result<Blob, Memory>
     ensures ok { IfOk result
-        (λ text. IsOutput request.now bytes.now text (H.told host.old) (H.told host.new)) }
+        (λ text. IsOutput request.now (texts_of mails.now) text (H.told host.old) (H.told host.new)) }
     ensures memory { OnErr result (AsksAtMost (H.told host.old) (H.told host.new)) }
+    ensures child { (H.told host.new).child ≡ (H.told host.old).child }
 {
-    let mails = mails(alloc, bytes, request)?;
-    if !want_moment(alloc, mails.as_slice(), request)? {
-        let text = outputs(alloc, mails.as_slice(), request, 0)?;
-        return Ok(text);
-    }
-    let text = outputs(alloc, mails.as_slice(), request, host.now())?;
+    let moment = moment_for(alloc, mails, request, host)?;
+    let text = outputs(alloc, mails, request, moment)?;
     Ok(text)
 }
 
 // The output is written, and the status says whether all of it was.
 fn write<H: Host, O: Sink>(
     alloc: Global,
-    bytes: &[u8],
+    mails: &[&[u8]],
     request: &Request,
     host: &mut H,
     out: &mut O,
 ) -> Result<u8, Memory>
-    ensures ok { IfOk result (λ status. Writes request.now bytes.now status
+    ensures ok { IfOk result (λ status. Writes request.now (texts_of mails.now) status
         (H.told host.old) (H.told host.new) (O.told out.old) (O.told out.new)) }
     ensures asked { OnErr result (AsksAtMost (H.told host.old) (H.told host.new)) }
     ensures unwritten { OnErr result (O.told out.new ≡ O.told out.old) }
+    ensures child { (H.told host.new).child ≡ (H.told host.old).child }
 {
-    let text = output(alloc, bytes, request, host)?;
+    let text = output(alloc, mails, request, host)?;
     match write_text(out, text.as_slice()) {
         WriteEnd::Wrote => Ok(0),
         WriteEnd::Short(_) => Ok(74),
     }
 }
 
+// The output for some mails is written, or given to children.
+fn finish<H: Host, O: Sink>(
+    alloc: Global,
+    mails: &[&[u8]],
+    request: &Request,
+    vars: &Pairs,
+    host: &mut H,
+    out: &mut O,
+) -> Result<u8, Memory>
+    requires { (H.told host.old).child ≡ Child.NoChild }
+    ensures ok { IfOk result (λ status. Puts request.now.program request.now vars.now (texts_of mails.now) status
+        (H.told host.old) (H.told host.new) (O.told out.old) (O.told out.new)) }
+    ensures asked { OnErr result (AsksAtMost (H.told host.old) (H.told host.new)) }
+    ensures unwritten { OnErr result (O.told out.new ≡ O.told out.old) }
+    ensures none { (H.told host.new).child ≡ Child.NoChild }
+{
+    let Some(program) = &request.program else {
+        return write(alloc, mails, request, host, out);
+    };
+    let command = command(alloc, program, &request.arguments, vars)?;
+    feed(alloc, mails, request, &command, host)
+}
+
+fn any_kept(kept: &[bool]) -> bool
+    ensures { result ≡ list_any (λ keep. keep) kept.now }
+{
+    kept.iter().any(|keep| *keep)
+}
+
+fn status_of(kept: &[bool]) -> u8
+    ensures { result ≡ kept_status kept.now }
+{
+    if any_kept(kept) { 1 } else { 0 }
+}
+
+// The mails that are kept are put where the words ask for, or the status says whether one is.
+fn finish_kept<H: Host, O: Sink>(
+    alloc: Global,
+    mails: &[&[u8]],
+    kept: &[bool],
+    request: &Request,
+    vars: &Pairs,
+    host: &mut H,
+    out: &mut O,
+) -> Result<u8, Memory>
+    requires { (H.told host.old).child ≡ Child.NoChild }
+    ensures ok { IfOk result
+        (λ status. PutsKept request.now.split kept.now request.now vars.now (texts_of mails.now) status
+        (H.told host.old) (H.told host.new) (O.told out.old) (O.told out.new)) }
+    ensures asked { OnErr result (AsksAtMost (H.told host.old) (H.told host.new)) }
+    ensures unwritten { OnErr result (O.told out.new ≡ O.told out.old) }
+    ensures none { (H.told host.new).child ≡ Child.NoChild }
+{
+    if !request.split {
+        return Ok(status_of(kept));
+    }
+    let left = kept_mails(alloc, mails, kept)?;
+    let status = finish(alloc, left.as_slice(), request, vars, host, out)?;
+    Ok(status)
+}
+
+// What comes behind the step with the cache.
+fn after_step<H: Host, O: Sink>(
+    alloc: Global,
+    end: &CacheEnd,
+    mails: &[&[u8]],
+    request: &Request,
+    vars: &Pairs,
+    host: &mut H,
+    out: &mut O,
+) -> Result<u8, Memory>
+    requires { (H.told host.old).child ≡ Child.NoChild }
+    ensures ok { IfOk result (λ status. AfterStep end.now request.now vars.now (texts_of mails.now) status
+        (H.told host.old) (H.told host.new) (O.told out.old) (O.told out.new)) }
+    ensures asked { OnErr result (AsksAtMost (H.told host.old) (H.told host.new)) }
+    ensures unwritten { OnErr result (O.told out.new ≡ O.told out.old) }
+    ensures none { (H.told host.new).child ≡ Child.NoChild }
+{
+    match end {
+        CacheEnd::Kept(kept) => {
+            let kept = kept.as_slice();
+            finish_kept(alloc, mails, kept, request, vars, host, out)
+        }
+        CacheEnd::Busy => Ok(73),
+        CacheEnd::Unusable => Ok(73),
+        CacheEnd::Failed => Ok(74),
+    }
+}
+
+// The mails are held against the cache.
+fn remember<H: Host, O: Sink>(
+    alloc: Global,
+    cache: &Cache,
+    mails: &[&[u8]],
+    request: &Request,
+    vars: &Pairs,
+    host: &mut H,
+    out: &mut O,
+) -> Result<u8, Memory>
+    requires { (H.told host.old).child ≡ Child.NoChild }
+    ensures ok { IfOk result (λ status. Remembers cache.now request.now vars.now (texts_of mails.now) status
+        (H.told host.old) (H.told host.new) (O.told out.old) (O.told out.new)) }
+    ensures left { OnErr result (LeavesCache cache.now (H.told host.old) (H.told host.new)) }
+    ensures unwritten { OnErr result (O.told out.new ≡ O.told out.old) }
+    ensures none { (H.told host.new).child ≡ Child.NoChild }
+{
+    let ids = ids(alloc, mails, request)?;
+    let end = cache_step(alloc, host, cache, ids.as_slice())?;
+    let status = after_step(alloc, &end, mails, request, vars, host, out)?;
+    Ok(status)
+}
+
+// What becomes of some mails.
+fn treat<H: Host, O: Sink>(
+    alloc: Global,
+    mails: &[&[u8]],
+    request: &Request,
+    vars: &Pairs,
+    host: &mut H,
+    out: &mut O,
+) -> Result<u8, Memory>
+    requires { (H.told host.old).child ≡ Child.NoChild }
+    ensures ok { IfOk result
+        (λ status. Treats request.now.cache request.now vars.now (texts_of mails.now) status
+        (H.told host.old) (H.told host.new) (O.told out.old) (O.told out.new)) }
+    ensures left { OnErr result (Leaves request.now.cache (H.told host.old) (H.told host.new)) }
+    ensures unwritten { OnErr result (O.told out.new ≡ O.told out.old) }
+    ensures none { (H.told host.new).child ≡ Child.NoChild }
+{
+    let Some(cache) = &request.cache else {
+        return finish(alloc, mails, request, vars, host, out);
+    };
+    remember(alloc, cache, mails, request, vars, host, out)
+}
+
+// What becomes of an input.
+fn treat_all<H: Host, O: Sink>(
+    alloc: Global,
+    bytes: &[u8],
+    request: &Request,
+    vars: &Pairs,
+    host: &mut H,
+    out: &mut O,
+) -> Result<u8, Memory>
+    requires { (H.told host.old).child ≡ Child.NoChild }
+    ensures ok { IfOk result
+        (λ status. Treats request.now.cache request.now vars.now (mails_of request.now bytes.now) status
+        (H.told host.old) (H.told host.new) (O.told out.old) (O.told out.new)) }
+    ensures left { OnErr result ((H.told host.new ≡ H.told host.old)
+        ⊎ Leaves request.now.cache (H.told host.old) (H.told host.new)) }
+    ensures unwritten { OnErr result (O.told out.new ≡ O.told out.old) }
+    ensures none { (H.told host.new).child ≡ Child.NoChild }
+{
+    let mails = mails(alloc, bytes, request)?;
+    let status = treat(alloc, mails.as_slice(), request, vars, host, out)?;
+    Ok(status)
+}
+
 // Everything but the status of a run for which memory is wanting.
 fn run<S: Source, H: Host, O: Sink>(
     alloc: Global,
     words: &[String],
+    env: &Environ,
     source: &mut S,
     host: &mut H,
     out: &mut O,
 ) -> Result<u8, Memory>
-    ensures ok { IfOk result (λ status. Ended (map string_bytes words.now) status (record {
+    requires { (H.told host.old).child ≡ Child.NoChild }
+    ensures ok { IfOk result (λ status. Ended (map string_bytes words.now) env.now.vars status (record {
       source = S.told source.old;
       source' = S.told source.new;
       host = H.told host.old;
@@ -66,8 +229,9 @@ fn run<S: Source, H: Host, O: Sink>(
       out = O.told out.old;
       out' = O.told out.new;
     })) }
-    ensures asked { OnErr result (AsksAtMost (H.told host.old) (H.told host.new)) }
+    ensures left { OnErr result (LeavesOff (map string_bytes words.now) (H.told host.old) (H.told host.new)) }
     ensures unwritten { OnErr result (O.told out.new ≡ O.told out.old) }
+    ensures none { (H.told host.new).child ≡ Child.NoChild }
 {
     let Some(request) = read_request(alloc, words)? else {
         return Ok(64);
@@ -76,25 +240,29 @@ fn run<S: Source, H: Host, O: Sink>(
         Mail::TooMany => Ok(65),
         Mail::Failed => Ok(74),
         Mail::Bytes(bytes) => {
-            let status = write(alloc, bytes.as_slice(), &request, host, out)?;
+            let status = treat_all(alloc, bytes.as_slice(), &request, &env.vars, host, out)?;
             Ok(status)
         }
     }
 }
 
-/// Reads the source to its end, writes what the words ask for, and gives the status that the program
-/// ends with (formail(1)): 0 where all was written, 64 where the words aren't read, 65 where the
-/// input has more than 67,108,864 bytes, 74 where a read or a write failed, 71 for want of memory.
+/// Reads the source to its end, does what the words ask for, and gives the status that the program ends with
+/// (formail(1)). Without a program: 0 where all was written, 74 where a read or a write failed. With one: 0 where each
+/// child took its mail whole and ended with code 0, 1 where one didn't, 74 where a read failed, a child wasn't started,
+/// or a call failed while it ran. With `-D` and without `-s`: 0 where the mail was seen before, 1 where it wasn't; and with
+/// `-D` 73 where the cache's lock stays taken or the cache can't be used, 74 where a call failed. 64 says that the words aren't read, 65 that the input has more than 67,108,864 bytes,
+/// 71 that memory is wanting.
 pub fn formail<S: Source, H: Host, O: Sink, E: Sink>(
     alloc: Global,
     words: &[String],
-    _env: &Environ,
+    env: &Environ,
     source: &mut S,
     host: &mut H,
     out: &mut O,
     _err: &mut E,
 ) -> u8
-    ensures ended { Ended (map string_bytes words.now) result (record {
+    requires { (H.told host.old).child ≡ Child.NoChild }
+    ensures ended { Ended (map string_bytes words.now) env.now.vars result (record {
       source = S.told source.old;
       source' = S.told source.new;
       host = H.told host.old;
@@ -103,8 +271,9 @@ pub fn formail<S: Source, H: Host, O: Sink, E: Sink>(
       out' = O.told out.new;
     }) }
     ensures quiet { E.told _err.new ≡ E.told _err.old }
+    ensures none { (H.told host.new).child ≡ Child.NoChild }
 {
-    match run(alloc, words, source, host, out) {
+    match run(alloc, words, env, source, host, out) {
         Ok(status) => status,
         Err(Memory) => 71,
     }

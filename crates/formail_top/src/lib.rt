@@ -1,6 +1,7 @@
 //! The program formail: its words, what it reads, what it writes, and its status.
 #![tactic(auto)]
 
+mod feeding;
 mod filtering;
 mod outputs;
 mod request;

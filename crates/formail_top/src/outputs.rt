@@ -1,12 +1,12 @@
 //! What is written for an input.
-ghost use Rattle.std.specs.Prelude.{◌≡◌, IfOk, map};
+ghost use Rattle.std.specs.Prelude.{◌≡◌, IfOk, map, take};
 ghost use Rattle.std.specs.List.{list_any, flat_map};
 ghost use Rattle.formail_split.specs.Parts.{parts_of, selected, texts_of};
-ghost use Rattle.formail_top.specs.Outputs.{mails_of, sender_of_output, wants_moment, edited_at, output_of, outputs_of};
+ghost use Rattle.formail_top.specs.Outputs.{mails_of, sender_of_output, wants_moment, edited_at, output_of, outputs_of, each_output_of, id_of, ids_of, kept_of};
 
 use crate::Request;
 use formail_edit::{Edits, edit, from_sender};
-use formail_extra::reply;
+use formail_extra::{envelope, identifier, reply};
 use formail_split::{parts, select};
 use pm_bytes::{Blob, Memory};
 use pm_message::{Message, from_line, split};
@@ -98,4 +98,75 @@ pub fn outputs(
         text.push_slice(output.as_slice())?;
     }
     Ok(text)
+}
+
+/// The outputs of some mails, each for itself. `moment` is in seconds since 1970, in UTC.
+pub fn each_output(
+    alloc: Global,
+    mails: &[&[u8]],
+    request: &Request,
+    moment: i64,
+) -> Result<Vec<Blob>, Memory>
+    ensures { IfOk result (λ texts. texts.items ≡ each_output_of request.now moment (texts_of mails.now)) }
+{
+    let mut texts = Vec::new(alloc);
+    for mail in mails {
+        texts.push(output(alloc, mail, request, moment)?)?;
+    }
+    Ok(texts)
+}
+
+// At most so many bytes of a text.
+fn cut(alloc: Global, text: &Blob, most: usize) -> Result<Blob, Memory>
+    ensures { IfOk result (λ short. short ≡ take most text.now) }
+{
+    let bytes = text.as_slice();
+    Blob::from_slice(alloc, &bytes[..bytes.len().min(most)])
+}
+
+// What a mail is remembered by.
+fn id(alloc: Global, mail: &[u8], request: &Request) -> Result<Option<Blob>, Memory>
+    ensures { IfOk result (λ id. id ≡ id_of request.now mail.now) }
+{
+    let message = split(alloc, mail)?;
+    if !request.reply {
+        return identifier(alloc, &message);
+    }
+    match envelope(alloc, &message)? {
+        None => Ok(None),
+        Some(sender) => Ok(Some(cut(alloc, &sender, 4096)?)),
+    }
+}
+
+/// What some mails are remembered by (formail(1), option -D).
+pub fn ids(alloc: Global, mails: &[&[u8]], request: &Request) -> Result<Vec<Option<Blob>>, Memory>
+    ensures { IfOk result (λ ids. ids.items ≡ ids_of request.now (texts_of mails.now)) }
+{
+    let mut ids = Vec::new(alloc);
+    for mail in mails {
+        ids.push(id(alloc, mail, request)?)?;
+    }
+    Ok(ids)
+}
+
+/// Those of some mails that are kept; no byte of them is copied.
+pub fn kept_mails<'a>(
+    alloc: Global,
+    mails: &[&'a [u8]],
+    kept: &[bool],
+) -> Result<Vec<&'a [u8]>, Memory>
+    ensures { IfOk result (λ left. texts_of left.items ≡ kept_of kept.now (texts_of mails.now)) }
+{
+    let mut left = Vec::new(alloc);
+    let mut rest = mails;
+    for keep in kept {
+        let [mail, others @ ..] = rest else {
+            return Ok(left);
+        };
+        if *keep {
+            left.push(*mail)?;
+        }
+        rest = others;
+    }
+    Ok(left)
 }

@@ -1,12 +1,13 @@
 //! All that the words ask for.
 ghost use Rattle.std.specs.Prelude.{◌≡◌, IfOk, OnOk, map, string_bytes, count_by};
-ghost use Rattle.std.specs.List.{list_any};
-ghost use Rattle.formail_top.specs.Asked.{is_split, is_skip, is_total, is_reply, is_trust, is_barred, is_once, is_ranged, is_range_sound, is_reply_sound, is_sound, nothing, asked, request_of, request_in, request_for};
+ghost use Rattle.std.specs.List.{list_any, list_all};
+ghost use Rattle.formail_top.specs.Asked.{is_split, is_skip, is_total, is_reply, is_trust, is_barred, is_once, is_ranged, is_range_sound, is_reply_sound, is_cache, is_beside_cache, is_cache_sound, is_sound, nothing, asked, request_of, request_in, request_for};
 
 use crate::Setting;
 use crate::words::read_words;
+use formail_cache::Cache;
 use formail_edit::{Edits, Listed};
-use pm_bytes::{Blob, Memory};
+use pm_bytes::{Blob, Memory, Name};
 use std::alloc::Global;
 
 /// What formail is asked to do (formail(1)).
@@ -17,12 +18,18 @@ pub struct Request {
     pub reply: bool,
     /// `-t`: a reply goes to whom the header names.
     pub trust: bool,
+    /// `-D`: where the identifiers of mails are remembered.
+    pub cache: Option<Cache>,
     /// `-s`: the input is a mailbox.
     pub split: bool,
     /// `+N`: so many of its mails are left out at its front.
     pub skip: u64,
     /// `-N`: at most so many others are wanted.
     pub total: Option<u64>,
+    /// The program behind `-s`: each mail's output is the input of a child of its own.
+    pub program: Option<Name>,
+    /// Its words.
+    pub arguments: Listed<Name>,
 }
 
 fn splits(setting: &Setting) -> bool
@@ -161,10 +168,63 @@ fn has_sound_reply(settings: &[Setting]) -> bool
     }
 }
 
+fn caches(setting: &Setting) -> bool
+    ensures { result ≡ is_cache setting.now }
+{
+    match setting {
+        Setting::Cache(_) => true,
+        _ => false,
+    }
+}
+
+fn goes_with_cache(setting: &Setting) -> bool
+    ensures { result ≡ is_beside_cache setting.now }
+{
+    match setting {
+        Setting::Cache(_) => true,
+        Setting::Split => true,
+        Setting::Program(_) => true,
+        Setting::Argument(_) => true,
+        Setting::Skip(_) => true,
+        Setting::Total(_) => true,
+        Setting::KeepFrom => true,
+        Setting::KeepBody => true,
+        Setting::Reply => true,
+        _ => false,
+    }
+}
+
+fn has_cache(settings: &[Setting]) -> bool
+    ensures { result ≡ list_any is_cache settings.now }
+{
+    settings.iter().any(|setting| caches(setting))
+}
+
+fn count_caches(settings: &[Setting]) -> usize
+    ensures { result ≡ count_by is_cache settings.now }
+{
+    settings.iter().filter(|setting| caches(*setting)).count()
+}
+
+fn all_go_with_cache(settings: &[Setting]) -> bool
+    ensures { result ≡ list_all is_beside_cache settings.now }
+{
+    settings.iter().all(|setting| goes_with_cache(setting))
+}
+
+fn has_sound_cache(settings: &[Setting]) -> bool
+    ensures { result ≡ is_cache_sound settings.now }
+{
+    if !has_cache(settings) {
+        return true;
+    }
+    count_caches(settings) <= 1 && all_go_with_cache(settings)
+}
+
 fn are_sound(settings: &[Setting]) -> bool
     ensures { result ≡ is_sound settings.now }
 {
-    has_sound_range(settings) && has_sound_reply(settings)
+    has_sound_range(settings) && has_sound_reply(settings) && has_sound_cache(settings)
 }
 
 fn nothing_asked(alloc: Global) -> Result<Request, Memory>
@@ -186,8 +246,11 @@ fn nothing_asked(alloc: Global) -> Result<Request, Memory>
         reply: false,
         trust: false,
         split: false,
+        cache: None,
         skip: 0,
         total: None,
+        program: None,
+        arguments: Listed::empty(alloc),
     })
 }
 
@@ -207,9 +270,12 @@ fn ask(request: &mut Request, setting: Setting) -> Result<(), Memory>
         Setting::Rename(rename) => request.edits.renames.push(rename)?,
         Setting::Reply => request.reply = true,
         Setting::Trust => request.trust = true,
+        Setting::Cache(cache) => request.cache = Some(cache),
         Setting::Split => request.split = true,
         Setting::Skip(count) => request.skip = count,
         Setting::Total(count) => request.total = Some(count),
+        Setting::Program(name) => request.program = Some(name),
+        Setting::Argument(word) => request.arguments.push(word)?,
     }
     Ok(())
 }

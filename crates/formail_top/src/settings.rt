@@ -1,6 +1,7 @@
 //! What the words ask for, one by one.
+use formail_cache::Cache;
 use formail_edit::{Put, Rename, Take, Unique};
-use pm_bytes::Blob;
+use pm_bytes::{Blob, Name};
 
 /// What one letter, or a number, asks for.
 #[derive(Drop)]
@@ -29,12 +30,18 @@ pub enum Setting {
     Reply,
     /// `-t`
     Trust,
+    /// `-D`
+    Cache(Cache),
     /// `+N`
     Skip(u64),
     /// `-N`
     Total(u64),
     /// `-s`
     Split,
+    /// The program behind `-s`.
+    Program(Name),
+    /// What is given to it as a word.
+    Argument(Name),
 }
 
 /// What the next word is.
@@ -46,8 +53,10 @@ pub enum Waits {
     ForText(u8),
     /// What this letter takes behind a first text.
     ForMore(u8, Blob),
-    /// A program's: all words behind `-s`.
+    /// A program: all words behind `-s` are its, or there is none.
     Program,
+    /// A word for that program.
+    Argument,
     /// Nothing: some word isn't read.
     Unread,
 }

@@ -1,13 +1,14 @@
 //! The words of the command line, read one by one (formail(1)).
-ghost use Rattle.std.specs.Prelude.{◌≡◌, ◌++◌, ◌∷◌, [], IfOk, string_bytes, map, option_map};
+ghost use Rattle.std.specs.Prelude.{◌≡◌, ◌++◌, ◌∷◌, [], IfOk, string_bytes, map, option_map, codes};
 ghost use Rattle.std.specs.List.{list_all};
 ghost use Rattle.pm_message.specs.Field.{is_name_byte, is_named};
-ghost use Rattle.formail_top.specs.Words.{is_folded, is_bare_name, may_be_bare, is_put, put_for, take_for, unique_for, setting_for, setting_for_both, setting_of, takes_text, takes_more, with_text, with_rest, with_split, letters, number_for, with_skip, with_total, behind_minus, group, one_word, waiting, with_setting, Adds, settings_of};
-ghost use Rattle.formail_top.specs.declared.settings.Waits.TheVariants.{Ready};
+ghost use Rattle.formail_top.specs.Words.{is_folded, is_bare_name, may_be_bare, is_put, put_for, take_for, unique_for, setting_for, rename_for, bound_in, bound_for, cache_of, cache_at, cache_named, cache_for, setting_for_both, setting_of, takes_text, takes_more, with_text, with_rest, with_split, letters, number_for, with_skip, with_total, behind_minus, group, one_word, usable_name, program_for, argument_for, waiting, with_setting, Adds, settings_of};
+ghost use Rattle.formail_top.specs.declared.settings.Waits.TheVariants.{Ready, Argument};
 
 use crate::{Setting, Waits};
+use formail_cache::Cache;
 use formail_edit::{Put, PutKind, Rename, Take, Unique};
-use pm_bytes::{Blob, Memory, is_blank, is_digit, read_count};
+use pm_bytes::{Blob, Memory, Name, NameRefused, is_blank, is_digit, read_count};
 use pm_message::{FieldKind, read_key};
 use std::alloc::Global;
 
@@ -124,10 +125,10 @@ fn with_one(alloc: Global, letter: u8, text: &[u8]) -> Result<Option<Setting>, M
 }
 
 // What `-R` asks for.
-fn with_both(alloc: Global, letter: u8, old: Blob, new: &[u8]) -> Result<Option<Setting>, Memory>
-    ensures { IfOk result (λ setting. setting ≡ setting_for_both letter old new.now) }
+fn rename(alloc: Global, old: Blob, new: &[u8]) -> Result<Option<Setting>, Memory>
+    ensures { IfOk result (λ setting. setting ≡ rename_for old new.now) }
 {
-    if letter != b'R' || old.len() == 0 || new.len() == 0 {
+    if old.len() == 0 || new.len() == 0 {
         return Ok(None);
     }
     if !all_folded(new) {
@@ -135,6 +136,86 @@ fn with_both(alloc: Global, letter: u8, old: Blob, new: &[u8]) -> Result<Option<
     }
     let new = Blob::from_slice(alloc, new)?;
     Ok(Some(Setting::Rename(Rename { old, new })))
+}
+
+fn within_bounds(most: u64) -> Option<u64>
+    ensures { result ≡ bound_in most }
+{
+    if 1 <= most && most <= 1_048_576 {
+        Some(most)
+    } else {
+        None
+    }
+}
+
+// After how many bytes a cache begins anew.
+fn bound(text: &[u8]) -> Option<u64>
+    ensures { result ≡ bound_for text.now }
+{
+    if text.len() > 7 {
+        return None;
+    }
+    match read_count(text) {
+        None => None,
+        Some(most) => within_bounds(most),
+    }
+}
+
+// The name of a cache's lock file.
+fn lock_name(alloc: Global, word: &[u8]) -> Result<Option<Name>, Memory>
+    ensures { IfOk result (λ lock. lock ≡ usable_name (word.now ++ codes ".lock")) }
+{
+    let mut lock = Blob::from_slice(alloc, word)?;
+    lock.push_slice(b".lock")?;
+    name(alloc, lock.as_slice())
+}
+
+fn locked_cache(
+    alloc: Global,
+    most: u64,
+    name: Name,
+    word: &[u8],
+) -> Result<Option<Setting>, Memory>
+    requires { word.now ≡ name }
+    ensures { IfOk result (λ setting. setting ≡ cache_at most name) }
+{
+    let Some(lock) = lock_name(alloc, word)? else {
+        return Ok(None);
+    };
+    Ok(Some(Setting::Cache(Cache { most, name, lock })))
+}
+
+fn named_cache(alloc: Global, most: u64, word: &[u8]) -> Result<Option<Setting>, Memory>
+    ensures { IfOk result (λ setting. setting ≡ cache_named most word.now) }
+{
+    if word.len() == 0 {
+        return Ok(None);
+    }
+    let Some(name) = name(alloc, word)? else {
+        return Ok(None);
+    };
+    locked_cache(alloc, most, name, word)
+}
+
+// What `-D` asks for.
+fn cache(alloc: Global, most: &[u8], word: &[u8]) -> Result<Option<Setting>, Memory>
+    ensures { IfOk result (λ setting. setting ≡ cache_for most.now word.now) }
+{
+    let Some(most) = bound(most) else {
+        return Ok(None);
+    };
+    named_cache(alloc, most, word)
+}
+
+// What a letter that takes two texts asks for.
+fn with_both(alloc: Global, letter: u8, old: Blob, new: &[u8]) -> Result<Option<Setting>, Memory>
+    ensures { IfOk result (λ setting. setting ≡ setting_for_both letter old new.now) }
+{
+    match letter {
+        b'R' => rename(alloc, old, new),
+        b'D' => cache(alloc, old.as_slice(), new),
+        _ => Ok(None),
+    }
 }
 
 // What a letter that stands alone asks for.
@@ -157,9 +238,15 @@ fn wants_text(letter: u8) -> bool
     ensures { result ≡ takes_text letter }
 {
     match letter {
-        b'p' | b'x' | b'X' | b'a' | b'A' | b'i' | b'I' | b'u' | b'U' | b'R' => true,
+        b'p' | b'x' | b'X' | b'a' | b'A' | b'i' | b'I' | b'u' | b'U' | b'R' | b'D' => true,
         _ => false,
     }
+}
+
+fn wants_more(letter: u8) -> bool
+    ensures { result ≡ takes_more letter }
+{
+    letter == b'R' || letter == b'D'
 }
 
 // Adds the setting, if there is one; without one the words aren't read.
@@ -184,7 +271,7 @@ fn take_text(
     ensures { IfOk result
         (λ waits. Adds (with_text letter text.now) settings.old.items settings.new.items waits) }
 {
-    if letter == b'R' {
+    if wants_more(letter) {
         return Ok(Waits::ForMore(letter, Blob::from_slice(alloc, text)?));
     }
     let setting = with_one(alloc, letter, text)?;
@@ -300,6 +387,51 @@ fn take_group(alloc: Global, settings: &mut Vec<Setting>, word: &[u8]) -> Result
     }
 }
 
+fn name(alloc: Global, word: &[u8]) -> Result<Option<Name>, Memory>
+    ensures { IfOk result (λ name. name ≡ usable_name word.now) }
+{
+    match Name::read(alloc, word) {
+        Ok(name) => Ok(Some(name)),
+        Err(NameRefused::Unusable) => Ok(None),
+        Err(NameRefused::Memory) => Err(Memory),
+    }
+}
+
+// The program behind `-s`; an empty word names none.
+fn program(alloc: Global, word: &[u8]) -> Result<Option<Setting>, Memory>
+    ensures { IfOk result (λ setting. setting ≡ program_for word.now) }
+{
+    if word.len() == 0 {
+        return Ok(None);
+    }
+    let Some(name) = name(alloc, word)? else {
+        return Ok(None);
+    };
+    Ok(Some(Setting::Program(name)))
+}
+
+// A word for the program.
+fn argument(alloc: Global, word: &[u8]) -> Result<Option<Setting>, Memory>
+    ensures { IfOk result (λ setting. setting ≡ argument_for word.now) }
+{
+    let Some(name) = name(alloc, word)? else {
+        return Ok(None);
+    };
+    Ok(Some(Setting::Argument(name)))
+}
+
+// Adds the setting, if there is one, behind which words for a program stand.
+fn add_behind(settings: &mut Vec<Setting>, setting: Option<Setting>) -> Result<Waits, Memory>
+    ensures { IfOk result
+        (λ waits. Adds (with_setting setting (waiting Argument)) settings.old.items settings.new.items waits) }
+{
+    let Some(setting) = setting else {
+        return Ok(Waits::Unread);
+    };
+    settings.push(setting)?;
+    Ok(Waits::Argument)
+}
+
 fn take_word(
     alloc: Global,
     settings: &mut Vec<Setting>,
@@ -316,7 +448,14 @@ fn take_word(
             let setting = with_both(alloc, letter, text, word)?;
             add(settings, setting)
         }
-        Waits::Program => Ok(Waits::Unread),
+        Waits::Program => {
+            let setting = program(alloc, word)?;
+            add_behind(settings, setting)
+        }
+        Waits::Argument => {
+            let setting = argument(alloc, word)?;
+            add_behind(settings, setting)
+        }
         Waits::Unread => Ok(Waits::Unread),
     }
 }
@@ -334,6 +473,7 @@ pub fn read_words(alloc: Global, words: &[String]) -> Result<Option<Vec<Setting>
     match waits {
         Waits::Ready => Ok(Some(settings)),
         Waits::Program => Ok(Some(settings)),
+        Waits::Argument => Ok(Some(settings)),
         _ => Ok(None),
     }
 }

@@ -8,32 +8,38 @@ use pm_bytes::{Memory, Name, NameRefused, Pair, Pairs};
 use std::alloc::Global;
 use std::env::{Env, FillError};
 
+/// Most entries fit into this room.
+const FIRST_ROOM: usize = 1024;
+
 /// Reads the variables whose name and value can each be a `Name`, in order.
 pub fn read_environment<R: Env>(alloc: Global, env: &R) -> Result<Pairs, Memory> {
     let mut vars = Vec::new(alloc);
+    let mut room = vec![in alloc; 0u8; FIRST_ROOM]?;
     for index in 0..usize::MAX {
-        let Some(entry) = read_entry(alloc, env, index)? else {
+        let Some(length) = read_entry(alloc, env, index, &mut room)? else {
             break;
         };
-        if let Some(pair) = read_pair(alloc, entry.as_slice())? {
+        let length = length.min(room.len());
+        if let Some(pair) = read_pair(alloc, &room.as_slice()[..length])? {
             vars.push(pair)?;
         }
     }
     Ok(Pairs::from_vec(vars))
 }
 
-// One entry of the environment, as `NAME=value`; None behind the last. The room grows until the entry fits.
-fn read_entry<R: Env>(alloc: Global, env: &R, index: usize) -> Result<Option<Vec<u8>>, Memory> {
-    let mut size = 256usize;
+// How many bytes at the front of the room are the entry, as `NAME=value`; None behind the last one. The room grows until the
+// entry fits.
+fn read_entry<R: Env>(
+    alloc: Global,
+    env: &R,
+    index: usize,
+    room: &mut Vec<u8>,
+) -> Result<Option<usize>, Memory> {
     for _ in 0..usize::BITS {
-        let mut room = vec![in alloc; 0u8; size]?;
         match env.var_at(index, room.as_mut_slice()) {
-            Ok(length) => {
-                room.truncate(length);
-                return Ok(Some(room));
-            }
+            Ok(length) => return Ok(Some(length)),
             Err(FillError::NotPresent) => return Ok(None),
-            Err(FillError::TooLong) => size = size.saturating_mul(2),
+            Err(FillError::TooLong) => *room = vec![in alloc; 0u8; room.len().saturating_mul(2)]?,
         }
     }
     Err(Memory)

@@ -1,6 +1,7 @@
 use Rattle.std.proofs.Common.{sym, ◌∙◌, subst, refl}
 use Rattle.pm_streams.specs.Reading.{Drains}
-use Rattle.formail_top.specs.Run.{too_long, lost, written}
+use Rattle.formail_top.specs.Run.{too_long, lost, put}
+use Rattle.formail_top.proofs.LeavingLemmas.{on_err, left_off}
 use Rattle.formail_top.proofs.filtering.run.Goals as goal
 
 pub returns-in-TooMany-clause-ok : goal.returns-in-TooMany-clause-ok
@@ -19,4 +20,9 @@ pub returns-clause-ok : goal.returns-clause-ok
 returns-clause-ok g c =
     let read = sym c.in_ok-request.ensures ∙ c.in-Some.is in
     let drained = subst (λ m. Drains m (g.S.Source.told c.args.source.now) (g.S.Source.told c.read_mail.new.source)) c.in-Bytes.is c.in_ok-read_mail.ensures in
-    written c.in-Some.request read c.in-Bytes.bytes drained (rw c.as_slice.ensures at c.in_ok-status-in-Bytes.ensures.ok)
+    put c.in-Some.request read c.in-Bytes.bytes drained (rw c.as_slice.ensures at c.in_ok-status-in-Bytes.ensures.ok)
+
+pub returns-in_err-status-in-Bytes-clause-left : goal.returns-in_err-status-in-Bytes-clause-left
+returns-in_err-status-in-Bytes-clause-left g c =
+    let read = sym c.in_ok-request.ensures ∙ c.in-Some.is in
+    on_err _ (left_off _ c.in-Some.request _ _ read c.in_err-status-in-Bytes.ensures.left)

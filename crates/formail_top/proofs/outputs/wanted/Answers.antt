@@ -1,4 +1,4 @@
-use Rattle.std.proofs.Common.{sym, ◌∙◌, ap}
+use Rattle.std.proofs.Common.{◌∙◌, ap}
 use Rattle.formail_split.specs.Parts.{texts_of}
 use Rattle.formail_top.proofs.OutputLemmas.{are_selected}
 use Rattle.formail_top.proofs.outputs.wanted.Goals as goal

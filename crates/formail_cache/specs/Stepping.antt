@@ -1,0 +1,82 @@
+-- A cache is used under its lock.
+use Rattle.std.specs.Prelude.{◌≡◌, ℕ, Bool, true, false, Option, List, []}
+use Rattle.pm_host.specs.Told.{HostView, Makes}
+use Rattle.pm_host.specs.declared.answers.Removed.{Removed}
+use Rattle.pm_host.specs.declared.answers.Removed.TheVariants.{Failed as RemovedFailed}
+use Rattle.pm_host.specs.declared.calls.Call.TheVariants.{Remove}
+use Rattle.pm_host.specs.declared.calls.Answer.TheVariants.{Remove as AnswerRemove}
+use Rattle.pm_journal.specs.Locking.{TakesLock}
+use Rattle.pm_journal.specs.declared.locking.LockRule.{LockRule}
+use Rattle.pm_journal.specs.declared.locking.LockEnd.TheVariants.{Held, Busy as LockBusy, Failed as LockFailed}
+use Rattle.pm_append.specs.ReadsFile.{ReadsFile, LeavesReading}
+use Rattle.pm_append.specs.declared.read.ReadEnd.TheVariants.{Content, Missing, NotPlain, TooLong, Faulted}
+use Rattle.formail_extra.specs.Cache.{marks_of}
+use Rattle.formail_cache.specs.Changing.{change_of, Changes}
+use Rattle.formail_cache.specs.declared.changing.Written.{Written}
+use Rattle.formail_cache.specs.declared.changing.Written.TheVariants.{Done, Unusable, Failed}
+use Rattle.formail_cache.specs.declared.stepping.Cache.{Cache}
+use Rattle.formail_cache.specs.declared.stepping.CacheEnd.{CacheEnd}
+use Rattle.formail_cache.specs.declared.stepping.CacheEnd.TheVariants.{Kept, Busy, Unusable as EndUnusable, Failed as EndFailed}
+
+-- 1,000 tries with sleeps of 8 seconds; a lock file older than 1,024 seconds is removed by force, with a pause of 16
+abbrev pub cache_rule : LockRule
+cache_rule = record { sleep = 8; limit = 1024; suspend = 16; tries = 1000 }
+
+-- the end, by how the writing ended
+abbrev pub end_of : Written → List Bool → CacheEnd
+end_of Done kept = Kept kept
+end_of Unusable kept = EndUnusable
+end_of Failed kept = EndFailed
+
+-- the mails were marked by these bytes of the cache, and the cache was brought to what they leave
+pub record Remembers (cache : Cache) (too_long : Bool) (old : List ℕ) (ids : List (Option (List ℕ))) (end : CacheEnd) (before after : HostView) : Type 0 where
+  pub written : Written
+  pub changes : Changes cache.name (change_of too_long old (marks_of cache.most old ids).cache) old (marks_of cache.most old ids).cache written before after
+  pub is : end ≡ end_of written (marks_of cache.most old ids).kept
+
+-- the cache was read, and what is new was added to it; one that is absent or too long to be read has no identifiers
+pub data Uses (cache : Cache) (ids : List (Option (List ℕ))) (end : CacheEnd) (before after : HostView) : Type 0 where
+  came : (bytes : List ℕ) (middle : HostView) → ReadsFile cache.name (Content bytes) before middle
+      → Remembers cache false bytes ids end middle after → Uses cache ids end before after
+  absent : (middle : HostView) → ReadsFile cache.name Missing before middle
+      → Remembers cache false [] ids end middle after → Uses cache ids end before after
+  too_long : (count : ℕ) (middle : HostView) → ReadsFile cache.name (TooLong count) before middle
+      → Remembers cache true [] ids end middle after → Uses cache ids end before after
+  folder : end ≡ EndUnusable → ReadsFile cache.name NotPlain before after → Uses cache ids end before after
+  unread : end ≡ EndFailed → ReadsFile cache.name Faulted before after → Uses cache ids end before after
+
+-- the end, once the lock file was removed
+abbrev pub given_back : Removed → CacheEnd → CacheEnd
+given_back RemovedFailed end = EndFailed
+given_back other end = end
+
+-- with the lock held the cache was used, and then the lock file was removed
+pub record UnderLock (cache : Cache) (ids : List (Option (List ℕ))) (end : CacheEnd) (before after : HostView) : Type 0 where
+  pub used : CacheEnd
+  pub middle : HostView
+  pub uses : Uses cache ids used before middle
+  pub removed : Removed
+  pub gives : Makes (Remove cache.lock) (AnswerRemove removed) middle after
+  pub is : end ≡ given_back removed used
+
+-- with the lock held the reading was left off, or nothing was asked behind it, and then the lock file was removed
+pub record LetGo (cache : Cache) (before after : HostView) : Type 0 where
+  pub middle : HostView
+  pub left : LeavesReading cache.name before middle
+  pub removed : Removed
+  pub gives : Makes (Remove cache.lock) (AnswerRemove removed) middle after
+
+-- the cache was used under its lock, or the lock couldn't be taken
+pub data Steps (cache : Cache) (ids : List (Option (List ℕ))) (end : CacheEnd) (before after : HostView) : Type 0 where
+  busy : end ≡ Busy → TakesLock cache_rule cache.lock LockBusy before after → Steps cache ids end before after
+  unlocked : end ≡ EndFailed → TakesLock cache_rule cache.lock LockFailed before after → Steps cache ids end before after
+  locked : (sleeps forced : ℕ) (middle : HostView) → TakesLock cache_rule cache.lock (Held sleeps forced) before middle
+      → UnderLock cache ids end middle after → Steps cache ids end before after
+
+-- memory was wanting, and the lock was given back
+pub record GivesUp (cache : Cache) (before after : HostView) : Type 0 where
+  pub sleeps : ℕ
+  pub forced : ℕ
+  pub middle : HostView
+  pub takes : TakesLock cache_rule cache.lock (Held sleeps forced) before middle
+  pub lets_go : LetGo cache middle after

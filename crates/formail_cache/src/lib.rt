@@ -1,0 +1,8 @@
+//! The cache of seen identifiers is read and added to through a host, under its lock (formail(1), option -D).
+#![tactic(auto)]
+
+mod changing;
+mod stepping;
+
+pub use changing::{Change, Written};
+pub use stepping::{Cache, CacheEnd, cache_step};
