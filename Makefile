@@ -56,6 +56,7 @@ bench:
 	@bash bench/rcfiles.sh
 	@bash bench/deliver.sh
 	@bash bench/conditions.sh
+	@bash bench/recipes.sh
 	@bash bench/formail.sh
 
 # The merge gate.

@@ -10,6 +10,8 @@ command -v valgrind > /dev/null || { echo "valgrind isn't there"; exit 0; }
 folder=$(mktemp -d)
 trap 'rm -rf "$folder"' EXIT
 cd "$folder"
+# valgrind doesn't follow a program that runs with another group's rights.
+[ -z "$other" ] || { cp "$other" procmail-3.22 && other=$folder/procmail-3.22; }
 
 # The instructions of one run of this program by the rcfile `rc` on the mail `mail`.
 instructions() {

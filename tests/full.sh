@@ -31,10 +31,10 @@ fi
 
 # A file system that is full in the middle of the message.
 mkdir small
+printf ':0:\nsmall/mbox\n' > rc2
 if mount -t tmpfs -o size=600k tmpfs small 2>/dev/null; then
     mounted=$folder/small
     cp before small/mbox
-    printf ':0:\nsmall/mbox\n' > rc2
     status=0
     "$program" -m rc2 < large 2> said || status=$?
     unchanged "a full file system" small/mbox small/mbox
@@ -42,6 +42,31 @@ if mount -t tmpfs -o size=600k tmpfs small 2>/dev/null; then
     mounted=
 else
     echo "full: no small file system can be made here: skipped"
+fi
+
+# A file system that has no room for the lock file, and one that has room for it but not for the mailbox.
+if mount -t tmpfs -o size=600k,nr_inodes=2 tmpfs small 2>/dev/null; then
+    mounted=$folder/small
+    cp before small/mbox
+    status=0
+    "$program" -m rc2 < large 2> said || status=$?
+    [ "$status" -eq 73 ] || fail "no room for the lock file: status $status"
+    [ "$(cat said)" = 'procmail: Couldn'\''t get lock "small/mbox.lock"
+procmail: No delivery was made' ] || fail "no room for the lock file: said $(cat said)"
+    cmp -s small/mbox before || fail "no room for the lock file: the mailbox changed"
+    echo "full: no room for the lock file: the mailbox is as before"
+    rm small/mbox
+    status=0
+    "$program" -m rc2 < large 2> said || status=$?
+    [ "$status" -eq 73 ] || fail "no room for the mailbox: status $status"
+    [ "$(cat said)" = 'procmail: Couldn'\''t write to "small/mbox"
+procmail: No delivery was made' ] || fail "no room for the mailbox: said $(cat said)"
+    [ -z "$(ls small)" ] || fail "no room for the mailbox: $(ls small) is left"
+    echo "full: no room for the mailbox: nothing is left"
+    umount small
+    mounted=
+else
+    echo "full: no file system of few files can be made here: skipped"
 fi
 
 # A mailbox that another user may not write to.

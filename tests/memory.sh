@@ -1,0 +1,111 @@
+#!/usr/bin/env bash
+# Want of memory at each place where the program asks for some, in a run under a lock file, in one that ends in the default
+# mailbox, and in one with LOCKFILE: no lock file is left, the status is 71 or 0, and the mailbox has all of the mail or
+set -eu
+. "$(dirname "$0")/common.bash"
+compiler=$(command -v cc || command -v gcc || command -v clang || true)
+cat > failing.c <<'END'
+#include <errno.h>
+#include <fcntl.h>
+#include <stddef.h>
+#include <stdlib.h>
+#include <unistd.h>
+
+extern void *__libc_malloc(size_t);
+extern void *__libc_calloc(size_t, size_t);
+extern void *__libc_realloc(void *, size_t);
+extern void *__libc_memalign(size_t, size_t);
+
+static long asked, number = -1;
+static int later;
+
+/* The allocation with the number FAIL_AT fails, and with FAIL_LATER each later one too; the file FAIL_MARK is made then. */
+static int fails(void) {
+    if (number < 0) {
+        char *text = getenv("FAIL_AT");
+        number = text ? atol(text) : 0;
+        later = getenv("FAIL_LATER") != NULL;
+    }
+    asked++;
+    if (number == 0 || asked < number || (asked > number && !later))
+        return 0;
+    if (asked == number)
+        close(open(getenv("FAIL_MARK"), O_CREAT | O_WRONLY, 0600));
+    errno = ENOMEM;
+    return 1;
+}
+
+void *malloc(size_t size) { return fails() ? NULL : __libc_malloc(size); }
+void *calloc(size_t count, size_t size) { return fails() ? NULL : __libc_calloc(count, size); }
+void *realloc(void *old, size_t size) { return fails() ? NULL : __libc_realloc(old, size); }
+void *aligned_alloc(size_t align, size_t size) { return fails() ? NULL : __libc_memalign(align, size); }
+int posix_memalign(void **out, size_t align, size_t size) {
+    if (fails())
+        return ENOMEM;
+    *out = __libc_memalign(align, size);
+    return *out ? 0 : ENOMEM;
+}
+END
+if [ -z "$compiler" ] || ! "$compiler" -shared -fPIC -o failing.so failing.c 2> /dev/null; then
+    echo "memory: no C compiler here: skipped"
+    exit 0
+fi
+export FAIL_MARK=$folder/mark
+printf 'From a@b Thu Jan  1 00:00:00 1970\nA: b\n\nhi\n' > message
+printf 'From a@b Thu Jan  1 00:00:00 1970\nA: b\n\nhi\n\n' > piece
+printf 'old mail\n\n' > old
+cat old piece > both
+
+logname=joe
+
+# Runs with these words, once for each allocation; the mailbox is mbox.
+each() {
+    about=$1
+    shift
+    for later in '' yes; do
+        number=0
+        failed=0
+        while :; do
+            number=$((number + 1))
+            rm -f mark
+            cp old mbox
+            status=0
+            env -i LOGNAME="$logname" HOME="$folder" FAIL_MARK="$FAIL_MARK" FAIL_AT=$number ${later:+FAIL_LATER=yes} LD_PRELOAD="$folder/failing.so" \
+                "$program" "$@" < message 2> said || status=$?
+            for lock in *.lock; do
+                [ ! -e "$lock" ] || fail "$about: allocation $number: the lock file $lock is left"
+            done
+            if cmp -s mbox both; then
+                [ "$status" -eq 0 ] || [ "$status" -eq 71 ] || fail "$about: allocation $number: status $status"
+            elif cmp -s mbox old; then
+                case $status in
+                    71 | 66 | 73) ;;
+                    *) fail "$about: allocation $number: status $status, and nothing was delivered" ;;
+                esac
+                failed=$((failed + 1))
+            else
+                fail "$about: allocation $number: the mailbox is torn"
+            fi
+            [ -e mark ] || break
+            [ "$number" -lt 20000 ] || fail "$about: no end of allocations"
+        done
+        [ "$status" -eq 0 ] || fail "$about: status $status where none failed"
+        [ "$failed" -gt 20 ] || fail "$about: only $failed of $number allocations mattered"
+        echo "memory: $about: each of $((number - 1)) allocations${later:+ and all behind it}: no lock file is left, and the mailbox is whole"
+    done
+}
+
+printf ':0:\nmbox\n' > rc
+each "a recipe with a lock file" -m rc
+# The default mailbox is /var/mail and this name, so it is the same one, also where the rcfile couldn't be read.
+: > default
+if [ -d /var/mail ]; then
+    logname=../..$folder/mbox
+    each "the default mailbox" ./default
+    logname=joe
+else
+    echo "memory: no /var/mail here: skipped"
+fi
+printf 'LOCKFILE=global.lock\n\n:0:\n* ^A: b\nmbox\n' > global
+each "LOCKFILE" -m global
+echo "memory: passed"
