@@ -192,14 +192,14 @@ after_call (Feed piece) answer w = after_feed answer piece w
 after_call (Take room) answer w = w
 after_call Finish answer w = after_others w
 
--- whether a child runs after a `start`
-abbrev pub started_child : Answer → Child
-started_child (AnswerStart StartedOk) = Feeding
-started_child other = NoChild
+-- whether a child runs after a `start`: one that couldn't be made changes nothing
+abbrev pub started_child : Answer → Child → Child
+started_child (AnswerStart StartedOk) child = Feeding
+started_child other child = child
 
 -- whether a child runs after a call
 abbrev pub after_child : Call → Answer → Child → Child
-after_child (Start command want) answer child = started_child answer
+after_child (Start command want) answer child = started_child answer child
 after_child (Take room) answer child = Taking
 after_child Finish answer child = NoChild
 after_child call answer child = child

@@ -75,9 +75,9 @@ pub trait Host {
     fn now(&mut self) -> i64
         ensures { Makes Call.Now (Answer.Now result) (told self.old) (told self.new) };
 
-    /// Starts a child; its output is kept where it is wanted.
+    /// Starts a child; its output is kept where it is wanted. Who waits for each child before the next one is started
+    /// has one at a time; a host may refuse to start another beside one that runs.
     fn start(&mut self, command: &Command, want: bool) -> Started
-        requires { (told self.old).child ≡ Child.NoChild }
         ensures { Makes (Call.Start command.now want) (Answer.Start result) (told self.old) (told self.new) };
 
     /// Gives the child a front of the piece as input.

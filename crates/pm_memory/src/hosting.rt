@@ -133,7 +133,6 @@ impl MemoryHost {
     }
 
     pub(crate) fn start_now(&mut self, command: &Command, want: bool) -> Result<(), Denied>
-        requires { child_at self.old.tree ≡ Child.NoChild }
         ensures ok { IfOk result (λ _. Does (Call.Start command.now want) (Answer.Start Started.Started) self.old self.new) }
         ensures err { IfErr result (Denies (Call.Start command.now want) self.old self.new) }
     {

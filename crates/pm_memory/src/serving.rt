@@ -227,7 +227,6 @@ impl Host for MemoryHost {
     }
 
     fn start(&mut self, command: &Command, want: bool) -> Started
-        requires { child_at self.old.tree ≡ Child.NoChild }
         ensures { Serves (Call.Start command.now want) (Answer.Start result) self.old self.new }
     {
         match self.start_now(command, want) {

@@ -1,5 +1,5 @@
 -- A child's run, put together.
-use Rattle.std.proofs.Common.{◌≡◌, ◌≤◌, ◌<◌, ◌+◌, ℕ, Bool, true, false, List, [], ◌∷◌, ◌++◌, length, take, drop, Option, Some, None, Result, Ok, Err, IfOk, OnErr, arith, refl, sym, ap, ◌∙◌, subst}
+use Rattle.std.proofs.Common.{◌≡◌, ◌≤◌, ℕ, Bool, true, false, List, [], ◌∷◌, ◌++◌, length, take, drop, Option, Some, None, Result, Ok, Err, IfOk, OnErr, arith, refl, sym, ap, ◌∙◌, subst}
 use Rattle.std.proofs.lemmas.Grind.{common_steps}
 use Rattle.pm_bytes.specs.declared.error.Memory.{Memory as WantOfMemory}
 use Rattle.pm_host.specs.Told.{HostView, Makes}
@@ -10,17 +10,17 @@ use Rattle.pm_host.specs.declared.answers.Started.TheVariants.{Started as Starte
 use Rattle.pm_host.specs.declared.command.Command.{Command}
 use Rattle.pm_host.specs.declared.calls.Call.TheVariants.{Start, Feed, Take, Finish}
 use Rattle.pm_host.specs.declared.calls.Answer.{Answer}
-use Rattle.pm_host.specs.declared.calls.Answer.TheVariants.{Start as AnswerStart, Finish as AnswerFinish, Take as AnswerTake, Failed as AnswerFailed}
+use Rattle.pm_host.specs.declared.calls.Answer.TheVariants.{Start as AnswerStart, Finish as AnswerFinish}
 use Rattle.pm_host.specs.declared.calls.Logged.{Logged}
 use Rattle.pm_journal.specs.Appending.{IsFront}
-use Rattle.pm_journal.specs.Children.{FeedOn, FeedAsks, FeedGroup, FeedDone, FeedState, feed_heard, heard_feed, TakeState, TakeOn, TakeOver, TakeAsks, TakeDone, take_heard, heard_take, took_more, Takes, takes_output, run_calls, run_reply, LeftRun, not_started, was_run}
+use Rattle.pm_journal.specs.Children.{FeedOn, FeedAsks, FeedDone, FeedState, feed_heard, heard_feed, TakeState, TakeOn, TakeOver, TakeAsks, TakeDone, take_heard, heard_take, took_more, Takes, takes_output, run_calls, run_reply, not_started, was_run}
 use Rattle.pm_journal.specs.declared.children.FeedEnd.{FeedEnd}
 use Rattle.pm_journal.specs.declared.children.FeedEnd.TheVariants.{All as FedAll, Closed as FedUpTo, Failed as FedFailed}
 use Rattle.pm_journal.specs.declared.children.TakeEnd.{TakeEnd}
 use Rattle.pm_journal.specs.declared.children.TakeEnd.TheVariants.{All as CameAll, Failed as CameFailed}
 use Rattle.pm_journal.specs.declared.acts.Reply.{Reply}
 use Rattle.pm_journal.specs.declared.acts.Reply.TheVariants.{NotStarted as ReplyNotStarted}
-use Rattle.pm_pipe.specs.Runs.{EndsRun, RunsTo, Feeding, Feeds, Taking, TakesAll, TakesWhere, LeavesTaking, Brings, MakesTake}
+use Rattle.pm_pipe.specs.Runs.{EndsRun, RunsTo, Feeding, Feeds, Taking, TakesAll, TakesWhere, LeavesTaking, Brings}
 use Rattle.pm_pipe.specs.declared.child.Came.TheVariants.{More, End, Failed}
 
 pub fed_none : (input : List ℕ) (s : HostView) → Feeding input (FeedOn 0) s s

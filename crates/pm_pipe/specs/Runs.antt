@@ -1,5 +1,5 @@
 -- A child, call by call.
-use Rattle.std.specs.Prelude.{◌≡◌, ◌≤◌, ℕ, Bool, true, List, [], ◌∷◌, ◌++◌, length, Option, Some, None, Result, Ok, Err}
+use Rattle.std.specs.Prelude.{◌≡◌, ◌≤◌, ℕ, Bool, true, List, [], ◌++◌, length, Option, Some, None, Result, Ok, Err}
 use Rattle.pm_bytes.specs.declared.error.Memory.{Memory as WantOfMemory}
 use Rattle.pm_host.specs.Told.{HostView, Makes}
 use Rattle.pm_host.specs.Runs.{Ran, Transitions}

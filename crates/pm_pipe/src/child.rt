@@ -44,8 +44,8 @@ enum Came {
 /// The most bytes of output that are taken.
 pub const MOST: usize = 67_108_864;
 
-/// Starts the child, feeds it, takes its output where it is wanted, and waits for it. No child runs afterwards,
-/// whatever it answers. It takes memory for the output alone.
+/// Starts the child, feeds it, takes its output where it is wanted, and waits for it. Where no
+/// child ran before, none runs afterwards, whatever it answers. It takes memory for the output alone.
 pub fn run_child<H: Host>(
     alloc: Global,
     host: &mut H,
@@ -53,9 +53,8 @@ pub fn run_child<H: Host>(
     input: &[u8],
     want: bool,
 ) -> ChildEnd
-    requires { (H.told host.old).child ≡ Child.NoChild }
     ensures runs { RunsTo command.now input.now want (child_reply result) (H.told host.old) (H.told host.new) }
-    ensures none { (H.told host.new).child ≡ Child.NoChild }
+    ensures none { (H.told host.old).child ≡ Child.NoChild → (H.told host.new).child ≡ Child.NoChild }
 {
     if let Started::Failed = host.start(command, want) {
         return ChildEnd::NotStarted;
@@ -69,12 +68,11 @@ pub fn run_child<H: Host>(
     }
 }
 
-/// Starts the child, feeds it and waits for it; its output isn't kept. No child runs afterwards, whatever it answers.
-/// It takes no memory.
+/// Starts the child, feeds it and waits for it; its output isn't kept. Where no child ran before,
+/// none runs afterwards, whatever it answers. It takes no memory.
 pub fn feed_child<H: Host>(host: &mut H, command: &Command, input: &[u8]) -> Fate
-    requires { (H.told host.old).child ≡ Child.NoChild }
     ensures runs { RunsTo command.now input.now false (Some (fed_reply result)) (H.told host.old) (H.told host.new) }
-    ensures none { (H.told host.new).child ≡ Child.NoChild }
+    ensures none { (H.told host.old).child ≡ Child.NoChild → (H.told host.new).child ≡ Child.NoChild }
 {
     if let Started::Failed = host.start(command, false) {
         return Fate::NotStarted;

@@ -215,6 +215,10 @@ where
 
     fn start(&mut self, command: &Command, want: bool) -> Started {
         self.kept.close();
+        if self.child != Child::NoChild {
+            self.count_fault();
+            return Started::Failed;
+        }
         match self.start_child(command, want) {
             Ok(running) => {
                 self.running = Some(running);
@@ -223,7 +227,6 @@ where
             }
             Err(_) => {
                 self.count_fault();
-                self.child = Child::NoChild;
                 Started::Failed
             }
         }

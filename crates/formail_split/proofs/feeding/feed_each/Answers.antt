@@ -9,5 +9,5 @@ pub loop-text-preserved : goal.loop-text-preserved
 loop-text-preserved g c = record {
   fed = rw c.worse_of-worst.ensures
       (feeds_more _ _ _ _ _ _ _ _ _ _ _ c.loop-text-test.true (c.as_slice-bytes.ensures ∙ c.text-item.is) c.loop-text.invariant.fed c.feed_child-fate.ensures.runs c.outcome_of.ensures);
-  none = c.feed_child-fate.ensures.none;
+  none = c.feed_child-fate.ensures.none c.loop-text.invariant.none;
 }

@@ -1,4 +1,4 @@
-use Rattle.std.proofs.Common.{◌≡◌, ◌≤◌, ◌-◌, length}
+use Rattle.std.proofs.Common.{◌≡◌, ◌-◌, length}
 use Rattle.pm_host.specs.World.{IsRunning}
 use Rattle.pm_journal.specs.Children.{TakeOn}
 use Rattle.pm_pipe.specs.Runs.{Taking}
