@@ -1,5 +1,5 @@
 -- What a child's run makes of the world.
-use Rattle.std.proofs.Common.{◌≡◌, ◌≤◌, ◌⊎◌, ℕ, ◌+◌, Bool, true, false, List, [], ◌∷◌, ◌++◌, length, take, drop, refl, sym, ap, ◌∙◌, subst, inl, inr, arith, append_assoc, append-nil}
+use Rattle.std.proofs.Common.{◌≡◌, ℕ, Bool, true, false, List, [], ◌∷◌, ◌++◌, take, drop, refl, sym, ap, ◌∙◌, subst, append_assoc, append-nil}
 use Rattle.pm_host.specs.World.{World, after_call, after_others, last_fed, IsAnswerTo}
 use Rattle.pm_host.specs.Runs.{after_calls, Transitions, logged}
 use Rattle.pm_host.proofs.RunsJoin.{after_calls-append}
@@ -8,13 +8,12 @@ use Rattle.pm_host.specs.declared.answers.Finished.{Finished}
 use Rattle.pm_host.specs.declared.command.Command.{Command}
 use Rattle.pm_host.specs.declared.command.ChildInput.{ChildInput}
 use Rattle.pm_host.specs.declared.calls.Call.{Call}
-use Rattle.pm_host.specs.declared.calls.Call.TheVariants.{Start, Feed, Take, Finish}
+use Rattle.pm_host.specs.declared.calls.Call.TheVariants.{Feed, Finish}
 use Rattle.pm_host.specs.declared.calls.Answer.{Answer}
-use Rattle.pm_host.specs.declared.calls.Answer.TheVariants.{Feed as AnswerFeed, Take as AnswerTake, Finish as AnswerFinish, Failed as AnswerFailed}
+use Rattle.pm_host.specs.declared.calls.Answer.TheVariants.{Feed as AnswerFeed, Finish as AnswerFinish}
 use Rattle.pm_host.specs.declared.calls.Logged.{Logged}
-use Rattle.pm_journal.specs.Children.{FeedState, FeedOn, FeedOver, FeedAsks, feed_heard, TakeState, TakeOn, TakeOver, TakeAsks, take_heard, Takes, fed_by, fed_bytes, taken_by, taken_bytes, with_input, run_calls, run_reply, came_reply, finish_reply, after_run, after_child_ran, RunsChild, RunGroup, not_started, was_run}
+use Rattle.pm_journal.specs.Children.{FeedState, FeedOn, FeedOver, FeedAsks, feed_heard, TakeState, TakeOn, TakeOver, TakeAsks, take_heard, Takes, fed_by, fed_bytes, with_input, run_calls, after_child_ran}
 use Rattle.pm_journal.specs.declared.children.TakeEnd.{TakeEnd}
-use Rattle.pm_journal.specs.declared.acts.Reply.{Reply}
 
 took : Command → List ℕ → ChildInput
 took command bytes = record { command = command; bytes = bytes }

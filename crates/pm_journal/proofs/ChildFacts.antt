@@ -6,21 +6,20 @@ use Rattle.std.proofs.Math.Seq.{take-add}
 use Rattle.pm_host.specs.World.{World, IsAnswerTo, IsFailed, put, longer, made_there, taken_away, after_change, after_changes, batch_of}
 use Rattle.pm_host.specs.declared.nodes.Change.{Change}
 use Rattle.pm_host.specs.declared.nodes.Change.TheVariants.{Append as ChangeAppend, Create as ChangeCreate, Remove as ChangeRemove}
-use Rattle.pm_host.specs.Runs.{after_calls, Transitions, SomeFailed, logged, AllRight}
-use Rattle.pm_host.specs.declared.answers.Started.TheVariants.{Started as StartedOk}
+use Rattle.pm_host.specs.Runs.{after_calls, Transitions, SomeFailed, logged}
 use Rattle.pm_host.specs.declared.answers.Fed.TheVariants.{Took as FedSome, Closed as FedClosed, Failed as FedFault}
 use Rattle.pm_host.specs.declared.answers.Finished.{Finished}
 use Rattle.pm_host.specs.declared.answers.Finished.TheVariants.{Code, Signal, Failed as FinishFailed}
 use Rattle.pm_host.specs.declared.command.Command.{Command}
 use Rattle.pm_host.specs.declared.calls.Call.{Call}
-use Rattle.pm_host.specs.declared.calls.Call.TheVariants.{Start, Feed, Take, Finish}
+use Rattle.pm_host.specs.declared.calls.Call.TheVariants.{Feed, Take, Finish}
 use Rattle.pm_host.specs.declared.calls.Answer.{Answer}
-use Rattle.pm_host.specs.declared.calls.Answer.TheVariants.{Start as AnswerStart, Feed as AnswerFeed, Take as AnswerTake, Finish as AnswerFinish, Failed as AnswerFailed}
+use Rattle.pm_host.specs.declared.calls.Answer.TheVariants.{Feed as AnswerFeed, Take as AnswerTake, Finish as AnswerFinish, Failed as AnswerFailed}
 use Rattle.pm_host.specs.declared.calls.Logged.{Logged}
 use Rattle.pm_journal.specs.Appending.{IsFront}
 use Rattle.pm_journal.specs.Entries.{IsFaulty}
 use Rattle.pm_journal.specs.Replies.{IsRunReply}
-use Rattle.pm_journal.specs.Children.{FeedState, FeedOn, FeedOver, FeedAsks, FeedDone, FeedGroup, feed_heard, heard_feed, TakeState, TakeOn, TakeOver, TakeAsks, TakeDone, OutputGroup, take_heard, heard_take, Takes, takes_output, fed_count, fed_by, fed_bytes, taken_by, taken_bytes, run_calls, run_reply, came_reply, finish_reply, with_input, after_run, RunsChild, RunGroup, not_started, was_run}
+use Rattle.pm_journal.specs.Children.{FeedState, FeedOn, FeedOver, FeedAsks, FeedDone, FeedGroup, feed_heard, heard_feed, TakeState, TakeOn, TakeOver, TakeAsks, TakeDone, take_heard, heard_take, Takes, takes_output, fed_count, fed_by, fed_bytes, taken_by, taken_bytes, run_calls, run_reply, came_reply, with_input, after_run, RunsChild, RunGroup, not_started, was_run}
 use Rattle.pm_journal.specs.ChildLaws.{RanRight, ChangesAsOthers, ChildrenRunRight, ChildrenChangeNothing, ChildFaultsHaveCalls}
 use Rattle.pm_journal.specs.declared.children.FeedEnd.{FeedEnd}
 use Rattle.pm_journal.specs.declared.children.FeedEnd.TheVariants.{All as FedAll, Closed as FedUpTo, Failed as FedFailed}
@@ -357,29 +356,30 @@ run_right command input want reply calls (was_run r) =
     (reply_right input r.fed r.came r.finished calls g.within (run_fed command input want reply calls r ∙ g.front)
     (subst (CameSo r.came) (sym (run_taken command input want reply calls r)) (takes_bytes (takes_output want r.fed) r.came r.takes r.taking)))
 
--- two worlds with the same files at the same moment
+-- two worlds with the same files at the same moment, in which others will do the same
 pub record SameTree (a b : World) : Type 0 where
   pub nodes : a.nodes ≡ b.nodes
   pub moment : a.moment ≡ b.moment
+  pub others : a.others ≡ b.others
 
 same_change : (c : Change) (a b : World) → SameTree a b → SameTree (after_change c a) (after_change c b)
-same_change (ChangeAppend name bytes) a b h = record { nodes = λ i. put (h.nodes i) name (longer (h.nodes i name) (h.moment i) bytes); moment = h.moment }
-same_change (ChangeCreate name bytes) a b h = record { nodes = λ i. put (h.nodes i) name (made_there (h.nodes i name) (h.moment i) bytes); moment = h.moment }
-same_change (ChangeRemove name) a b h = record { nodes = λ i. put (h.nodes i) name (taken_away (h.nodes i name)); moment = h.moment }
+same_change (ChangeAppend name bytes) a b h = record { nodes = λ i. put (h.nodes i) name (longer (h.nodes i name) (h.moment i) bytes); moment = h.moment; others = h.others }
+same_change (ChangeCreate name bytes) a b h = record { nodes = λ i. put (h.nodes i) name (made_there (h.nodes i name) (h.moment i) bytes); moment = h.moment; others = h.others }
+same_change (ChangeRemove name) a b h = record { nodes = λ i. put (h.nodes i) name (taken_away (h.nodes i name)); moment = h.moment; others = h.others }
 
 same_changes : (cs : List Change) (a b : World) → SameTree a b → SameTree (after_changes cs a) (after_changes cs b)
 same_changes [] a b h = h
 same_changes (c ∷ cs) a b h = same_changes cs (after_change c a) (after_change c b) (same_change c a b h)
 
 same_batch : (batches : List (List Change)) (command : Command) (bytes : List ℕ) (w : World) → SameTree (batch_of batches (with_input command bytes w)) (batch_of batches w)
-same_batch [] command bytes w = record { nodes = refl; moment = refl }
-same_batch (b ∷ bs) command bytes w = same_changes b _ _ (record { nodes = refl; moment = refl })
+same_batch [] command bytes w = record { nodes = refl; moment = refl; others = refl }
+same_batch (b ∷ bs) command bytes w = same_changes b _ _ (record { nodes = refl; moment = refl; others = refl })
 
 changes : (reply : Reply) (command : Command) (calls : List Logged) (w : World) → IsRunReply reply → ChangesAsOthers reply w (after_run reply command calls w)
 changes NotStarted command calls w fits = refl
-changes (Ended code took output) command calls w fits = let h = same_batch w.others command (fed_bytes calls) w in (h.nodes, h.moment)
-changes (Broken took) command calls w fits = let h = same_batch w.others command (fed_bytes calls) w in (h.nodes, h.moment)
-changes (TooLong count) command calls w fits = let h = same_batch w.others command (fed_bytes calls) w in (h.nodes, h.moment)
+changes (Ended code took output) command calls w fits = let h = same_batch w.others command (fed_bytes calls) w in (h.nodes, h.moment, h.others)
+changes (Broken took) command calls w fits = let h = same_batch w.others command (fed_bytes calls) w in (h.nodes, h.moment, h.others)
+changes (TooLong count) command calls w fits = let h = same_batch w.others command (fed_bytes calls) w in (h.nodes, h.moment, h.others)
 changes other command calls w fits = absurd fits
 
 -- a child changes the files by the others' next batch alone

@@ -1,20 +1,16 @@
 -- The calls that run a child leave none.
-use Rattle.std.proofs.Common.{◌≡◌, ◌⊎◌, ℕ, Bool, true, false, List, [], ◌∷◌, ◌++◌, refl, sym, ap, ◌∙◌, inl, inr}
-use Rattle.pm_host.specs.Runs.{Transitions, child_after, logged}
+use Rattle.std.proofs.Common.{◌≡◌, Bool, true, List, [], ◌∷◌, ◌++◌, ap, ◌∙◌, inl, inr}
+use Rattle.pm_host.specs.Runs.{child_after, logged}
 use Rattle.pm_host.specs.declared.answers.Child.{Child}
 use Rattle.pm_host.specs.declared.answers.Child.TheVariants.{NoChild, Feeding}
-use Rattle.pm_host.specs.World.{after_child}
 use Rattle.pm_host.specs.declared.answers.Finished.{Finished}
 use Rattle.pm_host.specs.declared.command.Command.{Command}
-use Rattle.pm_host.specs.declared.calls.Call.{Call}
 use Rattle.pm_host.specs.declared.calls.Call.TheVariants.{Finish}
-use Rattle.pm_host.specs.declared.calls.Answer.{Answer}
 use Rattle.pm_host.specs.declared.calls.Answer.TheVariants.{Finish as AnswerFinish}
 use Rattle.pm_host.specs.declared.calls.Logged.{Logged}
 use Rattle.pm_host.proofs.RunsJoin.{child_after-append}
-use Rattle.pm_journal.specs.Children.{run_calls, RunGroup, LeftRun, not_started, was_run}
+use Rattle.pm_journal.specs.Children.{run_calls, not_started, was_run}
 use Rattle.pm_journal.specs.ChildLaws.{ChildrenEnd}
-use Rattle.pm_journal.specs.declared.acts.Reply.{Reply}
 
 -- whatever comes before it, a `finish` leaves no child
 finish_last : (calls : List Logged) (finished : Finished) (k : Child) → child_after (calls ++ logged Finish (AnswerFinish finished) ∷ []) k ≡ NoChild

@@ -1,5 +1,5 @@
 -- The acts of a run leave no child running.
-use Rattle.std.proofs.Common.{◌≡◌, ℕ, Bool, true, false, cond, List, [], ◌∷◌, ◌++◌, length, nat_eq, refl, sym, ap, ◌∙◌, subst}
+use Rattle.std.proofs.Common.{◌≡◌, ℕ, Bool, true, false, cond, List, [], ◌∷◌, length, nat_eq, refl, ap, ◌∙◌, inl, inr}
 use Rattle.pm_host.specs.World.{after_child}
 use Rattle.pm_host.specs.Runs.{Transitions, child_after}
 use Rattle.pm_host.specs.declared.answers.Child.{Child}
@@ -8,7 +8,7 @@ use Rattle.pm_host.specs.declared.calls.Call.{Call}
 use Rattle.pm_host.specs.declared.calls.Answer.{Answer}
 use Rattle.pm_host.specs.declared.calls.Logged.{Logged}
 use Rattle.pm_host.proofs.RunsJoin.{child_after-append}
-use Rattle.pm_journal.specs.Appending.{taken_step, append_step, StepAsks, AppendAsks, append_heard}
+use Rattle.pm_journal.specs.Appending.{taken_step, StepAsks, AppendAsks, append_heard}
 use Rattle.pm_journal.specs.Locking.{lock_rule, no_tally, LockAsks, lock_heard}
 use Rattle.pm_journal.specs.Reading.{ReadState, ReadLooking, ReadOn, ReadEnded, ReadAsks, read_heard}
 use Rattle.pm_journal.specs.Executed.{UnfinishedCalls}
@@ -18,9 +18,15 @@ use Rattle.pm_journal.specs.declared.appending.AppendState.TheVariants.{Looking,
 use Rattle.pm_journal.specs.declared.appending.AppendStep.TheVariants.{Append as StepAppend}
 use Rattle.pm_journal.specs.declared.locking.LockState.{LockState}
 use Rattle.pm_journal.specs.declared.locking.LockState.TheVariants.{Trying, Aging, Looking as LockLooking, Removing as LockRemoving, Pausing, Ended as LockEnded}
+use Rattle.pm_journal.proofs.ChildLeaves.{children_end}
+use Rattle.pm_journal.proofs.PlaceChildren.{place_child, makes_child}
+use Rattle.pm_journal.specs.Placing.{LeftPlace}
+use Rattle.pm_journal.specs.declared.placing.FolderKind.{FolderKind}
+use Rattle.pm_journal.specs.declared.placing.FolderKind.TheVariants.{Maildir, Mh, Plain}
 use Rattle.pm_journal.specs.declared.acts.Act.{Act}
-use Rattle.pm_journal.specs.declared.acts.Act.TheVariants.{ReadFile, Probe, Append as AppendTo, Lock, Unlock, SayFile, SayErr, WriteOut, Moment}
+use Rattle.pm_journal.specs.declared.acts.Act.TheVariants.{ReadFile, Probe, Append as AppendTo, Place, Lock, Unlock, Run, SayFile, SayErr, WriteOut, Moment}
 use Rattle.pm_journal.specs.declared.acts.Reply.{Reply}
+use Rattle.pm_journal.specs.declared.acts.Reply.TheVariants.{NotStarted}
 use Rattle.pm_journal.specs.declared.acts.Entry.{Entry}
 
 -- a machine that asks for no child
@@ -66,6 +72,8 @@ act_child (AppendTo name piece) reply calls g = machine_child (AppendAsks name p
 act_child (Lock name sleep limit suspend tries) reply calls g =
     machine_child (LockAsks name) (lock_heard (lock_rule sleep limit suspend tries)) (lock_child name) calls (Trying no_tally) g.group.last NoChild g.group.walk
 act_child (Unlock name) reply calls g = ap (λ l. child_after l NoChild) g.call
+act_child (Place kind folder prefix piece stamp) reply calls g = place_child kind folder prefix piece stamp reply calls NoChild g
+act_child (Run command input want) reply calls g = children_end command input want reply calls (inl g)
 act_child (SayFile name text) reply calls g = machine_child (AppendAsks name text false) append_heard (append_child name text false) calls Looking g.group.last NoChild g.group.walk
 act_child (SayErr text) reply calls g = ap (λ l. child_after l NoChild) g.none
 act_child (WriteOut piece) reply calls g = ap (λ l. child_after l NoChild) g.none
@@ -79,7 +87,17 @@ no_child_left (e ∷ es) [] h = absurd h
 no_child_left (e ∷ es) (g ∷ gs) h =
     child_after-append g (joined gs) NoChild ∙ ap (child_after (joined gs)) (act_child e.act e.reply g h.0) ∙ no_child_left es gs h.1
 
+left_place_child : (kind : FolderKind) (folder : List ℕ) (calls : List Logged) → LeftPlace kind folder calls → child_after calls NoChild ≡ NoChild
+left_place_child Mh folder calls (inl none) = ap (λ l. child_after l NoChild) none
+left_place_child Mh folder calls (inr l) =
+    ap (λ c. child_after c NoChild) l.calls_are ∙ child_after-append l.makes _ NoChild ∙ makes_child (folder ∷ []) true l.makes NoChild l.made
+left_place_child Maildir folder calls none = ap (λ l. child_after l NoChild) none
+left_place_child Plain folder calls none = ap (λ l. child_after l NoChild) none
+
 -- nor behind an act that was left off
 pub left_off_child : (act : Act) (calls : List Logged) → UnfinishedCalls act calls → child_after calls NoChild ≡ NoChild
+left_off_child (Place kind folder prefix piece stamp) calls u = left_place_child kind folder calls u
+left_off_child (Run command input want) calls (inl none) = ap (λ l. child_after l NoChild) none
+left_off_child (Run command input want) calls (inr u) = children_end command input want NotStarted calls (inr u.1)
 left_off_child (ReadFile name) calls u = machine_child (ReadAsks name) read_heard (read_child name) calls ReadLooking u.0 NoChild u.1
 left_off_child other calls u = ap (λ l. child_after l NoChild) u

@@ -30,7 +30,10 @@ pub mod PlaceCause
 pub mod PlaceDelivers
 pub mod PlaceGrouping
 pub mod PlaceStored
+pub mod RunGrouping
 pub mod PlaceChildren
 pub mod ChildEffect
 pub mod ChildFacts
 pub mod ChildLeaves
+pub mod LeftOff
+pub mod LastEntry

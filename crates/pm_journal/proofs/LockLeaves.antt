@@ -1,5 +1,5 @@
 -- What the taking of a lock leaves at each name.
-use Rattle.std.proofs.Common.{◌≡◌, ℕ, Bool, true, false, cond, List, [], ◌∷◌, Option, Some, None, refl, sym, ap, ◌∙◌, subst, bytes_eq}
+use Rattle.std.proofs.Common.{◌≡◌, ℕ, false, cond, List, [], ◌∷◌, Option, Some, None, refl, sym, ap, ◌∙◌, subst, bytes_eq}
 use Rattle.pm_host.specs.World.{World, after_call, after_create, after_remove, world_with, longer, made_there, taken_away, after_change, after_changes, batch_of, later_moment, after_sleep}
 use Rattle.pm_host.specs.Runs.{Transitions, after_calls}
 use Rattle.pm_host.proofs.Put.{get-put}
@@ -15,14 +15,12 @@ use Rattle.pm_host.specs.declared.calls.Answer.{Answer}
 use Rattle.pm_host.specs.declared.calls.Answer.TheVariants.{Create as AnswerCreate, Remove as AnswerRemove}
 use Rattle.pm_host.specs.declared.calls.Logged.{Logged}
 use Rattle.pm_journal.specs.Deliveries.{changed_name, AreElsewhere, OthersLeave, IfHeld, TakesRight}
-use Rattle.pm_journal.specs.Locking.{LockAsks, lock_heard, no_tally, lock_reply, after_moves, with_lock, after_lock}
+use Rattle.pm_journal.specs.Locking.{LockAsks, lock_heard, no_tally, after_moves, after_lock}
 use Rattle.pm_journal.specs.Entries.{TakeGroup}
 use Rattle.pm_journal.proofs.LockEffect.{lock_effect}
 use Rattle.pm_journal.specs.declared.acts.Reply.{Reply}
 use Rattle.pm_journal.specs.declared.acts.Reply.TheVariants.{Held}
 use Rattle.pm_journal.specs.declared.locking.LockRule.{LockRule}
-use Rattle.pm_journal.specs.declared.locking.LockEnd.{LockEnd}
-use Rattle.pm_journal.specs.declared.locking.LockEnd.TheVariants.{Held as EndHeld, Busy, Failed}
 use Rattle.pm_journal.specs.declared.locking.LockState.{LockState}
 use Rattle.pm_journal.specs.declared.locking.LockState.TheVariants.{Trying, Aging, Looking, Removing, Pausing, Ended}
 
@@ -48,12 +46,12 @@ changes_others [] w = refl
 changes_others (c ∷ cs) w = changes_others cs (after_change c w) ∙ change_others c w
 
 -- at the name stands what stood, and others still leave it alone
-record Untouched (name : List ℕ) (old new : World) : Type 0 where
-  here : new.nodes name ≡ old.nodes name
-  left : OthersLeave new.others name
+pub record Untouched (name : List ℕ) (old new : World) : Type 0 where
+  pub here : new.nodes name ≡ old.nodes name
+  pub left : OthersLeave new.others name
 
 -- others act where they leave the name alone
-batch_apart : (batches : List (List Change)) (w : World) (name : List ℕ) → w.others ≡ batches → OthersLeave batches name → Untouched name w (batch_of batches w)
+pub batch_apart : (batches : List (List Change)) (w : World) (name : List ℕ) → w.others ≡ batches → OthersLeave batches name → Untouched name w (batch_of batches w)
 batch_apart [] w name same left = record { here = refl; left = subst (λ l. OthersLeave l name) (sym same) left }
 batch_apart (batch ∷ batches) w name same left =
     let next : World = record { nodes = w.nodes; moment = w.moment; others = batches; children = w.children; inputs = w.inputs } in

@@ -5,7 +5,9 @@ use Rattle.pm_host.specs.declared.calls.Logged.{Logged}
 use Rattle.pm_journal.specs.Appending.{append_step, StepAsks, AppendAsks, append_heard}
 use Rattle.pm_journal.specs.Reading.{ReadState, ReadLooking, ReadOn, ReadEnded, ReadAsks, ReadDone, read_heard}
 use Rattle.pm_journal.specs.Entries.{FileGroup, Protocol, Honest, joined}
-use Rattle.pm_journal.proofs.OneRun.{first_or, rest_of, Same, IsDone, one_run, same_none}
+use Rattle.pm_journal.proofs.OneRun.{rest_of, Same, IsDone, one_run, same_none, same_call}
+use Rattle.pm_journal.proofs.PlaceGrouping.{same_place}
+use Rattle.pm_journal.proofs.RunGrouping.{same_run}
 use Rattle.pm_journal.specs.Laws.{OneGrouping, OneAccount, AreTold}
 use Rattle.pm_journal.specs.declared.appending.AppendState.{AppendState}
 use Rattle.pm_journal.specs.declared.appending.AppendState.TheVariants.{Looking}
@@ -17,7 +19,7 @@ use Rattle.pm_journal.specs.declared.locking.LockState.TheVariants.{Trying}
 use Rattle.pm_journal.specs.declared.locking.LockEnd.{LockEnd}
 use Rattle.pm_journal.specs.declared.locking.LockStep.TheVariants.{Finish as LockFinish}
 use Rattle.pm_journal.specs.declared.acts.Act.{Act}
-use Rattle.pm_journal.specs.declared.acts.Act.TheVariants.{Append as AppendTo, ReadFile, Probe, Lock, Unlock, SayFile, SayErr, WriteOut, Moment}
+use Rattle.pm_journal.specs.declared.acts.Act.TheVariants.{Append as AppendTo, ReadFile, Probe, Place, Lock, Unlock, Run, SayFile, SayErr, WriteOut, Moment}
 use Rattle.pm_journal.specs.declared.acts.Reply.{Reply}
 use Rattle.pm_journal.specs.declared.acts.Entry.{Entry}
 
@@ -40,12 +42,6 @@ same_file name piece sync reply g h r q x y e =
     one_run (AppendAsks name piece sync) append_heard Looking x.group.last y.group.last g h r q x.group.walk y.group.walk
     (append_done name piece sync x.group.last x.end x.group.ends) (append_done name piece sync y.group.last y.end y.group.ends) e
 
--- groups of one call
-same_call : (c d : Logged) (g h r q : List Logged) → g ≡ c ∷ [] → h ≡ d ∷ [] → g ++ r ≡ h ++ q → Same g h r q
-same_call c d g h r q x y e =
-    let both : c ∷ r ≡ d ∷ q = ap (λ l. l ++ r) (sym x) ∙ e ∙ ap (λ l. l ++ q) y in
-    record { group = x ∙ ap (λ k. k ∷ []) (ap (first_or c) both) ∙ sym y; rest = ap rest_of both }
-
 same_group : (act : Act) (reply : Reply) (g h r q : List Logged) → Protocol act reply g → Protocol act reply h → g ++ r ≡ h ++ q → Same g h r q
 same_group (ReadFile name) reply g h r q x y e =
     one_run (ReadAsks name) read_heard ReadLooking x.at y.at g h r q x.prefix y.prefix (read_done name x.at reply x.done) (read_done name y.at reply y.done) e
@@ -55,6 +51,8 @@ same_group (Lock name sleep limit suspend tries) reply g h r q x y e =
     one_run (LockAsks name) (lock_heard (lock_rule sleep limit suspend tries)) (Trying no_tally) x.group.last y.group.last g h r q x.group.walk y.group.walk
     (lock_done name x.group.last x.end x.group.ends) (lock_done name y.group.last y.end y.group.ends) e
 same_group (Unlock name) reply g h r q x y e = same_call _ _ g h r q x.call y.call e
+same_group (Place kind folder prefix piece stamp) reply g h r q x y e = same_place kind folder prefix piece stamp reply g h r q x y e
+same_group (Run command input want) reply g h r q x y e = same_run command input want reply g h r q x y e
 same_group (SayFile name text) reply g h r q x y e = same_file name text false reply g h r q x y e
 same_group (SayErr text) reply g h r q x y e = same_none g h r q x.none y.none e
 same_group (WriteOut piece) reply g h r q x y e = same_none g h r q x.none y.none e

@@ -38,6 +38,12 @@ one_run asks heard s t u (c ∷ cs) (d ∷ ds) r q x y x_done y_done e =
 pub same_none : (g h r q : List Logged) → g ≡ [] → h ≡ [] → g ++ r ≡ h ++ q → Same g h r q
 same_none g h r q x y e = record { group = x ∙ sym y; rest = ap (λ l. l ++ r) (sym x) ∙ e ∙ ap (λ l. l ++ q) y }
 
+-- groups of one call
+pub same_call : (c d : Logged) (g h r q : List Logged) → g ≡ c ∷ [] → h ≡ d ∷ [] → g ++ r ≡ h ++ q → Same g h r q
+same_call c d g h r q x y e =
+    let both : c ∷ r ≡ d ∷ q = ap (λ l. l ++ r) (sym x) ∙ e ∙ ap (λ l. l ++ q) y in
+    record { group = x ∙ ap (λ k. k ∷ []) (ap (first_or c) both) ∙ sym y; rest = ap rest_of both }
+
 -- over the same calls a machine comes to the same state
 pub one_end : {S : Type 0} (asks : S → Call → Type 0) (heard : S → Answer → S) (s t u : S) (calls : List Logged) → Transitions asks heard s calls t → Transitions asks heard s calls u → t ≡ u
 one_end asks heard s t u [] x y = x ∙ sym y

@@ -13,7 +13,7 @@ use Rattle.pm_host.specs.declared.calls.Answer.{Answer}
 use Rattle.pm_host.specs.declared.calls.Answer.TheVariants.{Create as AnswerCreate, Append as AnswerAppend, Sync as AnswerSync, Rename as AnswerRename, Remove as AnswerRemove, MakeFolder as AnswerMakeFolder, Names as AnswerNames, Failed as AnswerFailed}
 use Rattle.pm_host.specs.declared.calls.Logged.{Logged}
 use Rattle.pm_journal.specs.Entries.{IsFaulty}
-use Rattle.pm_journal.specs.Filed.{IsPlaceReply}
+use Rattle.pm_journal.specs.Replies.{IsPlaceReply}
 use Rattle.pm_journal.specs.Naming.{maildir_folders}
 use Rattle.pm_journal.specs.Placing.{FileState, Creating, Writing, Moving, Clearing, Removing, Ended, WriteAsks, FileAsks, MoveAsks, heard_create, heard_write, heard_move, heard_remove, stored, file_heard, FileWalks, TryGroup, try_reply, Tries, AfterMaking, MakesFolders, AfterNames, PlaceGroup}
 use Rattle.pm_journal.specs.declared.placing.FolderKind.{FolderKind}

@@ -56,7 +56,7 @@ making_child (AnswerMakeFolder Exists) all later k more h go = go h
 making_child (AnswerMakeFolder MadeFailed) all later k more h go = ap (λ l. child_after l k) h.1
 making_child other all later k more h go = absurd h
 
-makes_child : (folders : List (List ℕ)) (all : Bool) (calls : List Logged) (k : Child) → MakesFolders folders all calls → child_after calls k ≡ k
+pub makes_child : (folders : List (List ℕ)) (all : Bool) (calls : List Logged) (k : Child) → MakesFolders folders all calls → child_after calls k ≡ k
 makes_child [] all calls k m = ap (λ l. child_after l k) m.1
 makes_child (n ∷ ns) all [] k m = absurd m
 makes_child (n ∷ ns) all (c ∷ cs) k m =

@@ -25,7 +25,7 @@ use Rattle.pm_journal.proofs.PlaceEffect.{right_split, with_folders-append, trie
 only_none : (folders : List (List ℕ)) (w : World) → OnlyFolders folders w w
 only_none folders w = record { each = λ q. inl refl }
 
-both_made : (folders : List (List ℕ)) (name : List ℕ) (x y z : Option Node) → SameOrMade folders name x y → SameOrMade folders name y z → SameOrMade folders name x z
+pub both_made : (folders : List (List ℕ)) (name : List ℕ) (x y z : Option Node) → SameOrMade folders name x y → SameOrMade folders name y z → SameOrMade folders name x z
 both_made folders name x y z (inl e) (inl f) = inl (f ∙ e)
 both_made folders name x y z (inl e) (inr f) = inr (f.0, sym e ∙ f.1, f.2)
 both_made folders name x y z (inr e) (inl f) = inr (e.0, e.1, f ∙ e.2)
@@ -73,7 +73,7 @@ made_only n ns call (AnswerMakeFolder MadeFailed) all later more w is h right re
     (subst (λ l. OnlyFolders (n ∷ ns) w (with_folders l w)) (sym h.1) (only_none (n ∷ ns) w))
 made_only n ns call other all later more w is h right rest = absurd h
 
-makes_only : (folders : List (List ℕ)) (all : Bool) (calls : List Logged) (w : World) → MakesFolders folders all calls → AllRight calls w → OnlyFolders folders w (with_folders calls w)
+pub makes_only : (folders : List (List ℕ)) (all : Bool) (calls : List Logged) (w : World) → MakesFolders folders all calls → AllRight calls w → OnlyFolders folders w (with_folders calls w)
 makes_only [] all calls w m right = subst (λ cs. OnlyFolders [] w (with_folders cs w)) (sym m.1) (only_none [] w)
 makes_only (n ∷ ns) all [] w m right = absurd m
 makes_only (n ∷ ns) all (c ∷ cs) w m right =

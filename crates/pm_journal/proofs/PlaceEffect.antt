@@ -85,7 +85,7 @@ after_making (AnswerMakeFolder Exists) all later h more none = more h
 after_making (AnswerMakeFolder MadeFailed) all later h more none = none h.1
 after_making other all later h more none = absurd h
 
-makes_effect : (folders : List (List ℕ)) (all : Bool) (calls : List Logged) (w : World) → MakesFolders folders all calls → after_calls calls w ≡ with_folders calls w
+pub makes_effect : (folders : List (List ℕ)) (all : Bool) (calls : List Logged) (w : World) → MakesFolders folders all calls → after_calls calls w ≡ with_folders calls w
 makes_effect [] all calls w m = subst (λ cs. after_calls cs w ≡ with_folders cs w) (sym m.1) refl
 makes_effect (n ∷ ns) all [] w m = absurd m
 makes_effect (n ∷ ns) all (c ∷ cs) w m =

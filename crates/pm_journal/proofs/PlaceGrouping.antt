@@ -38,16 +38,16 @@ not_both c piece end g first rest r q x settled y same =
     let s = same_try c piece end Taken g first r (rest ++ q) x y (same ∙ append_assoc first rest q) in
     subst IsSettled (same_end c piece end Taken g first x y s.group) settled
 
-in_rows : (first other rest more r q : List Logged) → Same first other (rest ++ r) (more ++ q) → Same rest more r q → Same (first ++ rest) (other ++ more) r q
+pub in_rows : (first other rest more r q : List Logged) → Same first other (rest ++ r) (more ++ q) → Same rest more r q → Same (first ++ rest) (other ++ more) r q
 in_rows first other rest more r q s t = record { group = ap (λ l. l ++ rest) s.group ∙ ap (λ l. other ++ l) t.group; rest = t.rest }
 
 -- calls that are so put together
-same_as : (g h a b r q : List Logged) → g ≡ a → h ≡ b → (a ++ r ≡ b ++ q → Same a b r q) → g ++ r ≡ h ++ q → Same g h r q
+pub same_as : (g h a b r q : List Logged) → g ≡ a → h ≡ b → (a ++ r ≡ b ++ q → Same a b r q) → g ++ r ≡ h ++ q → Same g h r q
 same_as g h a b r q e f go same =
     let s = go (ap (λ l. l ++ r) (sym e) ∙ same ∙ ap (λ l. l ++ q) f) in
     record { group = e ∙ s.group ∙ sym f; rest = s.rest }
 
-parts_of : (a b c d r q : List Logged) → (a ++ b) ++ r ≡ (c ++ d) ++ q → a ++ (b ++ r) ≡ c ++ (d ++ q)
+pub parts_of : (a b c d r q : List Logged) → (a ++ b) ++ r ≡ (c ++ d) ++ q → a ++ (b ++ r) ≡ c ++ (d ++ q)
 parts_of a b c d r q same = sym (append_assoc a b r) ∙ same ∙ append_assoc c d q
 
 same_tries : (all : List Candidate) (piece : List ℕ) (reply : Reply) (g h r q : List Logged) → Tries all piece reply g → Tries all piece reply h → g ++ r ≡ h ++ q → Same g h r q

@@ -1,9 +1,8 @@
 -- What two spans of a run make, one after the other.
-use Rattle.std.proofs.Common.{◌≡◌, List, ◌++◌, ap, ◌∙◌}
+use Rattle.std.proofs.Common.{◌≡◌, ◌++◌, ap, ◌∙◌}
 use Rattle.pm_host.proofs.RunsJoin.{tells_then}
-use Rattle.pm_journal.specs.Entries.{View, Accounts, after_entries}
+use Rattle.pm_journal.specs.Entries.{after_entries}
 use Rattle.pm_journal.specs.Laws.{AccountsJoin, EntriesMakeTree, FilesGrow, SpansGrow, TreesFollow}
-use Rattle.pm_journal.specs.declared.acts.Entry.{Entry}
 
 pub spans_grow : AccountsJoin → FilesGrow → SpansGrow
 spans_grow join grow first second a b c h k = grow (first ++ second) a c (join first second a b c h k)

@@ -1,5 +1,5 @@
 -- An append that is done was brought to the store by its last call.
-use Rattle.std.proofs.Common.{◌≡◌, ◌⊎◌, ℕ, Bool, true, false, cond, List, [], ◌∷◌, ◌++◌, length, nat_eq, refl, sym, ap, ◌∙◌, subst, inl, inr}
+use Rattle.std.proofs.Common.{◌≡◌, ◌⊎◌, ℕ, Bool, true, false, cond, List, [], ◌∷◌, length, nat_eq, refl, sym, ap, ◌∙◌, subst, inl, inr}
 use Rattle.pm_host.specs.World.{IsAnswerTo}
 use Rattle.pm_host.specs.Runs.{logged, Transitions}
 use Rattle.pm_host.specs.declared.answers.Looked.TheVariants.{File as LookedFile, Folder as LookedFolder, Nothing, Failed as LookFailed}
@@ -14,9 +14,7 @@ use Rattle.pm_host.specs.declared.calls.Answer.{Answer}
 use Rattle.pm_host.specs.declared.calls.Answer.TheVariants.{Look as AnswerLook, Create as AnswerCreate, Append as AnswerAppend, Sync as AnswerSync, Cut as AnswerCut, Remove as AnswerRemove}
 use Rattle.pm_host.specs.declared.calls.Logged.{Logged}
 use Rattle.pm_journal.specs.Appending.{taken_step, append_step, StepAsks, AppendAsks, heard_look, heard_create, heard_append, heard_cut, heard_remove, to_undo, append_heard, append_reply}
-use Rattle.pm_journal.specs.Entries.{FileGroup}
 use Rattle.pm_journal.specs.Laws.{EndsSynced, DoneIsSynced}
-use Rattle.pm_journal.specs.declared.acts.Reply.{Reply}
 use Rattle.pm_journal.specs.declared.acts.Reply.TheVariants.{Done}
 use Rattle.pm_journal.specs.declared.appending.AppendEnd.{AppendEnd}
 use Rattle.pm_journal.specs.declared.appending.AppendEnd.TheVariants.{Done as EndDone, Undone as EndUndone, Torn as EndTorn, IsFolder as EndFolder, Raced as EndRaced}

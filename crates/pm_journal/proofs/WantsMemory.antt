@@ -1,6 +1,7 @@
 -- Want of memory in the middle of a plan.
-use Rattle.std.proofs.Common.{◌≡◌, ◌⊎◌, List, [], ◌∷◌, ◌++◌, subst, inl, inr, Result, Ok, Err, OnErr, refl, sym, ap, ◌∙◌, append_assoc, append-nil}
+use Rattle.std.proofs.Common.{◌≡◌, ◌⊎◌, ℕ, List, [], ◌∷◌, ◌++◌, subst, inl, inr, Result, Ok, Err, OnErr, refl, sym, ap, ◌∙◌, append_assoc, append-nil}
 use Rattle.pm_journal.specs.Plan.{Plan, Ends, Asks, and_then, Plays, Wants}
+use Rattle.pm_journal.specs.Placing.{LeftPlace}
 use Rattle.pm_journal.specs.Reading.{ReadLooking}
 use Rattle.pm_journal.specs.Entries.{View}
 use Rattle.pm_journal.specs.JournalState.{JournalState}
@@ -10,9 +11,11 @@ use Rattle.pm_journal.proofs.PlanJoin.{plays_then, wants_then}
 use Rattle.pm_journal.proofs.AccountsJoin.{accounts_join, accounts_none}
 use Rattle.pm_host.specs.declared.calls.Logged.{Logged}
 use Rattle.pm_journal.specs.declared.acts.Act.{Act}
-use Rattle.pm_journal.specs.declared.acts.Act.TheVariants.{ReadFile}
+use Rattle.pm_journal.specs.declared.acts.Act.TheVariants.{ReadFile, Place, Run}
 use Rattle.pm_journal.specs.declared.acts.Entry.{Entry}
 use Rattle.pm_journal.specs.declared.acts.Reply.{Reply}
+use Rattle.pm_journal.specs.declared.placing.FolderKind.{FolderKind}
+use Rattle.pm_journal.specs.declared.placing.FolderKind.TheVariants.{Maildir, Mh, Plain}
 
 pub on_err : {T E : Type 0} (r : Result T E) (P : Type 0) → P → OnErr r P
 on_err (Ok x) P p = tt
@@ -49,8 +52,15 @@ out_then p f r x y z a b c h k = record {
   took = k.took;
 }
 
+place_none : (kind : FolderKind) (folder : List ℕ) → LeftPlace kind folder []
+place_none Mh folder = inl refl
+place_none Maildir folder = refl
+place_none Plain folder = refl
+
 leaves_none : (act : Act) → UnfinishedCalls act []
 leaves_none (ReadFile name) = (ReadLooking, refl)
+leaves_none (Place kind folder prefix piece stamp) = place_none kind folder
+leaves_none (Run command input want) = inl refl
 leaves_none other = refl
 
 pub wants_front : {R S : Type 0} (p : Plan R) (f : R → Plan S) (es : List Entry) (act : Act) → Wants p es act → Wants (and_then p f) es act

@@ -19,10 +19,11 @@ RanRight input (Broken took) calls = (took ≤ length input) × (fed_bytes calls
 RanRight input (TooLong count) calls = (length (taken_bytes calls) ≡ count) × (67108864 < count) × IsFront (fed_bytes calls) input
 RanRight input other calls = fed_bytes calls ≡ []
 
--- a child that was started changes the files by the others' next batch alone
+-- a child that was started changes the files by the others' next batch alone, and others do no more than that
 abbrev pub ChangesAsOthers : Reply → World → World → Type 0
 ChangesAsOthers NotStarted old new = new ≡ old
-ChangesAsOthers other old new = (new.nodes ≡ (after_others old).nodes) × (new.moment ≡ (after_others old).moment)
+ChangesAsOthers other old new =
+    (new.nodes ≡ (after_others old).nodes) × (new.moment ≡ (after_others old).moment) × (new.others ≡ (after_others old).others)
 
 -- a child took the first bytes of its input, as many as are stated, and its output is what came
 abbrev pub ChildrenRunRight : Type 0

@@ -1,6 +1,6 @@
 -- Which calls run a child.
 use Rattle.std.specs.Prelude.{◌≡◌, ◌≤◌, ◌<◌, ℕ, ◌+◌, min, Bool, true, false, List, [], ◌∷◌, ◌++◌, length, take, drop}
-use Rattle.pm_host.specs.World.{World, Nodes, after_others}
+use Rattle.pm_host.specs.World.{World, after_others}
 use Rattle.pm_host.specs.Runs.{logged, Transitions}
 use Rattle.pm_host.specs.declared.answers.Started.TheVariants.{Started as StartedOk, Failed as StartFailed}
 use Rattle.pm_host.specs.declared.answers.Fed.TheVariants.{Took as FedSome, Closed as FedClosed}

@@ -1,15 +1,17 @@
 -- A plan, carried out and noted, to its end or to a want of memory.
-use Rattle.std.specs.Prelude.{◌≡◌, ℕ, List, [], ◌++◌, ◌⊎◌, Result, IfOk, OnErr}
+use Rattle.std.specs.Prelude.{◌≡◌, ℕ, true, List, [], ◌++◌, ◌⊎◌, Result, IfOk, OnErr}
 use Rattle.pm_bytes.specs.declared.error.Memory.{Memory}
 use Rattle.pm_host.specs.Runs.{Ran}
 use Rattle.pm_host.specs.declared.calls.Logged.{Logged}
 use Rattle.pm_journal.specs.JournalState.{JournalState}
 use Rattle.pm_journal.specs.Entries.{View, Accounts}
 use Rattle.pm_journal.specs.Held.{AreUnlocks}
+use Rattle.pm_journal.specs.Children.{LeftRun}
+use Rattle.pm_journal.specs.Placing.{LeftPlace}
 use Rattle.pm_journal.specs.Plan.{Plan, Plays, Wants}
 use Rattle.pm_journal.specs.Reading.{ReadState, ReadPrefix}
 use Rattle.pm_journal.specs.declared.acts.Act.{Act}
-use Rattle.pm_journal.specs.declared.acts.Act.TheVariants.{ReadFile}
+use Rattle.pm_journal.specs.declared.acts.Act.TheVariants.{ReadFile, Place, Run}
 use Rattle.pm_journal.specs.declared.acts.Entry.{Entry}
 
 -- the plan was carried out to this end, and noted
@@ -22,6 +24,8 @@ pub record Executes {R : Type 0} (plan : Plan R) (end : R) (old new : JournalSta
 -- the calls of an act that was left off for want of memory
 abbrev pub UnfinishedCalls : Act → List Logged → Type 0
 UnfinishedCalls (ReadFile name) calls = (at : ReadState) × ReadPrefix name at calls
+UnfinishedCalls (Place kind folder prefix piece stamp) calls = LeftPlace kind folder calls
+UnfinishedCalls (Run command input want) calls = (calls ≡ []) ⊎ ((want ≡ true) × LeftRun command input calls)
 UnfinishedCalls act calls = calls ≡ []
 
 -- an act was left off

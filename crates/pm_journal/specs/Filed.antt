@@ -1,4 +1,4 @@
--- What a delivery to a folder leaves, and which replies it can have.
+-- What a delivery to a folder leaves.
 use Rattle.std.specs.Prelude.{◌≡◌, ◌≤◌, ◌⊎◌, ℕ, false, List, [], ◌∷◌, ◌++◌, length, take, Option, Some, None, bytes_eq}
 use Rattle.pm_host.specs.World.{World}
 use Rattle.pm_host.specs.Runs.{logged}
@@ -13,15 +13,7 @@ use Rattle.pm_journal.specs.Naming.{maildir_folders}
 use Rattle.pm_journal.specs.declared.placing.FolderKind.{FolderKind}
 use Rattle.pm_journal.specs.declared.placing.FolderKind.TheVariants.{Maildir, Mh, Plain}
 use Rattle.pm_journal.specs.declared.acts.Reply.{Reply}
-use Rattle.pm_journal.specs.declared.acts.Reply.TheVariants.{Placed, TornAt, NamesOut, Undone}
-
--- a reply of a delivery to a folder
-abbrev pub IsPlaceReply : Reply → Type 0
-IsPlaceReply (Placed name) = Unit {0}
-IsPlaceReply Undone = Unit {0}
-IsPlaceReply (TornAt name taken) = Unit {0}
-IsPlaceReply NamesOut = Unit {0}
-IsPlaceReply other = ⊥
+use Rattle.pm_journal.specs.declared.acts.Reply.TheVariants.{Placed, TornAt}
 
 -- the folders that a delivery makes where nothing stands
 abbrev pub folders_of : FolderKind → List ℕ → List (List ℕ)

@@ -6,7 +6,8 @@ use Rattle.pm_host.specs.declared.answers.Child.{Child}
 use Rattle.pm_host.specs.declared.calls.Logged.{Logged}
 use Rattle.pm_journal.specs.Entries.{IsFaulty}
 use Rattle.pm_journal.specs.Placing.{PlaceGroup, after_place}
-use Rattle.pm_journal.specs.Filed.{IsPlaceReply, folders_of, PlacesRight, IsStored}
+use Rattle.pm_journal.specs.Filed.{folders_of, PlacesRight, IsStored}
+use Rattle.pm_journal.specs.Replies.{IsPlaceReply}
 use Rattle.pm_journal.specs.declared.placing.FolderKind.{FolderKind}
 use Rattle.pm_journal.specs.declared.placing.Stamp.{Stamp}
 use Rattle.pm_journal.specs.declared.acts.Reply.{Reply}

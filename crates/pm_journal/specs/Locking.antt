@@ -1,5 +1,5 @@
 -- Which calls take a lock.
-use Rattle.std.specs.Prelude.{◌≡◌, ℕ, ◌+◌, ◌-◌, ◌*◌, ◌&&◌, Bool, true, false, cond, List, [], ◌∷◌, nat_eq, nat_le, nat_lt, Some, None}
+use Rattle.std.specs.Prelude.{◌≡◌, ℕ, ◌+◌, ◌-◌, ◌*◌, ◌&&◌, Bool, true, false, cond, List, [], ◌∷◌, nat_eq, nat_le, nat_lt, Some}
 use Rattle.pm_host.specs.Told.{HostView}
 use Rattle.pm_host.specs.World.{World, after_call, world_with}
 use Rattle.pm_host.specs.Runs.{Ran, Transitions}

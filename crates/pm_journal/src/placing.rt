@@ -38,3 +38,16 @@ pub enum FileEnd {
     /// A call failed: the first so many bytes of the piece are left at the name at which the file was made.
     Torn(u64),
 }
+
+/// How the filing of a piece in a folder ended. The name of its file stands in the entry.
+#[derive(Clone, Copy, Debug, PartialEq, Eq)]
+pub enum FolderEnd {
+    /// One new file holds the piece.
+    Placed,
+    /// A call failed, and no file was added.
+    Undone,
+    /// A call failed: a file holds the first so many bytes of the piece.
+    Torn(u64),
+    /// All names were taken.
+    NamesOut,
+}

@@ -1,0 +1,46 @@
+-- What a reply says of a program that was run or of a piece that was filed, without the bytes that it carries.
+use Rattle.std.specs.Prelude.{ℕ, List, [], ◌∷◌, Option, Some, None}
+use Rattle.pm_journal.specs.declared.acts.Reply.{Reply}
+use Rattle.pm_journal.specs.declared.acts.Reply.TheVariants.{Ended, NotStarted, TooLong, Placed, TornAt, NamesOut}
+use Rattle.pm_journal.specs.declared.acts.Entry.{Entry}
+use Rattle.pm_journal.specs.declared.children.RunEnd.{RunEnd}
+use Rattle.pm_journal.specs.declared.children.RunEnd.TheVariants.{Ended as RunEnded, NotStarted as RunNotStarted, Broken as RunBroken, TooLong as RunTooLong}
+use Rattle.pm_journal.specs.declared.placing.FolderEnd.{FolderEnd}
+use Rattle.pm_journal.specs.declared.placing.FolderEnd.TheVariants.{Placed as FolderPlaced, Undone as FolderUndone, Torn as FolderTorn, NamesOut as FolderNamesOut}
+
+-- how the run of a program ended
+abbrev pub run_end : Reply → RunEnd
+run_end (Ended code took output) = RunEnded code took
+run_end NotStarted = RunNotStarted
+run_end (TooLong count) = RunTooLong
+run_end other = RunBroken
+
+-- the output of a program that ended
+abbrev pub output_in : Reply → Option (List ℕ)
+output_in (Ended code took output) = Some output
+output_in other = None
+
+-- how the filing of a piece in a folder ended
+abbrev pub folder_end : Reply → FolderEnd
+folder_end (Placed name) = FolderPlaced
+folder_end (TornAt name taken) = FolderTorn taken
+folder_end NamesOut = FolderNamesOut
+folder_end other = FolderUndone
+
+-- the name of the file that was placed, or in which the front of a piece is left
+abbrev pub file_in : Reply → Option (List ℕ)
+file_in (Placed name) = Some name
+file_in (TornAt name taken) = Some name
+file_in other = None
+
+-- the output of the program whose run is the last entry
+abbrev pub last_output : List Entry → Option (List ℕ)
+last_output [] = None
+last_output (e ∷ []) = output_in e.reply
+last_output (e ∷ (f ∷ fs)) = last_output (f ∷ fs)
+
+-- the file of the delivery to a folder that is the last entry
+abbrev pub last_file : List Entry → Option (List ℕ)
+last_file [] = None
+last_file (e ∷ []) = file_in e.reply
+last_file (e ∷ (f ∷ fs)) = last_file (f ∷ fs)
