@@ -1,5 +1,21 @@
 -- Acts as entries.
-use Rattle.std.proofs.Common.{◌≡◌, true, false, ℕ, ℤ, ◌+◌, List, [], ◌∷◌, ◌++◌, refl, sym, subst, append-nil}
+use Rattle.std.proofs.Common.{◌≡◌, Bool, true, false, ℕ, ℤ, ◌+◌, List, [], ◌∷◌, ◌++◌, Option, Some, None, Ok, Err, refl, sym, subst, inr, ◌∙◌, append-nil}
+use Rattle.pm_bytes.specs.declared.error.Memory.{Memory}
+use Rattle.pm_host.specs.Runs.{Ran}
+use Rattle.pm_host.specs.declared.command.Command.{Command}
+use Rattle.pm_host.specs.declared.calls.Logged.{Logged}
+use Rattle.pm_folders.specs.Filing.{place_reply, EndsPlace, PlacesIn}
+use Rattle.pm_folders.specs.declared.tries.PlaceEnd.{PlaceEnd}
+use Rattle.pm_pipe.specs.Runs.{child_reply, EndsRun, RunsTo}
+use Rattle.pm_pipe.specs.declared.child.ChildEnd.{ChildEnd}
+use Rattle.pm_journal.specs.Children.{RunGroup}
+use Rattle.pm_journal.specs.Executed.{UnfinishedCalls}
+use Rattle.pm_journal.specs.Placing.{PlaceGroup, LeftPlace}
+use Rattle.pm_journal.specs.declared.placing.FolderKind.{FolderKind}
+use Rattle.pm_journal.specs.declared.placing.Stamp.{Stamp}
+use Rattle.pm_journal.proofs.ChildFacts.{run_cause}
+use Rattle.pm_journal.proofs.PlaceCause.{place_cause}
+use Rattle.pm_acts.specs.Acts.{AreReply, LeavesAct}
 use Rattle.pm_host.specs.Told.{HostView, Tells, Adds, Makes}
 use Rattle.pm_host.specs.Streams.{StreamView}
 use Rattle.pm_host.specs.declared.answers.Looked.{Looked}
@@ -8,12 +24,12 @@ use Rattle.pm_host.specs.declared.calls.Call.TheVariants.{Look, Remove, Now}
 use Rattle.pm_host.specs.declared.calls.Answer.TheVariants.{Look as AnswerLook, Remove as AnswerRemove, Now as AnswerNow}
 use Rattle.pm_host.proofs.RunsJoin.{tells_at, ran_none}
 use Rattle.pm_journal.specs.Appending.{Appends, append_reply}
-use Rattle.pm_journal.specs.Entries.{View, seen_by, counts_of, said_by, unlock_reply, Accounts}
+use Rattle.pm_journal.specs.Entries.{View, seen_by, counts_of, said_by, written_by, unlock_reply, Accounts}
 use Rattle.pm_journal.specs.JournalState.{JournalState}
 use Rattle.pm_journal.specs.Noted.{NotesAct}
 use Rattle.pm_journal.specs.Replies.{IsWriteReply}
 use Rattle.pm_journal.specs.declared.acts.Act.{Act}
-use Rattle.pm_journal.specs.declared.acts.Act.TheVariants.{ReadFile, Probe, Append, Unlock, SayFile, SayErr, Moment}
+use Rattle.pm_journal.specs.declared.acts.Act.TheVariants.{ReadFile, Probe, Append, Place, Unlock, Run, SayFile, SayErr, WriteOut, Moment}
 use Rattle.pm_journal.specs.declared.acts.Entry.{Entry}
 use Rattle.pm_journal.specs.declared.acts.Reply.{Reply}
 use Rattle.pm_journal.specs.declared.acts.Reply.TheVariants.{Found, Now as ReplyNow}
@@ -98,3 +114,102 @@ pub lock_notes : (refs name : List ℕ) (rule : LockRule) (end : LockEnd) (x y :
     → NotesAct (lock_act name rule) (lock_reply end) x y (seen_by refs a out err) (seen_by refs b out err)
 lock_notes refs name rule end x y a b out err h e r =
     noted (lock_act name rule) (lock_reply end) x y (seen_by refs a out err) (seen_by refs b out err) (lock_accounts refs rule name end a b out err h) e r
+
+-- the sink takes of a piece what it takes of a text
+written_is : (piece : List ℕ) (end : WriteEnd) → said_by (SayErr piece) (say_reply end) ≡ written_by (WriteOut piece) (say_reply end)
+written_is piece Wrote = refl
+written_is piece (Short n) = refl
+
+pub write_out_notes : (refs piece : List ℕ) (end : WriteEnd) (x y : JournalState) (host : HostView) (a b err : StreamView) → WritesText piece end a b
+    → y.entries ≡ x.entries ++ entry_of (WriteOut piece) (say_reply end) (seen_by refs host a err) (seen_by refs host b err) ∷ [] → y.room + 1 ≡ x.room
+    → NotesAct (WriteOut piece) (say_reply end) x y (seen_by refs host a err) (seen_by refs host b err)
+write_out_notes refs piece end x y host a b err h e r =
+    noted (WriteOut piece) (say_reply end) x y (seen_by refs host a err) (seen_by refs host b err) (record {
+      groups = [] ∷ [];
+      honest = (record { reply_fits = say_reply_is end; short = h.short; none = refl }, tt);
+      ran = ran_none host;
+      said = tells_at (Adds []) (λ l. sym (append-nil l)) err.bytes;
+      written = subst (λ l. Tells (Adds l) a.bytes b.bytes) (written_is piece end ∙ sym (append-nil (written_by (WriteOut piece) (say_reply end)))) h.bytes;
+      framed = (refl, refl);
+      covered = (h.failed, tt);
+      same = refl;
+    }) e r
+
+-- the calls of a filing that ended with a reply
+placed_group : (kind : FolderKind) (folder prefix piece : List ℕ) (stamp : Stamp) (o : Option Reply) (reply : Reply) (calls : List Logged) → EndsPlace kind folder prefix piece stamp o calls → AreReply o (Ok reply)
+    → PlaceGroup kind folder prefix piece stamp reply calls
+placed_group kind folder prefix piece stamp (Some r) reply calls g e = subst (λ k. PlaceGroup kind folder prefix piece stamp k calls) (sym e) g
+placed_group kind folder prefix piece stamp None reply calls g e = absurd e
+
+-- the calls of a filing that was left off
+left_group : (kind : FolderKind) (folder prefix piece : List ℕ) (stamp : Stamp) (o : Option Reply) (f : Memory) (calls : List Logged) → EndsPlace kind folder prefix piece stamp o calls → AreReply o (Err f) → LeftPlace kind folder calls
+left_group kind folder prefix piece stamp (Some r) f calls g e = absurd e
+left_group kind folder prefix piece stamp None f calls g e = g
+
+pub place_notes : (refs : List ℕ) (kind : FolderKind) (folder prefix piece : List ℕ) (stamp : Stamp) (end : PlaceEnd) (reply : Reply) (x y : JournalState) (a b : HostView) (out err : StreamView)
+    → PlacesIn kind folder prefix piece stamp end a b → AreReply (place_reply end) (Ok reply)
+    → y.entries ≡ x.entries ++ entry_of (Place kind folder prefix piece stamp) reply (seen_by refs a out err) (seen_by refs b out err) ∷ [] → y.room + 1 ≡ x.room
+    → NotesAct (Place kind folder prefix piece stamp) reply x y (seen_by refs a out err) (seen_by refs b out err)
+place_notes refs kind folder prefix piece stamp end reply x y a b out err h is e r =
+    let group = placed_group kind folder prefix piece stamp (place_reply end) reply h.calls h.group is in
+    noted (Place kind folder prefix piece stamp) reply x y (seen_by refs a out err) (seen_by refs b out err) (record {
+      groups = h.calls ∷ [];
+      honest = (group, tt);
+      ran = subst (λ l. Ran l a b) (sym (append-nil h.calls)) h.ran;
+      said = tells_at (Adds []) (λ l. sym (append-nil l)) err.bytes;
+      written = tells_at (Adds []) (λ l. sym (append-nil l)) out.bytes;
+      framed = (refl, refl);
+      covered = ((λ f. h.ran.failed (place_cause kind folder prefix piece stamp reply h.calls group f)), tt);
+      same = refl;
+    }) e r
+
+pub place_left : (refs : List ℕ) (kind : FolderKind) (folder prefix piece : List ℕ) (stamp : Stamp) (end : PlaceEnd) (f : Memory) (a b : HostView) (out err : StreamView) → PlacesIn kind folder prefix piece stamp end a b
+    → AreReply (place_reply end) (Err f) → LeavesAct (Place kind folder prefix piece stamp) (seen_by refs a out err) (seen_by refs b out err)
+place_left refs kind folder prefix piece stamp end f a b out err h is = record {
+  calls = h.calls;
+  unfinished = left_group kind folder prefix piece stamp (place_reply end) f h.calls h.group is;
+  took = record { ran = h.ran; out_same = refl; err_same = refl; same = refl };
+}
+
+-- the calls of a run that ended with a reply
+ran_group : (command : Command) (input : List ℕ) (want : Bool) (o : Option Reply) (reply : Reply) (calls : List Logged) → EndsRun command input want o calls → AreReply o (Ok reply) → RunGroup command input want reply calls
+ran_group command input want (Some r) reply calls g e = subst (λ k. RunGroup command input want k calls) (sym e) g
+ran_group command input want None reply calls g e = absurd e
+
+-- the calls of a run that was left off
+ran_left : (command : Command) (input : List ℕ) (want : Bool) (o : Option Reply) (f : Memory) (calls : List Logged) → EndsRun command input want o calls → AreReply o (Err f) → UnfinishedCalls (Run command input want) calls
+ran_left command input want (Some r) f calls g e = absurd e
+ran_left command input want None f calls g e = inr g
+
+-- only where output is wanted it is left off
+ran_wanted : (command : Command) (input : List ℕ) (want : Bool) (o : Option Reply) (f : Memory) (calls : List Logged) → EndsRun command input want o calls → AreReply o (Err f) → want ≡ true
+ran_wanted command input want (Some r) f calls g e = absurd e
+ran_wanted command input want None f calls g e = g.0
+
+pub run_notes : (refs : List ℕ) (command : Command) (input : List ℕ) (want : Bool) (end : ChildEnd) (reply : Reply) (x y : JournalState) (a b : HostView) (out err : StreamView)
+    → RunsTo command input want (child_reply end) a b → AreReply (child_reply end) (Ok reply)
+    → y.entries ≡ x.entries ++ entry_of (Run command input want) reply (seen_by refs a out err) (seen_by refs b out err) ∷ [] → y.room + 1 ≡ x.room
+    → NotesAct (Run command input want) reply x y (seen_by refs a out err) (seen_by refs b out err)
+run_notes refs command input want end reply x y a b out err h is e r =
+    let group = ran_group command input want (child_reply end) reply h.calls h.group is in
+    noted (Run command input want) reply x y (seen_by refs a out err) (seen_by refs b out err) (record {
+      groups = h.calls ∷ [];
+      honest = (group, tt);
+      ran = subst (λ l. Ran l a b) (sym (append-nil h.calls)) h.ran;
+      said = tells_at (Adds []) (λ l. sym (append-nil l)) err.bytes;
+      written = tells_at (Adds []) (λ l. sym (append-nil l)) out.bytes;
+      framed = (refl, refl);
+      covered = ((λ f. h.ran.failed (run_cause command input want reply h.calls group f)), tt);
+      same = refl;
+    }) e r
+
+pub run_left : (refs : List ℕ) (command : Command) (input : List ℕ) (want : Bool) (end : ChildEnd) (f : Memory) (a b : HostView) (out err : StreamView) → RunsTo command input want (child_reply end) a b
+    → AreReply (child_reply end) (Err f) → LeavesAct (Run command input want) (seen_by refs a out err) (seen_by refs b out err)
+run_left refs command input want end f a b out err h is = record {
+  calls = h.calls;
+  unfinished = ran_left command input want (child_reply end) f h.calls h.group is;
+  took = record { ran = h.ran; out_same = refl; err_same = refl; same = refl };
+}
+
+pub run_wanted : (command : Command) (input : List ℕ) (want : Bool) (end : ChildEnd) (f : Memory) (a b : HostView) → RunsTo command input want (child_reply end) a b → AreReply (child_reply end) (Err f) → want ≡ true
+run_wanted command input want end f a b h is = ran_wanted command input want (child_reply end) f h.calls h.group is

@@ -1,5 +1,6 @@
 -- Acts whose reply the caller doesn't see whole.
-use Rattle.std.specs.Prelude.{◌≡◌, ℕ, List, ◌∷◌, Option, Some, None}
+use Rattle.std.specs.Prelude.{◌≡◌, ℕ, Bool, List, ◌∷◌, Option, Some, None, Result, Ok, Err}
+use Rattle.pm_bytes.specs.declared.error.Memory.{Memory}
 use Rattle.pm_host.specs.declared.calls.Logged.{Logged}
 use Rattle.pm_journal.specs.JournalState.{JournalState}
 use Rattle.pm_journal.specs.Entries.{View}
@@ -7,11 +8,16 @@ use Rattle.pm_journal.specs.Executed.{Executes, UnfinishedCalls, TakesCalls}
 use Rattle.pm_journal.specs.Noted.{NotesAct}
 use Rattle.pm_journal.specs.Plan.{ask}
 use Rattle.pm_journal.specs.declared.acts.Act.{Act}
-use Rattle.pm_journal.specs.declared.acts.Act.TheVariants.{ReadFile, SayFile, SayErr}
+use Rattle.pm_journal.specs.declared.acts.Act.TheVariants.{ReadFile, Place, Run, SayFile, SayErr}
 use Rattle.pm_journal.specs.declared.acts.Reply.{Reply}
 use Rattle.pm_journal.specs.declared.locking.LockEnd.{LockEnd}
 use Rattle.pm_journal.specs.declared.locking.LockEnd.TheVariants.{Held}
 use Rattle.pm_append.specs.ReadsFile.{content_of}
+use Rattle.pm_host.specs.declared.command.Command.{Command}
+use Rattle.pm_journal.specs.Outcomes.{run_end, output_in, last_output, folder_end, file_in, last_file}
+use Rattle.pm_journal.specs.declared.children.RunEnd.{RunEnd}
+use Rattle.pm_journal.specs.declared.placing.FolderEnd.{FolderEnd}
+use Rattle.pm_acts.specs.declared.outside.Filing.{Filing}
 
 -- a text goes to a file, or to `err`
 abbrev pub say_act : Option (List ℕ) → List ℕ → Act
@@ -40,13 +46,50 @@ pub record ReadsWhole (name : List ℕ) (content : Option (List ℕ)) (old new :
   pub content_is : content ≡ content_of reply
   pub executes : Executes (ask (ReadFile name)) reply old new before after
 
--- the reading of the file was left off after these calls
-pub record LeavesRead (name : List ℕ) (before after : View) : Type 0 where
+-- the act that files a piece in a folder
+abbrev pub place_act : Filing → Act
+place_act f = Place f.kind f.folder f.prefix f.piece f.stamp
+
+-- the piece was filed in the folder, with some reply that has this end, and noted
+pub record NotesPlace (f : Filing) (end : FolderEnd) (old new : JournalState) (before after : View) : Type 0 where
+  pub reply : Reply
+  pub end_is : end ≡ folder_end reply
+  pub notes : NotesAct (place_act f) reply old new before after
+
+-- the same, as a plan that was carried out: the entry of the reply is the journal's last one
+pub record Places (f : Filing) (end : FolderEnd) (old new : JournalState) (before after : View) : Type 0 where
+  pub reply : Reply
+  pub end_is : end ≡ folder_end reply
+  pub file : last_file new.entries ≡ file_in reply
+  pub executes : Executes (ask (place_act f)) reply old new before after
+
+-- the program was run, with some reply that has this end, and noted
+pub record NotesRun (command : Command) (input : List ℕ) (want : Bool) (end : RunEnd) (old new : JournalState) (before after : View) : Type 0 where
+  pub reply : Reply
+  pub end_is : end ≡ run_end reply
+  pub notes : NotesAct (Run command input want) reply old new before after
+
+-- the same, as a plan that was carried out: the entry of the reply is the journal's last one
+pub record Runs (command : Command) (input : List ℕ) (want : Bool) (end : RunEnd) (old new : JournalState) (before after : View) : Type 0 where
+  pub reply : Reply
+  pub end_is : end ≡ run_end reply
+  pub output : last_output new.entries ≡ output_in reply
+  pub executes : Executes (ask (Run command input want)) reply old new before after
+
+-- an act was left off after these calls
+pub record LeavesAct (act : Act) (before after : View) : Type 0 where
   pub calls : List Logged
-  pub unfinished : UnfinishedCalls (ReadFile name) calls
+  pub unfinished : UnfinishedCalls act calls
   pub took : TakesCalls calls before after
 
 -- the held locks behind the taking of a lock
 abbrev pub after_taking : LockEnd → List ℕ → List (List ℕ) → List (List ℕ)
 after_taking (Held sleeps forced) name names = name ∷ names
 after_taking other name names = names
+
+-- the reply, or none where memory was wanting
+abbrev pub AreReply : Option Reply → Result Reply Memory → Type 0
+AreReply (Some reply) (Ok answer) = answer ≡ reply
+AreReply None (Err e) = Unit {0}
+AreReply (Some reply) (Err e) = ⊥
+AreReply None (Ok answer) = ⊥

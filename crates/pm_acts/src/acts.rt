@@ -2,7 +2,8 @@
 //! it is done and noted. After want of memory nothing was noted.
 ghost use Rattle.std.specs.Prelude.{◌≡◌, ◌≤◌, ◌<◌, ◌+◌, true, false, [], length, IfOk, OnErr};
 ghost use Rattle.pm_append.specs.ReadsFile.{FitsFile};
-ghost use Rattle.pm_journal.specs.declared.acts.Act.TheVariants.{ReadFile, Probe, Append, Unlock, SayErr, Moment};
+ghost use Rattle.pm_append.specs.Writing.{say_reply};
+ghost use Rattle.pm_journal.specs.declared.acts.Act.TheVariants.{ReadFile, Probe, Append, Unlock, Run, SayErr, WriteOut, Moment};
 ghost use Rattle.pm_journal.specs.declared.acts.Reply.TheVariants.{Found, Now};
 ghost use Rattle.pm_journal.specs.Appending.{append_reply};
 ghost use Rattle.pm_journal.specs.Entries.{unlock_reply};
@@ -11,13 +12,13 @@ ghost use Rattle.pm_journal.specs.Noted.{NotesAct};
 ghost use Rattle.pm_journal.specs.Executed.{Carries, OutOfMemory, GivesEach};
 ghost use Rattle.pm_journal.specs.Held.{Keeping, holds_name, held_by, without};
 ghost use Rattle.pm_journal.specs.Plan.{ask};
-ghost use Rattle.pm_acts.specs.Acts.{Says, ReadsWhole, after_taking};
+ghost use Rattle.pm_acts.specs.Acts.{Says, ReadsWhole, Places, Runs, place_act, after_taking};
 
-use crate::Outside;
-use pm_append::AppendEnd;
+use crate::{Filing, Outside};
+use pm_append::WriteEnd;
 use pm_bytes::{Blob, Memory, Name};
-use pm_host::{Looked, Removed};
-use pm_journal::{HeldLocks, Journal, LockEnd, LockRule};
+use pm_host::{Command, Looked, Removed};
+use pm_journal::{FolderEnd, HeldLocks, Journal, LockEnd, LockRule, RunEnd};
 use std::alloc::Global;
 
 /// Says a line on `err`.
@@ -92,6 +93,65 @@ pub fn read<D: Outside>(
 {
     journal.reserve(held.len() + 1)?;
     outside.read(alloc, journal, name)
+}
+
+/// Files a piece in a folder. The journal's last entry then has the file's name.
+pub fn place<D: Outside>(
+    alloc: Global,
+    held: &HeldLocks,
+    filing: Filing,
+    outside: &mut D,
+    journal: &mut Journal,
+) -> Result<FolderEnd, Memory>
+    requires keeping { Keeping journal.old held.now.names }
+    ensures ok { IfOk result (λ end. Places filing end
+        journal.old journal.new (D.told outside.old) (D.told outside.new)) }
+    ensures memory { OnErr result (OutOfMemory (ask (place_act filing))
+        journal.old journal.new (D.told outside.old) (D.told outside.new)) }
+    ensures untouched { OnErr result (journal.new.entries ≡ journal.old.entries) }
+    ensures keeping { Keeping journal.new held.now.names }
+{
+    journal.reserve(held.len() + 1)?;
+    outside.place(alloc, journal, filing)
+}
+
+/// Runs a program and waits for it. The journal's last entry then has its output, where that is wanted.
+pub fn run<D: Outside>(
+    alloc: Global,
+    held: &HeldLocks,
+    command: Command,
+    input: Blob,
+    want: bool,
+    outside: &mut D,
+    journal: &mut Journal,
+) -> Result<RunEnd, Memory>
+    requires keeping { Keeping journal.old held.now.names }
+    ensures ok { IfOk result (λ end. Runs command input want end
+        journal.old journal.new (D.told outside.old) (D.told outside.new)) }
+    ensures memory { OnErr result (OutOfMemory (ask (Run command input want))
+        journal.old journal.new (D.told outside.old) (D.told outside.new)) }
+    ensures untouched { OnErr result (journal.new.entries ≡ journal.old.entries) }
+    ensures keeping { Keeping journal.new held.now.names }
+{
+    journal.reserve(held.len() + 1)?;
+    outside.run(alloc, journal, command, input, want)
+}
+
+/// Writes a piece to the run's standard output.
+pub fn write_out<D: Outside>(
+    held: &HeldLocks,
+    piece: Blob,
+    outside: &mut D,
+    journal: &mut Journal,
+) -> Result<WriteEnd, Memory>
+    requires keeping { Keeping journal.old held.now.names }
+    ensures carries { Carries (ask (WriteOut piece)) (λ end. say_reply end) result
+        journal.old journal.new (D.told outside.old) (D.told outside.new) }
+    ensures untouched { OnErr result (journal.new.entries ≡ journal.old.entries) }
+    ensures keeping { Keeping journal.new held.now.names }
+{
+    journal.reserve(held.len() + 1)?;
+    Ok(outside.write_out(journal, piece))
 }
 
 /// Takes a lock that isn't held yet. Its name is given twice: for the entry and for the held locks. It takes no memory.

@@ -6,6 +6,6 @@ pub mod acts;
 pub mod objects;
 pub mod outside;
 
-pub use acts::{ask_moment, give, give_all, probe, read, say, take};
+pub use acts::{ask_moment, give, give_all, place, probe, read, run, say, take, write_out};
 pub use objects::{Objects, lend};
-pub use outside::Outside;
+pub use outside::{Filing, Outside};

@@ -5,13 +5,19 @@ ghost use Rattle.pm_journal.specs.Entries.{counts_of, view_of, unlock_reply};
 ghost use Rattle.pm_journal.specs.Locking.{lock_reply};
 ghost use Rattle.pm_append.specs.ReadsFile.{read_reply, content_of};
 ghost use Rattle.pm_append.specs.Writing.{say_reply};
+ghost use Rattle.pm_journal.specs.Outcomes.{folder_end, run_end};
+ghost use Rattle.pm_folders.specs.Filing.{place_reply};
+ghost use Rattle.pm_pipe.specs.Runs.{child_reply};
+ghost use Rattle.pm_acts.specs.Acts.{AreReply};
 
-use crate::Outside;
+use crate::{Filing, Outside};
 use pm_append::{AppendEnd, ReadEnd, WriteEnd, append_whole, read_file, write_text};
 use pm_bytes::{Blob, Memory, Name};
-use pm_host::{Host, Looked, Removed, Sink};
-use pm_journal::{Act, Counts, Entry, Journal, LockEnd, LockRule, Reply};
+use pm_folders::{PlaceEnd, place};
+use pm_host::{Command, Host, Looked, Removed, Sink};
+use pm_journal::{Act, Counts, Entry, FolderEnd, Journal, LockEnd, LockRule, Reply, RunEnd};
 use pm_locks::take_lock;
+use pm_pipe::{ChildEnd, run_child};
 use std::alloc::Global;
 
 /// A host and the two sinks of a run.
@@ -63,6 +69,86 @@ impl<'a, H: Host, O: Sink, E: Sink> Outside for Objects<'a, H, O, E> {
         journal.note(Entry {
             act: Act::Append { name, piece },
             reply: append_reply_of(end),
+            before,
+            after,
+        });
+        end
+    }
+
+    fn place(
+        &mut self,
+        alloc: Global,
+        journal: &mut Journal,
+        filing: Filing,
+    ) -> Result<FolderEnd, Memory> {
+        let before = self.counts();
+        let Filing {
+            kind,
+            folder,
+            prefix,
+            piece,
+            stamp,
+        } = filing;
+        let end = place(
+            alloc,
+            &mut *self.host,
+            kind,
+            &folder,
+            &prefix,
+            piece.as_slice(),
+            &stamp,
+        );
+        let reply = place_reply_of(end)?;
+        let end = folder_end_of(&reply);
+        let after = self.counts();
+        journal.note(Entry {
+            act: Act::Place {
+                kind,
+                folder,
+                prefix,
+                piece,
+                stamp,
+            },
+            reply,
+            before,
+            after,
+        });
+        Ok(end)
+    }
+
+    fn run(
+        &mut self,
+        alloc: Global,
+        journal: &mut Journal,
+        command: Command,
+        input: Blob,
+        want: bool,
+    ) -> Result<RunEnd, Memory> {
+        let before = self.counts();
+        let end = run_child(alloc, &mut *self.host, &command, input.as_slice(), want);
+        let reply = child_reply_of(end)?;
+        let end = run_end_of(&reply);
+        let after = self.counts();
+        journal.note(Entry {
+            act: Act::Run {
+                command,
+                input,
+                want,
+            },
+            reply,
+            before,
+            after,
+        });
+        Ok(end)
+    }
+
+    fn write_out(&mut self, journal: &mut Journal, piece: Blob) -> WriteEnd {
+        let before = self.counts();
+        let end = write_text(&mut *self.out, piece.as_slice());
+        let after = self.counts();
+        journal.note(Entry {
+            act: Act::WriteOut { piece },
+            reply: say_reply_of(end),
             before,
             after,
         });
@@ -233,5 +319,56 @@ fn unlock_reply_of(removed: Removed) -> Reply
         Removed::Removed => Reply::Removed,
         Removed::Absent => Reply::Gone,
         Removed::Failed => Reply::Faulted,
+    }
+}
+
+// The reply of a delivery to a folder, unless memory was wanting.
+fn place_reply_of(end: PlaceEnd) -> Result<Reply, Memory>
+    ensures { AreReply (place_reply end) result }
+{
+    match end {
+        PlaceEnd::Done { name } => Ok(Reply::Placed(name)),
+        PlaceEnd::Undone => Ok(Reply::Undone),
+        PlaceEnd::Torn { name, taken } => Ok(Reply::TornAt { name, taken }),
+        PlaceEnd::NamesOut => Ok(Reply::NamesOut),
+        PlaceEnd::Memory => Err(Memory),
+    }
+}
+
+fn folder_end_of(reply: &Reply) -> FolderEnd
+    ensures { result ≡ folder_end reply.now }
+{
+    match reply {
+        Reply::Placed(_) => FolderEnd::Placed,
+        Reply::TornAt { taken, .. } => FolderEnd::Torn(*taken),
+        Reply::NamesOut => FolderEnd::NamesOut,
+        _ => FolderEnd::Undone,
+    }
+}
+
+// The reply of the run of a program, unless memory was wanting.
+fn child_reply_of(end: ChildEnd) -> Result<Reply, Memory>
+    ensures { AreReply (child_reply end) result }
+{
+    match end {
+        ChildEnd::Ended { code, took, output } => Ok(Reply::Ended { code, took, output }),
+        ChildEnd::NotStarted => Ok(Reply::NotStarted),
+        ChildEnd::Broken { took } => Ok(Reply::Broken { took }),
+        ChildEnd::TooLong(count) => Ok(Reply::TooLong(count)),
+        ChildEnd::Memory => Err(Memory),
+    }
+}
+
+fn run_end_of(reply: &Reply) -> RunEnd
+    ensures { result ≡ run_end reply.now }
+{
+    match reply {
+        Reply::Ended { code, took, .. } => RunEnd::Ended {
+            code: *code,
+            took: *took,
+        },
+        Reply::NotStarted => RunEnd::NotStarted,
+        Reply::TooLong(_) => RunEnd::TooLong,
+        _ => RunEnd::Broken,
     }
 }

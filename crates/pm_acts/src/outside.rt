@@ -1,19 +1,32 @@
 //! The outside of a run, by the acts that it can do.
-ghost use Rattle.std.specs.Prelude.{◌≡◌, ◌<◌, ◌≤◌, IfOk, OnErr};
+ghost use Rattle.std.specs.Prelude.{◌≡◌, ◌<◌, ◌≤◌, true, IfOk, OnErr};
 ghost use Rattle.pm_journal.specs.Appending.{append_reply};
 ghost use Rattle.pm_journal.specs.Entries.{View, unlock_reply};
 ghost use Rattle.pm_journal.specs.Locking.{lock_act, lock_reply};
 ghost use Rattle.pm_journal.specs.Noted.{NotesAct};
 ghost use Rattle.pm_append.specs.ReadsFile.{FitsFile};
-ghost use Rattle.pm_acts.specs.Acts.{NotesSaid, NotesRead, LeavesRead};
+ghost use Rattle.pm_append.specs.Writing.{say_reply};
+ghost use Rattle.pm_journal.specs.declared.acts.Act.TheVariants.{ReadFile, Run};
+ghost use Rattle.pm_acts.specs.Acts.{NotesSaid, NotesRead, NotesPlace, NotesRun, LeavesAct, place_act};
 
-use pm_append::AppendEnd;
+use pm_append::{AppendEnd, WriteEnd};
 use pm_bytes::{Blob, Memory, Name};
-use pm_host::{Looked, Removed};
-use pm_journal::{Act, Journal, LockEnd, LockRule, Reply};
+use pm_host::{Command, Looked, Removed};
+use pm_journal::{Act, FolderEnd, FolderKind, Journal, LockEnd, LockRule, Reply, RunEnd, Stamp};
 use std::alloc::Global;
 
-/// Does acts, and notes each in the journal as the one new entry. Only `read` takes memory.
+/// A piece that is filed in a folder as a file of its own, with what makes its name; `prefix` is that of a plain folder.
+#[derive(Debug, Drop)]
+pub struct Filing {
+    pub kind: FolderKind,
+    pub folder: Name,
+    pub prefix: Name,
+    pub piece: Blob,
+    pub stamp: Stamp,
+}
+
+/// Does acts, and notes each in the journal as the one new entry. Only `read`, `place` and a `run` whose output is
+/// wanted take memory.
 pub trait Outside {
     /// What the host and the sinks tell.
     ghost told: { Self → View };
@@ -22,6 +35,43 @@ pub trait Outside {
     fn append(&mut self, journal: &mut Journal, name: Name, piece: Blob) -> AppendEnd
         requires { 0 < journal.old.room }
         ensures { NotesAct (Act.Append name piece) (append_reply result)
+            journal.old journal.new (told self.old) (told self.new) };
+
+    /// Files the piece in the folder. The journal's last entry then has the file's name. After want of memory nothing is
+    /// noted and no file was made.
+    fn place(
+        &mut self,
+        alloc: Global,
+        journal: &mut Journal,
+        filing: Filing,
+    ) -> Result<FolderEnd, Memory>
+        requires { 0 < journal.old.room }
+        ensures ok { IfOk result (λ end. NotesPlace filing end
+            journal.old journal.new (told self.old) (told self.new)) }
+        ensures left { OnErr result (LeavesAct (place_act filing) (told self.old) (told self.new)) }
+        ensures same { OnErr result (journal.new ≡ journal.old) };
+
+    /// Runs a program and waits for it. The journal's last entry then has its output, where that is wanted. After want of
+    /// memory nothing is noted, and the program was waited for; without a wanted output there is none.
+    fn run(
+        &mut self,
+        alloc: Global,
+        journal: &mut Journal,
+        command: Command,
+        input: Blob,
+        want: bool,
+    ) -> Result<RunEnd, Memory>
+        requires { 0 < journal.old.room }
+        ensures ok { IfOk result (λ end. NotesRun command input want end
+            journal.old journal.new (told self.old) (told self.new)) }
+        ensures wanted { OnErr result (want ≡ true) }
+        ensures left { OnErr result (LeavesAct (Run command input want) (told self.old) (told self.new)) }
+        ensures same { OnErr result (journal.new ≡ journal.old) };
+
+    /// Writes the piece to the run's standard output.
+    fn write_out(&mut self, journal: &mut Journal, piece: Blob) -> WriteEnd
+        requires { 0 < journal.old.room }
+        ensures { NotesAct (Act.WriteOut piece) (say_reply result)
             journal.old journal.new (told self.old) (told self.new) };
 
     /// Adds the text at the end of the file `to`, or writes it to `err` where there is none. A text that can't be
@@ -42,7 +92,7 @@ pub trait Outside {
         ensures ok { IfOk result (λ content. NotesRead name content
             journal.old journal.new (told self.old) (told self.new)) }
         ensures fits { IfOk result (λ content. FitsFile content) }
-        ensures left { OnErr result (LeavesRead name (told self.old) (told self.new)) }
+        ensures left { OnErr result (LeavesAct (ReadFile name) (told self.old) (told self.new)) }
         ensures same { OnErr result (journal.new ≡ journal.old) };
 
     /// Asks what stands at the name.

@@ -1,6 +1,4 @@
-use Rattle.std.proofs.Common.{rules, subst}
-use Rattle.pm_journal.specs.Held.{Keeping}
-use Rattle.pm_journal.proofs.KeepingActs.{keeping_unlock}
+use Rattle.std.proofs.Common.{rules}
 use Rattle.pm_acts.proofs.ActLemmas.{giving_begun, giving_goes_on, giving_over, keeping_first}
 use Rattle.pm_acts.proofs.acts.give_all.Goals as goal
 

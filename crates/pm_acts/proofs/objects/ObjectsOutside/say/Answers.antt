@@ -1,6 +1,3 @@
-use Rattle.std.specs.Prelude.{Some, None}
-use Rattle.std.proofs.Common.{sym, subst}
-use Rattle.pm_acts.specs.Acts.{NotesSaid}
 use Rattle.pm_acts.proofs.Notes.{say_file_notes, say_err_notes}
 use Rattle.pm_acts.proofs.objects.ObjectsOutside.say.Goals as goal
 
