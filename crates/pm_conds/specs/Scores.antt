@@ -1,5 +1,5 @@
 -- What weighted conditions add to the score of a recipe (procmailsc(5)).
-use Rattle.std.specs.Prelude.{◌≡◌, ℕ, zero, suc, ◌+◌, ◌^◌, Bool, true, false, ◌&&◌, ◌||◌, if◌then◌else◌, nat_lt, nat_le, min, max, Option, Some, None, ℤ, pos, ◌+ℤ◌, ◌*ℤ◌, neg_ℤ, int_div}
+use Rattle.std.specs.Prelude.{◌≡◌, ℕ, zero, suc, ◌+◌, ◌^◌, Bool, true, false, ◌&&◌, ◌||◌, if◌then◌else◌, nat_eq, nat_lt, nat_le, min, max, Option, Some, None, ℤ, pos, ◌+ℤ◌, ◌*ℤ◌, neg_ℤ, int_div}
 use Rattle.std.specs.Int.{int_min, int_max}
 use Rattle.std.proofs.Common.{refl}
 
@@ -15,6 +15,11 @@ bounded number = int_max (neg_ℤ (pos 2147483647)) (int_min number (pos 2147483
 -- the total and, for n matches, the weight w for the first and for each further one x times as much as for the one before
 abbrev pub add_score : ℤ → ℤ → ℕ → ℕ → ℤ
 add_score total w x n = bounded (total +ℤ w *ℤ pos (powers x n))
+
+-- the total and what a program's code adds: w for the code 0 and x for any other, or inverted as for so many matches as the code
+abbrev pub add_code : ℤ → ℤ → ℕ → Bool → ℕ → ℤ
+add_code total w x true code = add_score total w x code
+add_code total w x false code = if nat_eq code 0 then bounded (total +ℤ w) else bounded (total +ℤ pos x)
 
 -- a length of 0 counts as 1, and from the exponent 2 on one above 134217728 as that
 abbrev pub counted_length : ℕ → ℕ → ℕ
@@ -95,3 +100,14 @@ too_great = refl
 -- a length of 0 counts as 1
 empty : add_length (pos 0) (pos 100) 1 0 3 false ≡ Some (pos 300)
 empty = refl
+
+-- a code other than 0 adds x, and not w
+other_code : add_code (pos 5) (pos 9) 1 false 3 ≡ pos 6
+other_code = refl
+
+code_of_success : add_code (pos 5) (pos 9) 1 false 0 ≡ pos 14
+code_of_success = refl
+
+-- inverted the code counts matches
+inverted_code : add_code (pos 5) (pos 9) 1 true 3 ≡ pos 32
+inverted_code = refl

@@ -3,6 +3,7 @@ use Rattle.std.specs.Prelude.{◌≡◌, ℕ, ◌-◌, ◌≤◌, IfSome, Bool, 
 use Rattle.std.specs.List.{starts_with, ends_with}
 use Rattle.std.proofs.Common.{◌⊎◌, inl, inr, refl}
 use Rattle.pm_message.specs.Area.{area_of}
+use Rattle.pm_message.specs.Split.{whole_of}
 use Rattle.pm_message.specs.declared.head.Message.{Message}
 use Rattle.pm_message.specs.declared.areas.Part.{Part}
 use Rattle.pm_message.specs.declared.areas.Part.TheVariants as part
@@ -43,6 +44,18 @@ abbrev pub area_in : Scope → Sight → List ℕ
 area_in scope.Flags sight = area_of sight.message (part_of sight.flags)
 area_in (scope.Mail part) sight = area_of sight.message part
 area_in (scope.Variable name) sight = value_or_empty (value_of name sight.vars.variables)
+
+-- the bytes of a part of the mail as they stand
+abbrev pub bytes_in : Message → Part → List ℕ
+bytes_in message part.Head = message.head
+bytes_in message part.Body = message.body
+bytes_in message part.Both = whole_of message
+
+-- the bytes that a condition's program gets
+abbrev pub input_in : Scope → Sight → List ℕ
+input_in scope.Flags sight = bytes_in sight.message (part_of sight.flags)
+input_in (scope.Mail part) sight = bytes_in sight.message part
+input_in (scope.Variable name) sight = value_or_empty (value_of name sight.vars.variables)
 
 -- the expression of a reading, where the text has one
 abbrev pub expression_from : {text : List ℕ} → ((e : Whole) × Reads text e) ⊎ HasNoReading text → Option Whole

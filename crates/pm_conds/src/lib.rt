@@ -11,6 +11,9 @@ mod searching;
 mod sizes;
 mod weighing;
 
-pub use judging::judge;
-pub use question::Verdict;
-pub use weighing::{add_length, add_score};
+pub use judging::{exited, has_weight, judge_one, question_of, test};
+pub use leads::{past_blanks, read_lead};
+pub use question::{Factors, Outcome, Question, Scope, Verdict};
+pub use scoring::{end_of_all, note_score};
+pub use searching::program_input;
+pub use weighing::{add_code, add_length, add_score};

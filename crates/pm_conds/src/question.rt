@@ -25,8 +25,8 @@ pub struct Question {
     pub scope: Scope,
 }
 
-/// What comes of one condition: without a weight it holds or not, with one so many matches count, or a length by a
-/// number. A match of an expression with `\/` has the bytes that MATCH gets.
+/// What comes of one condition: without a weight it holds or not, with one so many matches count, a length by a number,
+/// or a program's code. A match of an expression with `\/` has the bytes that MATCH gets.
 #[derive(Drop)]
 pub enum Outcome {
     Holds,
@@ -43,18 +43,21 @@ pub enum Outcome {
         length: u64,
         number: u64,
     },
+    Exited {
+        weight: Factors,
+        inverted: bool,
+        code: u8,
+    },
     Defective,
     TooLong(u64),
-    NotBuilt,
 }
 
 /// What comes of a recipe's conditions in order: they match the recipe or don't, one is no condition by its text or its
-/// weight, or the value of one has so many bytes, which are too many. Conditions with programs aren't built yet.
+/// weight, or the value of one has so many bytes, which are too many.
 #[derive(Drop)]
 pub enum Verdict {
     Matched,
     Unmatched,
     Defective(Blob),
     TooLong(u64),
-    NotBuilt,
 }

@@ -3,7 +3,7 @@ ghost use Rattle.std.specs.Prelude.{◌≡◌, ◌≤◌, not, IfOk, IfSome, len
 ghost use Rattle.pm_message.specs.Area.{area_of};
 ghost use Rattle.pm_match.proofs.FoundOrNot.{found_of};
 ghost use Rattle.pm_conds.specs.Searching.{Sight, sight_of, part_of, area_in, match_text, found_outcome as outcome};
-ghost use Rattle.pm_conds.specs.Searching.{match_in, behind_newline, before_newline};
+ghost use Rattle.pm_conds.specs.Searching.{match_in, behind_newline, before_newline, bytes_in, input_in};
 ghost use Rattle.pm_conds.specs.Searching.{value_or_empty, expression_of, IsWithin};
 ghost use Rattle.pm_conds.specs.Judging.{compared_length};
 ghost use Rattle.pm_conds.specs.Weighing.{sought_outcome};
@@ -14,7 +14,7 @@ use crate::question::{Outcome, Question, Scope};
 use crate::sizes::outcome_if;
 use pm_bytes::{Blob, Memory};
 use pm_match::{Engine, Found};
-use pm_message::{Message, Part, area};
+use pm_message::{Message, Part, area, whole};
 use pm_recipe::Flags;
 use pm_regex::{Expr, ReadRefused, read};
 use pm_vars::Vars;
@@ -193,6 +193,34 @@ pub fn search(
             text,
             value_in(vars, name.as_slice()),
         ),
+    }
+}
+
+/// A part of the mail as it stands.
+fn part_bytes(alloc: Global, message: &Message, part: Part) -> Result<Blob, Memory>
+    ensures { IfOk result (λ bytes. bytes ≡ bytes_in message.now part) }
+{
+    match part {
+        Part::Head => message.head.copy(alloc),
+        Part::Body => message.body.copy(alloc),
+        Part::Both => whole(alloc, message),
+    }
+}
+
+/// What the program of a condition gets as its input.
+pub fn program_input(
+    alloc: Global,
+    scope: &Scope,
+    flags: Flags,
+    message: &Message,
+    vars: &Vars,
+) -> Result<Blob, Memory>
+    ensures { IfOk result (λ input. input ≡ input_in scope.now (sight_of flags message.now vars.now)) }
+{
+    match scope {
+        Scope::Flags => part_bytes(alloc, message, searched_part(flags)),
+        Scope::Mail(part) => part_bytes(alloc, message, *part),
+        Scope::Variable(name) => Blob::from_slice(alloc, value_in(vars, name.as_slice())),
     }
 }
 

@@ -1,6 +1,6 @@
 //! What weighted conditions add to the score of a recipe (procmailsc(5)).
 ghost use Rattle.std.specs.Prelude.{◌≡◌, ◌≤◌, ◌<◌, ◌^◌, ◌*◌, ◌/◌, min, pos, ◌≤ℤ◌, ◌+ℤ◌, ◌*ℤ◌, neg_ℤ, unsigned_abs, if◌then◌else◌, true, IfSome};
-ghost use Rattle.pm_conds.specs.Scores.{powers as powers_of, bounded as bounded_of, add_score as score_of};
+ghost use Rattle.pm_conds.specs.Scores.{powers as powers_of, bounded as bounded_of, add_score as score_of, add_code as code_score};
 ghost use Rattle.pm_conds.specs.Scores.{counted_length as length_counted, add_length as length_score, has_share as is_shared};
 
 /// The greatest score, whose negative is the least.
@@ -70,6 +70,24 @@ pub fn add_score(total: i32, w: i32, x: u32, count: u64) -> i32
     ensures high { result ≤ℤ pos 2147483647 }
 {
     moved(total, w < 0, w.unsigned_abs() as u64 * powers(x, count))
+}
+
+/// The score after a program of a condition with the weight `w^x` ended with this code: it is `w` more for the code 0, and
+/// `x` more for any other. An inverted condition counts as many matches as the code says.
+pub fn add_code(total: i32, w: i32, x: u32, inverted: bool, code: u8) -> i32
+    requires low { neg_ℤ (pos 2147483647) ≤ℤ total }
+    requires high { total ≤ℤ pos 2147483647 }
+    ensures value { result ≡ code_score total w x inverted code }
+    ensures low { neg_ℤ (pos 2147483647) ≤ℤ result }
+    ensures high { result ≤ℤ pos 2147483647 }
+{
+    if inverted {
+        add_score(total, w, x, code as u64)
+    } else if code == 0 {
+        bounded(total as i64 + w as i64)
+    } else {
+        bounded(total as i64 + x as i64)
+    }
 }
 
 /// A length of 0 counts as 1.
