@@ -1,18 +1,17 @@
 -- A process is delivered only by done appends to all destinations of a recipe to which it came.
 use Rattle.std.proofs.Common.{◌≡◌, ◌⊎◌, inl, inr, ℕ, zero, suc, Bool, true, false, not, List, [], ◌∷◌, ◌++◌, Option, Some, None, refl, sym, ap, ◌∙◌, subst, append_assoc, append-nil}
 use Rattle.std.specs.Prelude.{if◌then◌else◌, map, ◌||◌}
-use Rattle.std.specs.List.{list_any}
-use Rattle.pm_bytes.specs.Path.{full_name}
 use Rattle.pm_bytes.specs.declared.environment.Environ.{Environ}
-use Rattle.pm_recipe.specs.Tree.{Top, Act as Action, Mailbox, Block, Tree, Assign, Unset, Recipe, Defect}
+use Rattle.pm_recipe.specs.Tree.{Top, Act as Action, Mailbox, Pipe, WriteOut, Block, Tree, Assign, Unset, Recipe, Defect}
 use Rattle.pm_recipe.specs.declared.tree.Flags.{Flags}
+use Rattle.pm_subst.specs.Commands.{commands_in}
 use Rattle.pm_subst.specs.Words.{words_in}
 use Rattle.pm_subst.specs.declared.kinds.Mode.TheVariants.{One, Many}
-use Rattle.pm_conds.specs.declared.question.Verdict.TheVariants.{Matched, Unmatched, Defective, TooLong, NotBuilt}
+use Rattle.pm_conds.specs.declared.question.Verdict.TheVariants.{Matched, Unmatched, Defective, TooLong}
 use Rattle.pm_meaning.specs.Chains.{is_admitted, passed, executed}
 use Rattle.pm_meaning.specs.Changes.{overflowed}
 use Rattle.pm_meaning.specs.Blocks.{carry_out, begun_block, closed, give_maybe}
-use Rattle.pm_meaning.specs.Judging.{judgement, behind_conditions, by_verdict, judge_first}
+use Rattle.pm_meaning.specs.Judging.{Judged, judge, judged_with, behind_conditions, by_verdict, judge_first}
 use Rattle.pm_journal.specs.LogText.{skipped_line, unusable_name_line, defective_condition_line, value_too_long_line}
 use Rattle.pm_journal.specs.declared.acts.Entry.{Entry}
 use Rattle.pm_journal.specs.Held.{without}
@@ -20,26 +19,30 @@ use Rattle.pm_journal.specs.Locking.{lock_act}
 use Rattle.pm_journal.specs.declared.locking.LockRule.{LockRule}
 use Rattle.pm_journal.specs.declared.acts.Reply.{Reply}
 use Rattle.pm_journal.specs.declared.acts.Reply.TheVariants.{Held}
-use Rattle.pm_journal.specs.Plan.{Plan, Ends, Plays}
+use Rattle.pm_journal.specs.Plan.{Plan, Ends, and_then, Plays}
 use Rattle.pm_journal.specs.Walking.{Next, Stop, Go, walk, reach, Means}
 use Rattle.pm_journal.proofs.PlanJoin.{plays_then}
 use Rattle.pm_meaning.specs.Minds.{Mind}
-use Rattle.pm_meaning.specs.Turns.{Turn, GoesOn, Halts, Enters, not_built, refuse_name, has_command, is_too_long, skip_value}
+use Rattle.pm_meaning.specs.Turns.{Turn, GoesOn, Halts, Enters, not_built, refuse_name, is_too_long, skip_value}
 use Rattle.pm_meaning.specs.Assigning.{value_in}
 use Rattle.pm_meaning.specs.GlobalLock.{give_named}
 use Rattle.pm_meaning.specs.Locks.{is_fault, text_or, rule_of, lock_word, blamed_text, is_lock_word, full_lock, is_taken, any_held, with_lock}
-use Rattle.pm_meaning.specs.Delivering.{mailbox_piece, is_folder_name, Filing, file_all, Attempted, give_back, under_lock, attempt, attempt_lines, filed_turn, attempt_turn, say_each, settled, after_attempt, file_and_say, are_file_texts, deliver_at, deliver_named, is_without, deliver_to, deliver_text, deliver}
+use Rattle.pm_meaning.specs.Delivering.{mailbox_piece, folder_piece, Filing, file_all, Attempted, give_back, under_lock, attempt, attempt_lines, filed_turn, attempt_turn, say_each, settled, after_attempt, file_and_say, deliver_at, deliver_named, is_without, deliver_to, deliver_text, Ready, deliver_with, make_ready, deliver}
+use Rattle.pm_meaning.specs.Destinations.{destination_of, full_of, are_file_texts}
 use Rattle.pm_meaning.specs.Running.{State, Arrived, Running, FallingOff, Leaving, Over, Closing, Item, Open, Do, BlockEnd, locks_of, block_of, inside, no_flags, deliver_default, default_mailboxes, next_default, step, statement, next_of, ending}
-use Rattle.pm_meaning.specs.Laws.{files_of, AreDone, IsGot, IsGiven, AreLines, IsFiled, AreClosing, DeliversAt, DeliversLast}
+use Rattle.pm_meaning.specs.Laws.{AllHave, IsGot, IsGiven, AreLines, IsFiled, AreClosing, IsExecuted, IsReady, DeliversAt, IsMade, in_files, by_program, by_output, DeliversLast}
+use Rattle.pm_meaning.specs.ProgramActions.{pipe}
 use Rattle.pm_meaning.specs.declared.command_line.CommandLine.{CommandLine}
+use Rattle.pm_meaning.specs.declared.process.Destination.{Destination}
 use Rattle.pm_meaning.specs.declared.process.Attempt.TheVariants.{Unlocked, Locked}
 use Rattle.pm_meaning.specs.declared.process.Filed.{Filed}
-use Rattle.pm_meaning.specs.declared.process.Filed.TheVariants.{Stored, Unwritten, Left, Folder}
+use Rattle.pm_meaning.specs.declared.process.Filed.TheVariants.{Stored, Unwritten, Left, Crowded, Unnamed}
 use Rattle.pm_meaning.specs.declared.process.End.{End}
 use Rattle.pm_meaning.specs.declared.process.End.TheVariants.{Delivered}
 use Rattle.pm_meaning.specs.declared.process.Ending.{Ending}
 use Rattle.pm_meaning.proofs.OneOutcome.{not_over}
 use Rattle.pm_meaning.proofs.Unlocks.{all_given, global_given, block_given, closing_join}
+use Rattle.pm_meaning.proofs.ProgramDelivered.{PipeMade, pipe_made, OutputMade, output_made}
 use Rattle.pm_meaning.proofs.StoredDone.{stored_is_done}
 use Rattle.pm_meaning.proofs.NoDelivery.{parts_of, is_delivered, delivers, never_built, never_goes, never_entered, never_said, never_told, never_skipped, never_assign, never_unset, is_last, never_ends, never_prepared, never_read, never_lost}
 
@@ -47,22 +50,42 @@ use Rattle.pm_meaning.proofs.NoDelivery.{parts_of, is_delivered, delivers, never
 record DeliversHere (flags : Flags) (words : List (List ℕ)) (p : Mind) (es : List Entry) : Type 0 where
   final : flags.copy ≡ false
   usable : are_file_texts words ≡ true
-  filed : IsFiled (mailbox_piece flags p) (files_of p.base words) es
+  filed : IsFiled flags (map destination_of words) p es
+
+-- the commands of the texts were run, and the mail was delivered with their outputs
+record DeliversReady (flags : Flags) (lock : Option (List ℕ)) (text : List ℕ) (p : Mind) (es : List Entry) : Type 0 where
+  ran : List Entry
+  last : List Entry
+  whole : es ≡ ran ++ last
+  ready : Ready
+  runs : Plays (make_ready (commands_in One (text_or [] lock)) (commands_in Many text) p) ran ready
+  here : DeliversHere flags (words_in Many ready.mind.vars ready.outputs text) ready.mind last
+
+-- the action of a recipe delivered so, behind its conditions
+data DeliversBy (top : Top) (act : Action) (p : Mind) (es : List Entry) : Type 0 where
+  to_mailboxes : (text : List ℕ) → act ≡ Mailbox text → DeliversReady top.flags top.lock text p es → DeliversBy top act p es
+  to_program : (line : List ℕ) → act ≡ Pipe line → PipeMade top.flags line p es → DeliversBy top act p es
+  to_output : act ≡ WriteOut → OutputMade top.flags p es → DeliversBy top act p es
 
 record DeliversTree (tree : Tree) (p : Mind) (es : List Entry) : Type 0 where
   top : Top
-  text : List ℕ
-  is : tree ≡ Recipe top (Mailbox text)
-  admitted : is_admitted top.flags p.chain ≡ true
-  holds : (judgement top p).verdict ≡ Matched
-  here : DeliversHere top.flags (words_in Many (behind_conditions top p).vars [] text) (executed top.flags (behind_conditions top p)) es
+  act : Action
+  is : tree ≡ Recipe top act
+  judged : List Entry
+  last : List Entry
+  whole : es ≡ judged ++ last
+  mind : Mind
+  executed_is : IsExecuted top p judged mind
+  by : DeliversBy top act mind last
 
 record DeliversState (s : State) (es : List Entry) : Type 0 where
   flags : Flags
-  words : List (List ℕ)
   mind : Mind
-  delivers : DeliversAt s flags words mind
-  here : DeliversHere flags words mind es
+  asked : List Entry
+  last : List Entry
+  whole : es ≡ asked ++ last
+  final : flags.copy ≡ false
+  made : IsMade s asked flags mind last
 
 final_turn : (b : Bool) (p : Mind) → delivers (if b then GoesOn p else Halts Delivered p) ≡ true → b ≡ false
 final_turn true p e = let f : false ≡ true = e in absurd (cc)
@@ -75,7 +98,8 @@ record IsFinal (flags : Flags) (filed : Filed) : Type 0 where
 
 final_filed : (flags : Flags) (filed : Filed) (p : Mind) → delivers (filed_turn flags filed p) ≡ true → IsFinal flags filed
 final_filed flags Stored p e = record { stored = refl; final = final_turn flags.copy p e }
-final_filed flags Folder p e = let f : false ≡ true = e in absurd (cc)
+final_filed flags Unnamed p e = let f : false ≡ true = e in absurd (cc)
+final_filed flags (Crowded name) p e = let f : false ≡ true = e in absurd (cc)
 final_filed flags (Unwritten name) p e = let f : false ≡ true = e in absurd (cc)
 final_filed flags (Left name count) p e = let f : false ≡ true = e in absurd (cc)
 
@@ -93,32 +117,32 @@ all_said p (line ∷ lines) turn last (e ∷ es) h =
     record { lines = (line, h.0, k.lines); same = k.same }
 
 -- what an attempt did whose turn delivers for good
-record Files (flags : Flags) (words : List (List ℕ)) (p : Mind) (es : List Entry) : Type 0 where
+record Files (flags : Flags) (ds : List Destination) (p : Mind) (es : List Entry) : Type 0 where
   final : flags.copy ≡ false
   lock : Option (List ℕ)
   got : List Entry
-  appends : List Entry
+  deliveries : List Entry
   given : List Entry
-  whole : es ≡ got ++ (appends ++ given)
+  whole : es ≡ got ++ (deliveries ++ given)
   is_got : IsGot lock got
-  done : AreDone (mailbox_piece flags p) (files_of p.base words) appends
+  done : AllHave p.base (mailbox_piece flags p) (folder_piece flags p) ds deliveries
   is_given : IsGiven lock given
 
 abbrev turn_after : Flags → Attempted → Turn
 turn_after flags done = attempt_turn flags done.attempt (settled done.attempt done.mind)
 
-unlocked_end : (flags : Flags) (words : List (List ℕ)) (p : Mind) (es : List Entry) (done : Attempted) (filing : Filing) (front rest : List Entry) → es ≡ front ++ rest
-    → Plays (file_all flags words p) front filing → Plays (Ends (record { attempt = Unlocked filing.filed; mind = filing.mind })) rest done → delivers (turn_after flags done) ≡ true → Files flags words p es
-unlocked_end flags words p es done filing front [] whole h k passes =
+unlocked_end : (flags : Flags) (ds : List Destination) (p : Mind) (es : List Entry) (done : Attempted) (filing : Filing) (front rest : List Entry) → es ≡ front ++ rest
+    → Plays (file_all flags ds p) front filing → Plays (Ends (record { attempt = Unlocked filing.filed; mind = filing.mind })) rest done → delivers (turn_after flags done) ≡ true → Files flags ds p es
+unlocked_end flags ds p es done filing front [] whole h k passes =
     let final = final_filed flags filing.filed (settled (Unlocked filing.filed) filing.mind) (sym (ap (λ d. delivers (turn_after flags d)) k) ∙ passes) in
-    record { final = final.final; lock = None; got = []; appends = front; given = []; whole = whole; is_got = refl; done = stored_is_done flags words p front filing h final.stored; is_given = refl }
-unlocked_end flags words p es done filing front (e ∷ rest) whole h k passes = absurd k
+    record { final = final.final; lock = None; got = []; deliveries = front; given = []; whole = whole; is_got = refl; done = stored_is_done flags ds p front filing h final.stored; is_given = refl }
+unlocked_end flags ds p es done filing front (e ∷ rest) whole h k passes = absurd k
 
-unlocked_files : (flags : Flags) (words : List (List ℕ)) (p : Mind) (es : List Entry) (done : Attempted) → Plays (attempt None flags words p) es done → delivers (turn_after flags done) ≡ true → Files flags words p es
-unlocked_files flags words p es done h passes =
+unlocked_files : (flags : Flags) (ds : List Destination) (p : Mind) (es : List Entry) (done : Attempted) → Plays (attempt None flags ds p) es done → delivers (turn_after flags done) ≡ true → Files flags ds p es
+unlocked_files flags ds p es done h passes =
     let f : Filing → Plan Attempted = λ filing. Ends (record { attempt = Unlocked filing.filed; mind = filing.mind }) in
-    let k = parts_of (file_all flags words p) f es done h in
-    unlocked_end flags words p es done k.middle k.front k.rest k.whole k.plays_front k.plays_rest passes
+    let k = parts_of (file_all flags ds p) f es done h in
+    unlocked_end flags ds p es done k.middle k.front k.rest k.whole k.plays_front k.plays_rest passes
 
 -- the lock was given back, and nothing else was done
 given_end : (flags : Flags) (name : List ℕ) (forced : ℕ) (filing : Filing) (es : List Entry) (done : Attempted) → Plays (give_back name forced filing) es done → delivers (turn_after flags done) ≡ true
@@ -128,48 +152,49 @@ given_end flags name forced filing (e ∷ []) done h passes =
     ((h.0, refl), final_filed flags filing.filed (settled (Locked name forced filing.filed (is_fault e.reply)) (record filing.mind { locks = without filing.mind.locks name })) (sym (ap (λ d. delivers (turn_after flags d)) h.2) ∙ passes))
 given_end flags name forced filing (e ∷ f ∷ es) done h passes = absurd h.2
 
-locked_end : (flags : Flags) (words : List (List ℕ)) (p : Mind) (name : List ℕ) (rule : LockRule) (e : Entry) (es : List Entry) (done : Attempted) (reply : Reply) → e.act ≡ lock_act name rule → e.reply ≡ reply
-    → Plays (under_lock name flags words p reply) es done → delivers (turn_after flags done) ≡ true → Files flags words p (e ∷ es)
-locked_end flags words p name rule e es done (Held sleeps forced) act is h passes =
-    let k = parts_of (file_all flags words (with_lock name p)) (give_back name forced) es done h in
+locked_end : (flags : Flags) (ds : List Destination) (p : Mind) (name : List ℕ) (rule : LockRule) (e : Entry) (es : List Entry) (done : Attempted) (reply : Reply) → e.act ≡ lock_act name rule → e.reply ≡ reply
+    → Plays (under_lock name flags ds p reply) es done → delivers (turn_after flags done) ≡ true → Files flags ds p (e ∷ es)
+locked_end flags ds p name rule e es done (Held sleeps forced) act is h passes =
+    let k = parts_of (file_all flags ds (with_lock name p)) (give_back name forced) es done h in
     let given = given_end flags name forced k.middle k.rest done k.plays_rest passes in
     record {
       final = given.1.final;
       lock = Some name;
       got = e ∷ [];
-      appends = k.front;
+      deliveries = k.front;
       given = k.rest;
       whole = ap (λ l. e ∷ l) k.whole;
       is_got = (rule, sleeps, forced, act, is, refl);
-      done = stored_is_done flags words (with_lock name p) k.front k.middle k.plays_front given.1.stored;
+      done = stored_is_done flags ds (with_lock name p) k.front k.middle k.plays_front given.1.stored;
       is_given = given.0;
     }
-locked_end flags words p name rule e [] done other act is h passes =
+locked_end flags ds p name rule e [] done other act is h passes =
     let no : false ≡ true = sym (ap (λ d. delivers (turn_after flags d)) h) ∙ passes in absurd (cc)
-locked_end flags words p name rule e (f ∷ es) done other act is h passes = absurd h
+locked_end flags ds p name rule e (f ∷ es) done other act is h passes = absurd h
 
-attempt_files : (lock : Option (List ℕ)) (flags : Flags) (words : List (List ℕ)) (p : Mind) (es : List Entry) (done : Attempted) → Plays (attempt lock flags words p) es done → delivers (turn_after flags done) ≡ true
-    → Files flags words p es
-attempt_files None flags words p es done h passes = unlocked_files flags words p es done h passes
-attempt_files (Some name) flags words p [] done h passes = absurd h
-attempt_files (Some name) flags words p (e ∷ es) done h passes = locked_end flags words p name (rule_of p.vars) e es done e.reply h.0 refl h.2 passes
+attempt_files : (lock : Option (List ℕ)) (flags : Flags) (ds : List Destination) (p : Mind) (es : List Entry) (done : Attempted) → Plays (attempt lock flags ds p) es done → delivers (turn_after flags done) ≡ true
+    → Files flags ds p es
+attempt_files None flags ds p es done h passes = unlocked_files flags ds p es done h passes
+attempt_files (Some name) flags ds p [] done h passes = absurd h
+attempt_files (Some name) flags ds p (e ∷ es) done h passes = locked_end flags ds p name (rule_of p.vars) e es done e.reply h.0 refl h.2 passes
 
-filed_and_said : (flags : Flags) (lock : Option (List ℕ)) (words : List (List ℕ)) (p : Mind) (es : List Entry) (turn : Turn) → are_file_texts words ≡ true
-    → Plays (file_and_say flags lock words p) es turn → delivers turn ≡ true → DeliversHere flags words p es
-filed_and_said flags lock words p es turn usable h passes =
-    let k = parts_of (attempt lock flags words p) (after_attempt flags) es turn h in
-    let said = all_said (settled k.middle.attempt k.middle.mind) (attempt_lines k.middle.attempt) (turn_after flags k.middle) turn k.rest k.plays_rest in
-    let files = attempt_files lock flags words p k.front k.middle k.plays_front (ap delivers (sym said.same) ∙ passes) in
+filed_and_said : (flags : Flags) (lock : Option (List ℕ)) (text : List ℕ) (words : List (List ℕ)) (p : Mind) (es : List Entry) (turn : Turn) → are_file_texts words ≡ true
+    → Plays (file_and_say flags lock text (map destination_of words) p) es turn → delivers turn ≡ true → DeliversHere flags words p es
+filed_and_said flags lock text words p es turn usable h passes =
+    let ds = map destination_of words in
+    let k = parts_of (attempt lock flags ds p) (after_attempt flags text) es turn h in
+    let said = all_said (settled k.middle.attempt k.middle.mind) (attempt_lines text k.middle.attempt) (turn_after flags k.middle) turn k.rest k.plays_rest in
+    let files = attempt_files lock flags ds p k.front k.middle k.plays_front (ap delivers (sym said.same) ∙ passes) in
     record {
       final = files.final;
       usable = usable;
       filed = record {
         lock = files.lock;
         got = files.got;
-        appends = files.appends;
+        deliveries = files.deliveries;
         given = files.given;
         lines = k.rest;
-        whole = k.whole ∙ ap (λ l. l ++ k.rest) files.whole ∙ append_assoc files.got (files.appends ++ files.given) k.rest ∙ ap (λ l. files.got ++ l) (append_assoc files.appends files.given k.rest);
+        whole = k.whole ∙ ap (λ l. l ++ k.rest) files.whole ∙ append_assoc files.got (files.deliveries ++ files.given) k.rest ∙ ap (λ l. files.got ++ l) (append_assoc files.deliveries files.given k.rest);
         is_got = files.is_got;
         done = files.done;
         is_given = files.is_given;
@@ -183,20 +208,20 @@ if_last P true p q es end h k l = h l
 if_last P false p q es end h k l = k l
 
 delivered_at : (flags : Flags) (lock : Option (List ℕ)) (blamed text : List ℕ) (words : List (List ℕ)) (p : Mind) (es : List Entry) (turn : Turn) → are_file_texts words ≡ true
-    → Plays (deliver_at flags lock blamed text words p) es turn → delivers turn ≡ true → DeliversHere flags words p es
+    → Plays (deliver_at flags lock blamed text (map destination_of words) p) es turn → delivers turn ≡ true → DeliversHere flags words p es
 delivered_at flags lock blamed text words p es turn usable h passes =
     let P = DeliversHere flags words p es in
-    let filing = file_and_say flags lock words p in
-    let files : Plan Turn = if list_any is_folder_name words then not_built p else filing in
-    let free : Plan Turn = if any_held (map (full_name p.base) words) p.locks then refuse_name text p else files in
-    if_last P (is_taken lock (map (full_name p.base) words) p.locks) (refuse_name blamed p) free es turn (λ l. absurd (never_told p (unusable_name_line blamed) es turn l passes))
-    (if_last P (any_held (map (full_name p.base) words) p.locks) (refuse_name text p) files es turn (λ l. absurd (never_told p (unusable_name_line text) es turn l passes))
-    (if_last P (list_any is_folder_name words) (not_built p) filing es turn (λ l. absurd (never_built p es turn l passes)) (λ l. filed_and_said flags lock words p es turn usable l passes))) h
+    let ds = map destination_of words in
+    let filing = file_and_say flags lock text ds p in
+    let free : Plan Turn = if any_held (map (full_of p.base) ds) p.locks then refuse_name text p else filing in
+    if_last P (is_taken lock (map (full_of p.base) ds) p.locks) (refuse_name blamed p) free es turn (λ l. absurd (never_told p (unusable_name_line blamed) es turn l passes))
+    (if_last P (any_held (map (full_of p.base) ds) p.locks) (refuse_name text p) filing es turn (λ l. absurd (never_told p (unusable_name_line text) es turn l passes))
+    (λ l. filed_and_said flags lock text words p es turn usable l passes)) h
 
 delivered_named : (flags : Flags) (word : Option (List ℕ)) (blamed text : List ℕ) (words : List (List ℕ)) (p : Mind) (es : List Entry) (turn : Turn) → Plays (deliver_named flags word blamed text words p) es turn → delivers turn ≡ true
     → DeliversHere flags words p es
 delivered_named flags word blamed text words p es turn h passes =
-    let last = deliver_at flags (full_lock p.base word) blamed text words p in
+    let last = deliver_at flags (full_lock p.base word) blamed text (map destination_of words) p in
     elim (are_file_texts words) as (λ b. are_file_texts words ≡ b → Plays (if not b then refuse_name text p else last) es turn → DeliversHere flags words p es) [
       | true ↦ λ usable l. delivered_at flags (full_lock p.base word) blamed text words p es turn usable l passes
       | false ↦ λ usable l. absurd (never_told p (unusable_name_line text) es turn l passes)
@@ -214,52 +239,79 @@ delivered_to flags lock value text words p es turn h passes =
     (if_last P (not (is_lock_word word)) (refuse_name blamed p) last es turn (λ l. absurd (never_told p (unusable_name_line blamed) es turn l passes))
     (λ l. delivered_named flags word blamed text words p es turn l passes)) h
 
-delivered_by : (flags : Flags) (lock : Option (List ℕ)) (text : List ℕ) (p : Mind) (es : List Entry) (turn : Turn) → Plays (deliver flags lock text p) es turn → delivers turn ≡ true → DeliversHere flags (words_in Many p.vars [] text) p es
-delivered_by flags lock text p es turn h passes =
-    let words = words_in Many p.vars [] text in
+delivered_with : (flags : Flags) (lock : Option (List ℕ)) (text : List ℕ) (r : Ready) (es : List Entry) (turn : Turn) → Plays (deliver_with flags lock text r) es turn → delivers turn ≡ true
+    → DeliversHere flags (words_in Many r.mind.vars r.outputs text) r.mind es
+delivered_with flags lock text r es turn h passes =
+    let p = r.mind in
+    let words = words_in Many p.vars r.outputs text in
     let P = DeliversHere flags words p es in
     let held = text_or [] lock in
-    let value = value_in p.vars held in
+    let value = value_in p.vars r.lock_outputs held in
     let last = deliver_to flags lock value text words p in
-    let texts = deliver_text flags lock value text p in
-    let locks : Plan Turn = if is_too_long One held p.vars then skip_value One held p else texts in
-    if_last P (has_command One held || has_command Many text) (not_built p) locks es turn (λ l. absurd (never_built p es turn l passes))
-    (if_last P (is_too_long One held p.vars) (skip_value One held p) texts es turn (λ l. absurd (never_skipped One held p es turn l passes))
-    (if_last P (is_too_long Many text p.vars) (skip_value Many text p) last es turn (λ l. absurd (never_skipped Many text p es turn l passes))
-    (λ l. delivered_to flags lock value text words p es turn l passes))) h
+    let texts = deliver_text flags lock value text r.outputs p in
+    if_last P (is_too_long One held p.vars r.lock_outputs) (skip_value One held r.lock_outputs p) texts es turn (λ l. absurd (never_skipped One held r.lock_outputs p es turn l passes))
+    (if_last P (is_too_long Many text p.vars r.outputs) (skip_value Many text r.outputs p) last es turn (λ l. absurd (never_skipped Many text r.outputs p es turn l passes))
+    (λ l. delivered_to flags lock value text words p es turn l passes)) h
 
--- the action of a recipe delivered so
-record DeliversBy (top : Top) (act : Action) (p : Mind) (es : List Entry) : Type 0 where
-  text : List ℕ
-  is : act ≡ Mailbox text
-  here : DeliversHere top.flags (words_in Many p.vars [] text) p es
+delivered_by : (flags : Flags) (lock : Option (List ℕ)) (text : List ℕ) (p : Mind) (es : List Entry) (turn : Turn) → Plays (deliver flags lock text p) es turn → delivers turn ≡ true → DeliversReady flags lock text p es
+delivered_by flags lock text p es turn h passes =
+    let k = parts_of (make_ready (commands_in One (text_or [] lock)) (commands_in Many text) p) (λ ready. deliver_with flags lock text ready) es turn h in
+    record {
+      ran = k.front;
+      last = k.rest;
+      whole = k.whole;
+      ready = k.middle;
+      runs = k.plays_front;
+      here = delivered_with flags lock text k.middle k.rest turn k.plays_rest passes;
+    }
+
+by_filter : (b : Bool) (top : Top) (line : List ℕ) (p : Mind) (es : List Entry) (turn : Turn) → Plays (if b then not_built p else pipe top.flags top.lock line p) es turn → delivers turn ≡ true → DeliversBy top (Pipe line) p es
+by_filter true top line p es turn h passes = absurd (never_built p es turn h passes)
+by_filter false top line p es turn h passes = to_program line refl (pipe_made top.flags top.lock line p es turn h passes)
 
 by_act : (top : Top) (act : Action) (p : Mind) (es : List Entry) (turn : Turn) → Plays (carry_out top act p) es turn → delivers turn ≡ true → DeliversBy top act p es
-by_act top (Mailbox text) p es turn h passes = record { text = text; is = refl; here = delivered_by top.flags top.lock text p es turn h passes }
+by_act top (Mailbox text) p es turn h passes = to_mailboxes text refl (delivered_by top.flags top.lock text p es turn h passes)
+by_act top (Pipe line) p es turn h passes = by_filter top.flags.filter top line p es turn h passes
+by_act top WriteOut p es turn h passes = to_output refl (output_made top.flags top.lock p es turn h passes)
 by_act top (Block trees) p es turn h passes = absurd (never_entered top p es turn h passes)
 by_act top other p es turn h passes = absurd (never_built p es turn h passes)
 
-with_conditions : (top : Top) (act : Action) (p : Mind) (es : List Entry) → is_admitted top.flags p.chain ≡ true → (judgement top p).verdict ≡ Matched
-    → DeliversBy top act (executed top.flags (behind_conditions top p)) es → DeliversTree (Recipe top act) p es
-with_conditions top act p es admitted holds d = record { top = top; text = d.text; is = ap (Recipe top) d.is; admitted = admitted; holds = holds; here = d.here }
+-- the conditions hold, and then the action delivered so
+with_conditions : (top : Top) (act : Action) (p : Mind) (judged : Judged) (front rest es : List Entry) → is_admitted top.flags p.chain ≡ true → judged.verdict ≡ Matched → es ≡ front ++ rest
+    → Plays (judge top.conditions top.flags p) front judged → DeliversBy top act (executed top.flags judged.mind) rest → DeliversTree (Recipe top act) p es
+with_conditions top act p judged front rest es admitted matched whole h d = record {
+  top = top;
+  act = act;
+  is = refl;
+  judged = front;
+  last = rest;
+  whole = whole;
+  mind = executed top.flags judged.mind;
+  executed_is = record {
+    admitted = admitted;
+    judged = judged.mind;
+    holds = subst (λ v. Plays (judge top.conditions top.flags p) front (judged_with v judged.mind)) matched h;
+    mind_is = refl;
+  };
+  by = d;
+}
 
 by_judgement : (top : Top) (act : Action) (p : Mind) (es : List Entry) (turn : Turn) → is_admitted top.flags p.chain ≡ true
-    → Plays (by_verdict (judgement top p).verdict (passed top.flags (behind_conditions top p)) (carry_out top act (executed top.flags (behind_conditions top p)))) es turn
-    → delivers turn ≡ true → DeliversTree (Recipe top act) p es
+    → Plays (and_then (judge top.conditions top.flags p) (λ judged. behind_conditions top.flags (λ q. carry_out top act q) judged)) es turn → delivers turn ≡ true → DeliversTree (Recipe top act) p es
 by_judgement top act p es turn admitted h passes =
-    let q = passed top.flags (behind_conditions top p) in
-    let r = executed top.flags (behind_conditions top p) in
-    elim (judgement top p).verdict as (λ v. (judgement top p).verdict ≡ v → Plays (by_verdict v q (carry_out top act r)) es turn → DeliversTree (Recipe top act) p es) [
-      | Matched ↦ λ holds k. with_conditions top act p es admitted holds (by_act top act r es turn k passes)
-      | Unmatched ↦ λ holds k. absurd (never_goes q es turn k passes)
-      | Defective text ↦ λ holds k. absurd (never_told q (defective_condition_line text) es turn k passes)
-      | TooLong size ↦ λ holds k. absurd (never_said delivers q (value_too_long_line size) (GoesOn (overflowed q)) refl es turn k passes)
-      | NotBuilt ↦ λ holds k. absurd (never_built q es turn k passes)
-    ] refl h
+    let k = parts_of (judge top.conditions top.flags p) (λ judged. behind_conditions top.flags (λ q. carry_out top act q) judged) es turn h in
+    let q = passed top.flags k.middle.mind in
+    let r = executed top.flags k.middle.mind in
+    elim k.middle.verdict as (λ v. k.middle.verdict ≡ v → Plays (by_verdict v q (carry_out top act r)) k.rest turn → DeliversTree (Recipe top act) p es) [
+      | Matched ↦ λ holds l. with_conditions top act p k.middle k.front k.rest es admitted holds k.whole k.plays_front (by_act top act r k.rest turn l passes)
+      | Unmatched ↦ λ holds l. absurd (never_goes q k.rest turn l passes)
+      | Defective text ↦ λ holds l. absurd (never_told q (defective_condition_line text) k.rest turn l passes)
+      | TooLong size ↦ λ holds l. absurd (never_said delivers q (value_too_long_line size) (GoesOn (overflowed q)) refl k.rest turn l passes)
+    ] refl k.plays_rest
 
 by_conditions : (top : Top) (act : Action) (p : Mind) (es : List Entry) (turn : Turn) → Plays (judge_first top (λ q. carry_out top act q) p) es turn → delivers turn ≡ true → DeliversTree (Recipe top act) p es
 by_conditions top act p es turn h passes =
-    let judged = by_verdict (judgement top p).verdict (passed top.flags (behind_conditions top p)) (carry_out top act (executed top.flags (behind_conditions top p))) in
+    let judged = and_then (judge top.conditions top.flags p) (λ j. behind_conditions top.flags (λ q. carry_out top act q) j) in
     elim (is_admitted top.flags p.chain) as (λ b. is_admitted top.flags p.chain ≡ b → Plays (if not b then Ends (GoesOn (passed top.flags p)) else judged) es turn → DeliversTree (Recipe top act) p es) [
       | true ↦ λ admitted k. by_judgement top act p es turn admitted k passes
       | false ↦ λ admitted k. absurd (never_goes (passed top.flags p) es turn k passes)
@@ -288,27 +340,64 @@ by_turn rest turn tree p front [] next h k passes =
     subst (DeliversTree tree p) (sym (append-nil front)) (by_statement tree p front turn h (last_turn tree rest turn (sym (ap is_last k) ∙ passes)))
 by_turn rest turn tree p front (e ∷ later) next h k passes = absurd k
 
+by_recipe : (top : Top) (act : Action) (rest : List Item) (p q : Mind) (judged last es : List Entry) → es ≡ judged ++ last → IsExecuted top p judged q → DeliversBy top act q last
+    → DeliversState (Running (Do (Recipe top act) ∷ rest) p) es
+by_recipe top act rest p q judged last es whole e (to_mailboxes text is here) =
+    let words = words_in Many here.ready.mind.vars here.ready.outputs text in
+    let is_ready : IsReady top text p (judged ++ here.ran) here.ready = record {
+      admitted = e.admitted;
+      judged = judged;
+      ran = here.ran;
+      whole = refl;
+      mind = e.judged;
+      holds = e.holds;
+      runs = subst (λ m. Plays (make_ready (commands_in One (text_or [] top.lock)) (commands_in Many text) m) here.ran here.ready) e.mind_is here.runs;
+    } in
+    record {
+      flags = top.flags;
+      mind = here.ready.mind;
+      asked = judged ++ here.ran;
+      last = here.last;
+      whole = whole ∙ ap (λ l. judged ++ l) here.whole ∙ sym (append_assoc judged here.ran here.last);
+      final = here.here.final;
+      made = in_files words (subst (λ a. DeliversAt (Running (Do (Recipe top a) ∷ rest) p) (judged ++ here.ran) top.flags words here.ready.mind) (sym is) (here.ready, is_ready, refl, refl, refl)) here.here.usable here.here.filed;
+    }
+by_recipe top act rest p q judged last es whole e (to_program line is here) = record {
+  flags = top.flags;
+  mind = q;
+  asked = judged;
+  last = last;
+  whole = whole;
+  final = here.final;
+  made = by_program line here.command (is, e, refl) here.runs here.one;
+}
+by_recipe top act rest p q judged last es whole e (to_output is here) = record {
+  flags = top.flags;
+  mind = q;
+  asked = judged;
+  last = last;
+  whole = whole;
+  final = here.final;
+  made = by_output (is, e, refl) here.one;
+}
+
 by_tree : (tree : Tree) (rest : List Item) (p : Mind) (es : List Entry) → DeliversTree tree p es → DeliversState (Running (Do tree ∷ rest) p) es
 by_tree tree rest p es d =
-    let q = executed d.top.flags (behind_conditions d.top p) in
-    let words = words_in Many q.vars [] d.text in
-    record {
-      flags = d.top.flags;
-      words = words;
-      mind = q;
-      delivers = subst (λ t. DeliversAt (Running (Do t ∷ rest) p) d.top.flags words q) (sym d.is) (d.admitted, d.holds, refl, refl, refl);
-      here = d.here;
-    }
+    subst (λ t. DeliversState (Running (Do t ∷ rest) p) es) (sym d.is) (by_recipe d.top d.act rest p d.mind d.judged d.last es d.whole d.executed_is d.by)
 
 by_default : (mailbox : List ℕ) (rest : List (List ℕ)) (p : Mind) (turn : Turn) (front later : List Entry) (next : Next State Ending)
     → Plays (deliver_default mailbox p) front turn → Plays (Ends (next_default rest turn)) later next → is_last next ≡ true → DeliversState (FallingOff (mailbox ∷ rest) p) (front ++ later)
-by_default mailbox rest p turn front [] next h k passes = record {
-  flags = no_flags;
-  words = mailbox ∷ [];
-  mind = p;
-  delivers = (refl, refl, refl);
-  here = subst (DeliversHere no_flags (mailbox ∷ []) p) (sym (append-nil front)) (delivered_to no_flags (Some []) [] mailbox (mailbox ∷ []) p front turn h (last_default rest turn (sym (ap is_last k) ∙ passes)));
-}
+by_default mailbox rest p turn front [] next h k passes =
+    let here = delivered_to no_flags (Some []) [] mailbox (mailbox ∷ []) p front turn h (last_default rest turn (sym (ap is_last k) ∙ passes)) in
+    record {
+      flags = no_flags;
+      mind = p;
+      asked = [];
+      last = front;
+      whole = append-nil front;
+      final = here.final;
+      made = in_files (mailbox ∷ []) (refl, refl, refl, refl) here.usable here.filed;
+    }
 by_default mailbox rest p turn front (e ∷ later) next h k passes = absurd k
 
 -- the process is over as delivered
@@ -437,19 +526,17 @@ on_to n = λ next. elim next [ Stop z ↦ Ends None | Go t ↦ reach step n t ]
 at_once : (s : State) (front rest es : List Entry) → es ≡ front ++ rest → AreClosing rest → DeliversState s front → DeliversLast s es
 at_once s front rest es e closing d = record {
   before = [];
-  last = front;
+  asked = d.asked;
+  last = d.last;
   behind = rest;
-  whole = e;
+  whole = e ∙ ap (λ l. l ++ rest) d.whole;
   closing = closing;
   at = s;
   flags = d.flags;
-  words = d.words;
   mind = d.mind;
   comes = record { steps = zero; plays = refl };
-  delivers = d.delivers;
-  final = d.here.final;
-  usable = d.here.usable;
-  filed = d.here.filed;
+  final = d.final;
+  made = d.made;
 }
 
 regroup : (front before last behind : List Entry) → front ++ (before ++ last ++ behind) ≡ front ++ before ++ last ++ behind
@@ -458,19 +545,17 @@ regroup front before last behind = sym (append_assoc front (before ++ last) behi
 later : (s t : State) (front rest es : List Entry) → es ≡ front ++ rest → Plays (step s) front (Go t) → DeliversLast t rest → DeliversLast s es
 later s t front rest es e h d = record {
   before = front ++ d.before;
+  asked = d.asked;
   last = d.last;
   behind = d.behind;
-  whole = e ∙ ap (λ l. front ++ l) d.whole ∙ regroup front d.before d.last d.behind;
+  whole = e ∙ ap (λ l. front ++ l) d.whole ∙ regroup front d.before (d.asked ++ d.last) d.behind;
   closing = d.closing;
   at = d.at;
   flags = d.flags;
-  words = d.words;
   mind = d.mind;
   comes = record { steps = suc d.comes.steps; plays = plays_then (step s) (on_to d.comes.steps) front d.before (Go t) (Some d.at) h d.comes.plays };
-  delivers = d.delivers;
   final = d.final;
-  usable = d.usable;
-  filed = d.filed;
+  made = d.made;
 }
 
 -- a process that ends so is over, or came to where it delivers for good

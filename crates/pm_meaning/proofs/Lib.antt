@@ -1,5 +1,9 @@
 pub mod OneOutcome
 pub mod Unlocks
 pub mod NoDelivery
+pub mod OneFiled
 pub mod StoredDone
+pub mod ProgramDelivered
 pub mod DeliveredLast
+mod ProgramRows
+mod FolderRows

@@ -1,6 +1,6 @@
 -- The parts of plans, and what never ends a process as delivered.
 use Rattle.std.proofs.Common.{◌≡◌, ℕ, Bool, true, false, not, List, [], ◌∷◌, ◌++◌, Option, Some, None, refl, ap}
-use Rattle.std.specs.Prelude.{if◌then◌else◌, codes, ◌||◌, bytes_eq, nat_lt}
+use Rattle.std.specs.Prelude.{if◌then◌else◌, codes, bytes_eq, nat_lt}
 use Rattle.pm_bytes.specs.Path.{full_name}
 use Rattle.pm_bytes.specs.declared.environment.Environ.{Environ}
 use Rattle.pm_host.specs.declared.answers.Looked.TheVariants.{Folder as LookedFolder}
@@ -8,6 +8,7 @@ use Rattle.pm_message.specs.FromLine.{makes_line, prepared_of}
 use Rattle.pm_message.specs.Split.{split_of}
 use Rattle.pm_recipe.specs.Listed.{rc_of}
 use Rattle.pm_recipe.specs.Tree.{Top}
+use Rattle.pm_subst.specs.Commands.{commands_in}
 use Rattle.pm_subst.specs.declared.kinds.Mode.{Mode}
 use Rattle.pm_subst.specs.declared.kinds.Mode.TheVariants.{One}
 use Rattle.pm_journal.specs.LogText.{couldnt_read_line, no_delivery_line, unusable_name_line, couldnt_chdir_line, couldnt_lock_line, forcing_lock_line, no_lock_line}
@@ -22,12 +23,13 @@ use Rattle.pm_journal.specs.Plan.{Plan, Ends, Asks, and_then, ask, Plays}
 use Rattle.pm_journal.specs.Walking.{Next, Stop, Go}
 use Rattle.pm_meaning.specs.Changes.{with_variable, with_base, without_variable, entered}
 use Rattle.pm_meaning.specs.Minds.{Mind}
-use Rattle.pm_meaning.specs.Turns.{Turn, GoesOn, Halts, Enters, not_built, say_then, refuse_name, has_command, is_too_long, skip_value}
-use Rattle.pm_meaning.specs.Assigning.{is_later, leads_elsewhere, value_in, probed, change_folder, assigned, assign, unset}
+use Rattle.pm_meaning.specs.Outputs.{Outputs, outputs_of}
+use Rattle.pm_meaning.specs.Turns.{Turn, GoesOn, Halts, Enters, not_built, say_then, refuse_name, is_too_long, skip_value}
+use Rattle.pm_meaning.specs.Assigning.{is_later, leads_elsewhere, value_in, probed, change_folder, assigned, assign_with, assign, unset}
 use Rattle.pm_meaning.specs.FirstValues.{login_name}
 use Rattle.pm_meaning.specs.GlobalLock.{with_global, give_named, drop_lock, got_lock, take_lock, change_lock}
 use Rattle.pm_meaning.specs.Locks.{rule_of, with_lock}
-use Rattle.pm_meaning.specs.Blocks.{got_block_lock, lock_block, enter_under, enter, enter_block}
+use Rattle.pm_meaning.specs.Blocks.{got_block_lock, lock_block, enter_with, enter_under, enter, enter_block}
 use Rattle.pm_meaning.specs.Texts.{is_empty, is_file_text}
 use Rattle.pm_meaning.specs.Running.{State, Running, Leaving, Over, Closing, Item, renewal, begun, dated, prepare, unread, ahead, after_read}
 use Rattle.pm_meaning.specs.declared.command_line.CommandLine.{CommandLine}
@@ -67,6 +69,10 @@ pub never_said : {R : Type 0} (test : R → Bool) (p : Mind) (text : List ℕ) (
 never_said test p text next fails [] end h passes = h
 never_said test p text next fails (e ∷ es) end h passes = never_ends test next fails es end h.2 passes
 
+-- whatever comes first
+never_then : {R S : Type 0} (test : S → Bool) (p : Plan R) (f : R → Plan S) → ((r : R) → Never test (f r)) → Never test (and_then p f)
+never_then test p f never es end h passes = let k = parts_of p f es end h in never k.middle k.rest end k.plays_rest passes
+
 never_if : {R : Type 0} (test : R → Bool) (b : Bool) (p q : Plan R) → Never test p → Never test q → Never test (if b then p else q)
 never_if test true p q h k = h
 never_if test false p q h k = k
@@ -100,9 +106,9 @@ never_changed value p =
     never_if delivers (is_file_text value) (and_then (ask (Probe name)) (probed name p)) (say_then p (unusable_name_line value) (GoesOn p))
     (never_asked delivers (Probe name) (probed name p) (never_probed name p)) (never_told p (unusable_name_line value))
 
-pub never_skipped : (mode : Mode) (text : List ℕ) (p : Mind) → Never delivers (skip_value mode text p)
-never_skipped mode text p [] end h passes = h
-never_skipped mode text p (e ∷ es) end h passes = never_ends delivers (GoesOn _) refl es end h.2 passes
+pub never_skipped : (mode : Mode) (text : List ℕ) (outputs : List (List ℕ)) (p : Mind) → Never delivers (skip_value mode text outputs p)
+never_skipped mode text outputs p [] end h passes = h
+never_skipped mode text outputs p (e ∷ es) end h passes = never_ends delivers (GoesOn _) refl es end h.2 passes
 
 -- entering a block is no delivery
 never_locked_block : (name : List ℕ) (p : Mind) (reply : Reply) → Never delivers (got_block_lock name p reply)
@@ -122,15 +128,18 @@ never_block_lock text value p =
     (never_if delivers (holds_name p.locks name) (refuse_name text p) asked (never_told p (unusable_name_line text))
     (never_asked delivers act (got_block_lock name p) (never_locked_block name p)))
 
+never_under_with : (text : List ℕ) (outputs : List (List ℕ)) (p : Mind) → Never delivers (enter_with text outputs p)
+never_under_with text outputs p =
+    let locks = lock_block text (value_in p.vars outputs text) p in
+    never_if delivers (is_too_long One text p.vars outputs) (skip_value One text outputs p) locks (never_skipped One text outputs p) (never_block_lock text (value_in p.vars outputs text) p)
+
 never_under : (text : List ℕ) (p : Mind) → Never delivers (enter_under text p)
 never_under text p =
-    let locks = lock_block text (value_in p.vars text) p in
-    let sized : Plan Turn = if is_too_long One text p.vars then skip_value One text p else locks in
-    let runs : Plan Turn = if has_command One text then not_built p else sized in
+    let commands = outputs_of (commands_in One text) p in
+    let entered : Outputs → Plan Turn = λ ran. enter_with text ran.outputs ran.mind in
     let told : Plan Turn = say_then p (no_lock_line (codes "{")) (Enters None p) in
-    never_if delivers (is_empty text) told runs (never_said delivers p (no_lock_line (codes "{")) (Enters None p) refl)
-    (never_if delivers (has_command One text) (not_built p) sized (never_built p)
-    (never_if delivers (is_too_long One text p.vars) (skip_value One text p) locks (never_skipped One text p) (never_block_lock text (value_in p.vars text) p)))
+    never_if delivers (is_empty text) told (and_then commands entered) (never_said delivers p (no_lock_line (codes "{")) (Enters None p) refl)
+    (never_then delivers commands entered (λ ran. never_under_with text ran.outputs ran.mind))
 
 never_in : (lock : Option (List ℕ)) (p : Mind) → Never delivers (enter lock p)
 never_in None p = never_ends delivers (Enters None p) refl
@@ -173,12 +182,16 @@ never_set name value p =
     (never_built p) (never_if delivers (bytes_eq name (codes "MAILDIR")) (change_folder value q) lock (never_changed value q)
     (never_if delivers (bytes_eq name (codes "LOCKFILE")) (change_lock value q) (Ends (GoesOn q)) (never_changed_lock value q) (never_goes q)))
 
+never_assigned_with : (name text : List ℕ) (outputs : List (List ℕ)) (p : Mind) → Never delivers (assign_with name text outputs p)
+never_assigned_with name text outputs p =
+    never_if delivers (is_too_long One text p.vars outputs) (skip_value One text outputs p) (assigned name (value_in p.vars outputs text) p)
+    (never_skipped One text outputs p) (never_set name (value_in p.vars outputs text) p)
+
 pub never_assign : (name text : List ℕ) (p : Mind) → Never delivers (assign name text p)
 never_assign name text p =
-    let rest : Plan Turn = if is_too_long One text p.vars then skip_value One text p else assigned name (value_in p.vars text) p in
-    never_if delivers (is_later name || has_command One text) (not_built p) rest
-    (never_built p) (never_if delivers (is_too_long One text p.vars) (skip_value One text p) (assigned name (value_in p.vars text) p)
-    (never_skipped One text p) (never_set name (value_in p.vars text) p))
+    let commands = outputs_of (commands_in One text) p in
+    let given : Outputs → Plan Turn = λ ran. assign_with name text ran.outputs ran.mind in
+    never_if delivers (is_later name) (not_built p) (and_then commands given) (never_built p) (never_then delivers commands given (λ ran. never_assigned_with name text ran.outputs ran.mind))
 
 pub never_unset : (name : List ℕ) (p : Mind) → Never delivers (unset name p)
 never_unset name p =

@@ -5,6 +5,7 @@ use Rattle.pm_bytes.specs.Path.{full_name}
 use Rattle.pm_host.specs.declared.answers.Looked.TheVariants.{Folder}
 use Rattle.pm_vars.specs.Table.{Table}
 use Rattle.pm_meaning.specs.Texts.{is_empty, is_file_text}
+use Rattle.pm_subst.specs.Commands.{commands_in}
 use Rattle.pm_subst.specs.Words.{words_in}
 use Rattle.pm_subst.specs.declared.kinds.Mode.TheVariants.{One}
 use Rattle.pm_journal.specs.LogText.{skipped_line, unusable_name_line, couldnt_chdir_line}
@@ -14,7 +15,8 @@ use Rattle.pm_journal.specs.declared.acts.Reply.TheVariants.{Found}
 use Rattle.pm_journal.specs.Plan.{Plan, Ends, and_then, ask}
 use Rattle.pm_meaning.specs.Changes.{with_variable, without_variable, with_base}
 use Rattle.pm_meaning.specs.GlobalLock.{drop_lock, change_lock}
-use Rattle.pm_meaning.specs.Turns.{Turn, GoesOn, not_built, say_then, has_command, is_too_long, skip_value}
+use Rattle.pm_meaning.specs.Outputs.{outputs_of}
+use Rattle.pm_meaning.specs.Turns.{Turn, GoesOn, not_built, say_then, is_too_long, skip_value}
 use Rattle.pm_meaning.specs.Minds.{Mind}
 
 -- the name is among these
@@ -38,9 +40,9 @@ abbrev pub first_word : List (List ℕ) → List ℕ
 first_word [] = []
 first_word (word ∷ words) = word
 
--- the value that a text stands for
-abbrev pub value_in : Table → List ℕ → List ℕ
-value_in vars text = first_word (words_in One vars [] text)
+-- the value that a text stands for with these outputs of its commands
+abbrev pub value_in : Table → List (List ℕ) → List ℕ → List ℕ
+value_in vars outputs text = first_word (words_in One vars outputs text)
 
 -- names are seen from a folder that is there, and from no other
 abbrev pub probed : List ℕ → Mind → Reply → Plan Turn
@@ -61,16 +63,17 @@ assigned name value p =
     else if bytes_eq name (codes "LOCKFILE") then change_lock value (with_variable name value p)
     else Ends (GoesOn (with_variable name value p))
 
--- the assignment asks for what isn't built yet, whatever its value is
-abbrev pub waits : List ℕ → List ℕ → Bool
-waits name text = is_later name || has_command One text
+-- the value is expanded with these outputs of its commands, by the variables as they stand
+abbrev pub assign_with : List ℕ → List ℕ → List (List ℕ) → Mind → Plan Turn
+assign_with name text outputs p =
+    if is_too_long One text p.vars outputs then skip_value One text outputs p
+    else assigned name (value_in p.vars outputs text) p
 
--- the value is expanded by the variables as they stand
+-- the commands of the value are run before it is expanded
 abbrev pub assign : List ℕ → List ℕ → Mind → Plan Turn
 assign name text p =
-    if waits name text then not_built p
-    else if is_too_long One text p.vars then skip_value One text p
-    else assigned name (value_in p.vars text) p
+    if is_later name then not_built p
+    else and_then (outputs_of (commands_in One text) p) (λ ran. assign_with name text ran.outputs ran.mind)
 
 -- LOCKFILE's lock is given back; leaving an rcfile isn't built yet
 abbrev pub unset : List ℕ → Mind → Plan Turn

@@ -2,6 +2,7 @@
 use Rattle.std.specs.Prelude.{ℕ, not, nat_lt, List, Option, Some, None, codes, if◌then◌else◌}
 use Rattle.pm_bytes.specs.Path.{full_name}
 use Rattle.pm_recipe.specs.Tree.{Top, Act, Block}
+use Rattle.pm_subst.specs.Commands.{commands_in}
 use Rattle.pm_subst.specs.declared.kinds.Mode.TheVariants.{One}
 use Rattle.pm_journal.specs.Held.{holds_name, without}
 use Rattle.pm_journal.specs.Locking.{lock_act}
@@ -10,14 +11,15 @@ use Rattle.pm_journal.specs.declared.acts.Act.TheVariants.{Unlock}
 use Rattle.pm_journal.specs.declared.acts.Reply.{Reply}
 use Rattle.pm_journal.specs.declared.acts.Reply.TheVariants.{Held}
 use Rattle.pm_journal.specs.Plan.{Plan, Ends, and_then, ask}
+use Rattle.pm_meaning.specs.Acting.{act_on}
 use Rattle.pm_meaning.specs.Chains.{new_chain, with_chain, succeeded}
-use Rattle.pm_meaning.specs.Delivering.{act_on}
 use Rattle.pm_meaning.specs.Assigning.{value_in}
 use Rattle.pm_meaning.specs.GlobalLock.{after_giving}
 use Rattle.pm_meaning.specs.Locks.{rule_of, with_lock}
+use Rattle.pm_meaning.specs.Outputs.{outputs_of}
 use Rattle.pm_meaning.specs.Texts.{is_empty, is_file_text}
 use Rattle.pm_meaning.specs.Minds.{Mind}
-use Rattle.pm_meaning.specs.Turns.{Turn, GoesOn, Enters, not_built, say_then, refuse_name, has_command, is_too_long, skip_value}
+use Rattle.pm_meaning.specs.Turns.{Turn, GoesOn, Enters, not_built, say_then, refuse_name, is_too_long, skip_value}
 use Rattle.pm_meaning.specs.declared.chain.Chain.{Chain}
 
 -- the block is entered under its lock; that it was forced, or that it wasn't got, is told
@@ -34,13 +36,16 @@ lock_block text value p =
     else if holds_name p.locks (full_name p.base value) then refuse_name text p
     else and_then (ask (lock_act (full_name p.base value) (rule_of p.vars))) (got_block_lock (full_name p.base value) p)
 
+-- the lock's text is expanded with these outputs of its commands
+abbrev pub enter_with : List ℕ → List (List ℕ) → Mind → Plan Turn
+enter_with text outputs p =
+    if is_too_long One text p.vars outputs then skip_value One text outputs p else lock_block text (value_in p.vars outputs text) p
+
 -- the block is entered under the lock of this text; one without a text isn't there for a block, which is told
 abbrev pub enter_under : List ℕ → Mind → Plan Turn
 enter_under text p =
     if is_empty text then say_then p (no_lock_line (codes "{")) (Enters None p)
-    else if has_command One text then not_built p
-    else if is_too_long One text p.vars then skip_value One text p
-    else lock_block text (value_in p.vars text) p
+    else and_then (outputs_of (commands_in One text) p) (λ ran. enter_with text ran.outputs ran.mind)
 
 -- the block is entered, under a lock where one is asked for
 abbrev pub enter : Option (List ℕ) → Mind → Plan Turn

@@ -1,5 +1,5 @@
 -- How a process changes.
-use Rattle.std.specs.Prelude.{ℕ, Bool, not, List, codes, nat_eq, if◌then◌else◌}
+use Rattle.std.specs.Prelude.{ℕ, ◌+◌, Bool, not, List, codes, nat_eq, if◌then◌else◌}
 use Rattle.std.specs.List.{starts_with}
 use Rattle.pm_vars.specs.Variables.{value_of, with_value, without}
 use Rattle.pm_meaning.specs.Texts.{is_unset_or_empty}
@@ -30,6 +30,10 @@ entered name p =
 -- a value was too long
 abbrev pub overflowed : Mind → Mind
 overflowed p = with_variable (codes "PROCMAIL_OVERFLOW") (codes "yes") p
+
+-- one more piece was filed in a folder, or tried
+abbrev pub counted : Mind → Mind
+counted p = record p { placed = p.placed + 1 }
 
 -- the mail was delivered to this destination
 abbrev pub stored_in : List ℕ → Mind → Mind

@@ -114,4 +114,5 @@ first_process filter env message = record {
   locks = [];
   global = None;
   chain = new_chain;
+  placed = 0;
 }

@@ -1,34 +1,133 @@
 -- What comes of a recipe's conditions before its action.
-use Rattle.std.specs.Prelude.{not, if◌then◌else◌}
+use Rattle.std.specs.Prelude.{ℕ, zero, suc, ℤ, pos, Bool, false, not, drop, List, [], ◌∷◌, Option, Some, None, if◌then◌else◌}
+use Rattle.std.specs.List.{list_any}
+use Rattle.pm_host.specs.declared.command.Command.{Command}
 use Rattle.pm_recipe.specs.Tree.{Top}
+use Rattle.pm_recipe.specs.declared.tree.Condition.{Condition}
 use Rattle.pm_recipe.specs.declared.tree.Flags.{Flags}
 use Rattle.pm_vars.specs.Table.{Table}
-use Rattle.pm_conds.specs.Searching.{Sight}
-use Rattle.pm_conds.specs.Judging.{Judgement, judged}
+use Rattle.pm_subst.specs.Commands.{commands_in}
+use Rattle.pm_subst.specs.Words.{words_in}
+use Rattle.pm_subst.specs.declared.kinds.Mode.TheVariants.{Quoted}
+use Rattle.pm_conds.specs.Leads.{Asking, asking_of, asked, behind_blanks}
+use Rattle.pm_conds.specs.Searching.{Sight, sight_of, input_in}
+use Rattle.pm_conds.specs.Judging.{Course, judged_one, test_outcome, exited, is_expanded, is_program, question_by, with_score, is_weighted}
+use Rattle.pm_conds.specs.Weighing.{end_of_all}
+use Rattle.pm_conds.specs.declared.question.Outcome.{Outcome}
+use Rattle.pm_conds.specs.declared.question.Outcome.TheVariants as outcome
+use Rattle.pm_conds.specs.declared.question.Question.{Question}
 use Rattle.pm_conds.specs.declared.question.Verdict.{Verdict}
-use Rattle.pm_conds.specs.declared.question.Verdict.TheVariants.{Matched, Unmatched, Defective, TooLong, NotBuilt}
+use Rattle.pm_conds.specs.declared.question.Verdict.TheVariants.{Matched, Unmatched, Defective, TooLong}
 use Rattle.pm_journal.specs.LogText.{defective_condition_line, value_too_long_line}
-use Rattle.pm_journal.specs.Plan.{Plan, Ends}
+use Rattle.pm_journal.specs.Outcomes.{run_end}
+use Rattle.pm_journal.specs.declared.acts.Act.TheVariants.{Run}
+use Rattle.pm_journal.specs.Plan.{Plan, Ends, and_then, ask}
+use Rattle.pm_meaning.specs.Assigning.{first_word}
 use Rattle.pm_meaning.specs.Chains.{is_admitted, passed, executed}
 use Rattle.pm_meaning.specs.Changes.{overflowed}
 use Rattle.pm_meaning.specs.Minds.{Mind}
-use Rattle.pm_meaning.specs.Turns.{Turn, GoesOn, not_built, say_then}
+use Rattle.pm_meaning.specs.Outputs.{outputs_of, read_line, tell_run}
+use Rattle.pm_meaning.specs.Programs.{code_of, with_code}
+use Rattle.pm_meaning.specs.Turns.{Turn, GoesOn, say_then, is_too_long, length_in}
+use Rattle.pm_meaning.specs.declared.process.ProgramLine.{ProgramLine}
+use Rattle.pm_meaning.specs.declared.process.ProgramLine.TheVariants as line
 
 -- what the conditions see of a process
 abbrev pub seen : Flags → Mind → Sight
-seen flags p = record { flags = flags; message = p.message; vars = p.vars }
-
--- what comes of the conditions
-abbrev pub judgement : Top → Mind → Judgement
-judgement top p = judged top.conditions (seen top.flags p)
+seen flags p = sight_of flags p.message p.vars
 
 -- the process with these variables
 abbrev pub with_table : Table → Mind → Mind
 with_table vars p = record p { vars = vars }
 
--- the process behind the conditions, of which each that matches may have set MATCH
-abbrev pub behind_conditions : Top → Mind → Mind
-behind_conditions top p = with_table (judgement top p).vars p
+-- what came of a condition, and the process then
+pub record Come : Type 0 where
+  pub outcome : Outcome
+  pub mind : Mind
+
+-- the same of its parts
+abbrev pub come_with : Outcome → Mind → Come
+come_with outcome p = record { outcome = outcome; mind = p }
+
+-- the program of this line gets what the condition names, and its exit code decides
+abbrev pub ask_program : Command → List ℕ → Flags → Question → Mind → Plan Come
+ask_program command text flags question p =
+    and_then (ask (Run command (input_in question.scope (seen flags p)) false))
+    (λ reply. tell_run (run_end reply) text (with_code reply p) (come_with (exited question (code_of (run_end reply))) (with_code reply p)))
+
+-- the program by its line; one that can't be run makes the condition a defect
+abbrev pub by_line : ProgramLine → List ℕ → Flags → Question → Mind → Plan Come
+by_line (line.Runs command) text flags question p = ask_program command text flags question p
+by_line line.NoWords text flags question p = Ends (come_with outcome.Defective p)
+by_line line.Unusable text flags question p = Ends (come_with outcome.Defective p)
+by_line (line.TooLong size) text flags question p = Ends (come_with (outcome.TooLong size) p)
+
+-- a program's line is read, and its program is asked
+abbrev pub ask_line : List ℕ → Flags → Question → Mind → Plan Come
+ask_line text flags question p = and_then (read_line text p) (λ read. by_line read.line text flags question read.mind)
+
+-- `?` asks a program, and anything else the mail or a variable
+abbrev pub tested : Flags → Asking → Mind → Plan Come
+tested flags asking p =
+    if is_program asking.text then ask_line (behind_blanks (drop 1 asking.text)) flags asking.question p
+    else Ends (come_with (test_outcome asking (seen flags p)) p)
+
+-- a text as if inside double quotes, with these outputs of its commands, is read again
+abbrev pub read_again : List ℕ → List (List ℕ) → Question → Mind → (Asking → Mind → Plan Come) → Plan Come
+read_again text outputs question p go_on =
+    if is_too_long Quoted text p.vars outputs then Ends (come_with (outcome.TooLong (length_in Quoted text p.vars outputs)) p)
+    else go_on (asking_of (behind_blanks (first_word (words_in Quoted p.vars outputs text))) question) p
+
+-- the commands of a text behind `$` are run, and then it is expanded
+abbrev pub expanded : List ℕ → Question → Mind → (Asking → Mind → Plan Come) → Plan Come
+expanded text question p go_on = and_then (outputs_of (commands_in Quoted text) p) (λ ran. read_again text ran.outputs question ran.mind go_on)
+
+-- what comes of what is asked; a text behind `$` is read again, so many times at most
+abbrev pub comes_within : ℕ → Flags → Asking → Mind → Plan Come
+comes_within zero flags asking p =
+    if is_expanded (asked asking).text then Ends (come_with outcome.Defective p) else tested flags (asked asking) p
+comes_within (suc n) flags asking p =
+    if is_expanded (asked asking).text then
+    expanded (drop 1 (asked asking).text) (asked asking).question p (λ next q. comes_within n flags next q)
+    else tested flags (asked asking) p
+
+-- what comes of a text by its question: a ninth `$` makes it a defect, and so does a weight out of its range
+abbrev pub comes_by : Option Question → Flags → List ℕ → Mind → Plan Come
+comes_by None flags text p = Ends (come_with outcome.Defective p)
+comes_by (Some question) flags text p = comes_within 8 flags (asking_of text question) p
+
+-- what comes of a condition
+abbrev pub comes_of : Condition → Flags → Mind → Plan Come
+comes_of condition flags p = comes_by (question_by condition.weight) flags condition.text p
+
+-- what came of all conditions, and the process then
+pub record Judged : Type 0 where
+  pub verdict : Verdict
+  pub mind : Mind
+
+-- the same of its parts
+abbrev pub judged_with : Verdict → Mind → Judged
+judged_with verdict p = record { verdict = verdict; mind = p }
+
+-- what came of the conditions, as far as they were judged; `$=` is the score of a recipe that has a weight
+abbrev pub scored_with : Bool → Verdict → ℤ → Mind → Judged
+scored_with weighted end total p = judged_with end (with_table (with_score weighted total p.vars) p)
+
+-- a condition ended it, or the rest comes
+abbrev pub judged_by : Bool → Course → Mind → (ℤ → Mind → Plan Judged) → Plan Judged
+judged_by weighted course p go_on =
+    elim course.end [ None ↦ go_on course.total (with_table course.vars p) | Some end ↦ Ends (scored_with weighted end course.total (with_table course.vars p)) ]
+
+-- they are judged in order, up to one that ends it
+abbrev pub judge_each : Bool → Flags → List Condition → ℤ → Mind → Plan Judged
+judge_each weighted flags [] total p = Ends (scored_with weighted (end_of_all weighted total) total p)
+judge_each weighted flags (condition ∷ rest) total p =
+    and_then (comes_of condition flags p)
+    (λ come. judged_by weighted (judged_one condition.text come.outcome total come.mind.vars) come.mind (λ score q. judge_each weighted flags rest score q))
+
+-- the conditions of a recipe; the score begins at 0
+abbrev pub judge : List Condition → Flags → Mind → Plan Judged
+judge conditions flags p = judge_each (list_any is_weighted conditions) flags conditions (pos 0) p
 
 -- where the conditions hold this comes; what is no condition, and a value that is too long, is told
 abbrev pub by_verdict : Verdict → Mind → Plan Turn → Plan Turn
@@ -36,10 +135,13 @@ by_verdict Matched p acts = acts
 by_verdict Unmatched p acts = Ends (GoesOn p)
 by_verdict (Defective text) p acts = say_then p (defective_condition_line text) (GoesOn p)
 by_verdict (TooLong size) p acts = say_then p (value_too_long_line size) (GoesOn (overflowed p))
-by_verdict NotBuilt p acts = not_built p
+
+-- what comes behind the conditions
+abbrev pub behind_conditions : Flags → (Mind → Plan Turn) → Judged → Plan Turn
+behind_conditions flags acts judged = by_verdict judged.verdict (passed flags judged.mind) (acts (executed flags judged.mind))
 
 -- a recipe that its flags admit is judged, and acted on only where its conditions hold
 abbrev pub judge_first : Top → (Mind → Plan Turn) → Mind → Plan Turn
 judge_first top acts p =
     if not (is_admitted top.flags p.chain) then Ends (GoesOn (passed top.flags p))
-    else by_verdict (judgement top p).verdict (passed top.flags (behind_conditions top p)) (acts (executed top.flags (behind_conditions top p)))
+    else and_then (judge top.conditions top.flags p) (λ judged. behind_conditions top.flags acts judged)

@@ -1,30 +1,41 @@
 -- Laws of plans and processes.
-use Rattle.std.specs.Prelude.{◌≡◌, ℕ, true, false, List, [], ◌∷◌, ◌++◌, Option, Some, None, if◌then◌else◌}
-use Rattle.pm_bytes.specs.Path.{full_name}
+use Rattle.std.specs.Prelude.{◌≡◌, ◌⊎◌, ℕ, true, false, List, [], ◌∷◌, ◌++◌, map, Option, Some, None, length, cond}
 use Rattle.pm_bytes.specs.declared.environment.Environ.{Environ}
-use Rattle.pm_recipe.specs.Tree.{Mailbox, Recipe}
+use Rattle.pm_host.specs.declared.command.Command.{Command}
+use Rattle.pm_recipe.specs.Tree.{Top, Act as Action, Mailbox, Pipe, WriteOut as WriteOutAction, Recipe}
 use Rattle.pm_recipe.specs.declared.tree.Flags.{Flags}
+use Rattle.pm_subst.specs.Commands.{commands_in}
 use Rattle.pm_subst.specs.Words.{words_in}
-use Rattle.pm_subst.specs.declared.kinds.Mode.TheVariants.{Many}
+use Rattle.pm_subst.specs.declared.kinds.Mode.TheVariants.{One, Many}
 use Rattle.pm_journal.specs.Plan.{Plan, Plays, Wants}
 use Rattle.pm_journal.specs.Walking.{Next, Means, ArrivesAt}
 use Rattle.pm_journal.specs.declared.acts.Act.{Act}
-use Rattle.pm_journal.specs.declared.acts.Act.TheVariants.{Append, Unlock, SayErr}
-use Rattle.pm_journal.specs.declared.acts.Reply.TheVariants.{Done, Held}
+use Rattle.pm_journal.specs.declared.acts.Act.TheVariants.{Append, Place, Unlock, Run, SayErr, WriteOut, Moment}
+use Rattle.pm_journal.specs.declared.acts.Reply.TheVariants.{Done as AppendDone, IsFolder, Placed, Held, Wrote}
+use Rattle.pm_journal.specs.Outcomes.{run_end}
 use Rattle.pm_journal.specs.Locking.{lock_act}
 use Rattle.pm_journal.specs.declared.locking.LockRule.{LockRule}
 use Rattle.pm_journal.specs.declared.acts.Entry.{Entry}
-use Rattle.pm_meaning.specs.Delivering.{Filing, mailbox_piece, are_file_texts, file_all}
+use Rattle.pm_journal.specs.declared.placing.FolderKind.{FolderKind}
+use Rattle.pm_journal.specs.declared.placing.FolderKind.TheVariants.{Plain}
+use Rattle.pm_journal.specs.declared.placing.Stamp.{Stamp}
+use Rattle.pm_meaning.specs.Delivering.{Filing, mailbox_piece, folder_piece, file_all, Ready, make_ready}
+use Rattle.pm_meaning.specs.Destinations.{destination_of, full_of, are_file_texts}
 use Rattle.pm_meaning.specs.Chains.{is_admitted, executed}
-use Rattle.pm_meaning.specs.Locks.{is_nothing}
+use Rattle.pm_meaning.specs.Locks.{is_nothing, text_or}
 use Rattle.pm_conds.specs.declared.question.Verdict.TheVariants.{Matched}
-use Rattle.pm_meaning.specs.Judging.{judgement, behind_conditions}
+use Rattle.pm_meaning.specs.Judging.{judge, judged_with}
 use Rattle.pm_meaning.specs.Minds.{Mind}
+use Rattle.pm_meaning.specs.ProgramActions.{feed_outcome, fed_piece}
+use Rattle.pm_meaning.specs.Programs.{line_of}
 use Rattle.pm_meaning.specs.Running.{State, Arrived, Running, FallingOff, Do, no_flags, step}
 use Rattle.pm_meaning.specs.declared.command_line.CommandLine.{CommandLine}
+use Rattle.pm_meaning.specs.declared.process.Destination.{Destination}
 use Rattle.pm_meaning.specs.declared.process.End.TheVariants.{Delivered}
 use Rattle.pm_meaning.specs.declared.process.Ending.{Ending}
 use Rattle.pm_meaning.specs.declared.process.Filed.TheVariants.{Stored}
+use Rattle.pm_meaning.specs.declared.process.Outcome.TheVariants.{Done}
+use Rattle.pm_meaning.specs.declared.process.ProgramLine.TheVariants.{Runs}
 
 -- over the same entries a plan that ends wants no act
 abbrev pub EndsOrWants : Type 0
@@ -34,27 +45,34 @@ EndsOrWants = (plan : Plan (Next State Ending)) (entries : List Entry) (end : Ne
 abbrev pub OneEnd : Type 0
 OneEnd = (s : State) (entries : List Entry) (first second : Ending) → Means step s entries first → Means step s entries second → first ≡ second
 
--- `/dev/null` is no file
-abbrev pub with_file : List ℕ → List (List ℕ) → List (List ℕ)
-with_file name names = if is_nothing name then names else name ∷ names
+-- the piece was filed in this folder
+abbrev pub IsPlaced : FolderKind → List ℕ → List ℕ → List Entry → Type 0
+IsPlaced kind folder piece (m ∷ e ∷ []) =
+    (prefix : List ℕ) × (stamp : Stamp) × (name : List ℕ) × (m.act ≡ Moment) × (e.act ≡ Place kind folder prefix piece stamp) × (e.reply ≡ Placed name)
+IsPlaced kind folder piece other = ⊥
 
--- the files among these destinations
-abbrev pub files_of : List ℕ → List (List ℕ) → List (List ℕ)
-files_of base [] = []
-files_of base (word ∷ words) = with_file (full_name base word) (files_of base words)
+-- the first piece was appended to this file; or a folder stood there, in which the second one was filed
+abbrev pub IsAppended : List ℕ → List ℕ → List ℕ → List Entry → Type 0
+IsAppended name mail own [] = ⊥
+IsAppended name mail own (e ∷ es) =
+    (e.act ≡ Append name mail) × (((e.reply ≡ AppendDone) × (es ≡ [])) ⊎ ((e.reply ≡ IsFolder) × IsPlaced Plain name own es))
 
--- these entries are done appends of the piece to these files, in order
-abbrev pub AreDone : List ℕ → List (List ℕ) → List Entry → Type 0
-AreDone piece [] [] = Unit {0}
-AreDone piece (name ∷ names) (e ∷ es) = (e.act ≡ Append name piece) × (e.reply ≡ Done) × AreDone piece names es
-AreDone piece [] (e ∷ es) = ⊥
-AreDone piece (name ∷ names) [] = ⊥
+-- by these entries a destination got the mail; `/dev/null` takes it without any
+abbrev pub HasMail : Option FolderKind → List ℕ → List ℕ → List ℕ → List Entry → Type 0
+HasMail None name mail own es = cond (is_nothing name) (es ≡ []) (IsAppended name mail own es)
+HasMail (Some kind) name mail own es = IsPlaced kind name own es
 
--- over entries with which all destinations have the mail, the piece was appended to each file among them
+-- by these entries each destination got the mail, one after the other
+abbrev pub AllHave : List ℕ → List ℕ → List ℕ → List Destination → List Entry → Type 0
+AllHave base mail own [] es = es ≡ []
+AllHave base mail own (d ∷ ds) es =
+    (front : List Entry) × (rest : List Entry) × (es ≡ front ++ rest) × HasMail d.kind (full_of base d) mail own front × AllHave base mail own ds rest
+
+-- over entries with which all destinations have the mail, each got it
 abbrev pub StoredIsDone : Type 0
 StoredIsDone =
-    (flags : Flags) (words : List (List ℕ)) (p : Mind) (entries : List Entry) (filing : Filing) → Plays (file_all flags words p) entries filing
-    → filing.filed ≡ Stored → AreDone (mailbox_piece flags p) (files_of p.base words) entries
+    (flags : Flags) (destinations : List Destination) (p : Mind) (entries : List Entry) (filing : Filing) → Plays (file_all flags destinations p) entries filing
+    → filing.filed ≡ Stored → AllHave p.base (mailbox_piece flags p) (folder_piece flags p) destinations entries
 
 -- this lock, where one is wanted, was got
 abbrev pub IsGot : Option (List ℕ) → List Entry → Type 0
@@ -73,28 +91,37 @@ abbrev pub AreLines : List Entry → Type 0
 AreLines [] = Unit {0}
 AreLines (e ∷ es) = (line : List ℕ) × (e.act ≡ SayErr line) × AreLines es
 
--- The piece was appended to each of these files in order, each of which is done; a lock, if any was wanted, was got before and its
--- removal asked for once behind; and lines were told then.
-pub record IsFiled (piece : List ℕ) (names : List (List ℕ)) (entries : List Entry) : Type 0 where
+-- Each of these destinations got the mail, in order; a lock, if any was wanted, was got before and its removal asked for once behind;
+-- and lines were told then.
+pub record IsFiled (flags : Flags) (destinations : List Destination) (p : Mind) (entries : List Entry) : Type 0 where
   pub lock : Option (List ℕ)
   pub got : List Entry
-  pub appends : List Entry
+  pub deliveries : List Entry
   pub given : List Entry
   pub lines : List Entry
-  pub whole : entries ≡ got ++ (appends ++ (given ++ lines))
+  pub whole : entries ≡ got ++ (deliveries ++ (given ++ lines))
   pub is_got : IsGot lock got
-  pub done : AreDone piece names appends
+  pub done : AllHave p.base (mailbox_piece flags p) (folder_piece flags p) destinations deliveries
   pub is_given : IsGiven lock given
   pub are_lines : AreLines lines
 
--- where a process stands so, it delivers by these flags to these destinations: a recipe that is admitted and whose conditions hold to those
--- of its text, and one that falls off to a default mailbox
-abbrev pub DeliversAt : State → Flags → List (List ℕ) → Mind → Type 0
-DeliversAt (Running (Do (Recipe top (Mailbox text)) ∷ rest) p) flags words mind =
-    (is_admitted top.flags p.chain ≡ true) × ((judgement top p).verdict ≡ Matched) × (flags ≡ top.flags)
-    × (words ≡ words_in Many (behind_conditions top p).vars [] text) × (mind ≡ executed top.flags (behind_conditions top p))
-DeliversAt (FallingOff (mailbox ∷ rest) p) flags words mind = (flags ≡ no_flags) × (words ≡ mailbox ∷ []) × (mind ≡ p)
-DeliversAt other flags words mind = ⊥
+-- The recipe is admitted, over the first of these entries its conditions hold, and over the others the commands of its texts are run.
+pub record IsReady (top : Top) (text : List ℕ) (p : Mind) (entries : List Entry) (ready : Ready) : Type 0 where
+  pub admitted : is_admitted top.flags p.chain ≡ true
+  pub judged : List Entry
+  pub ran : List Entry
+  pub whole : entries ≡ judged ++ ran
+  pub mind : Mind
+  pub holds : Plays (judge top.conditions top.flags p) judged (judged_with Matched mind)
+  pub runs : Plays (make_ready (commands_in One (text_or [] top.lock)) (commands_in Many text) (executed top.flags mind)) ran ready
+
+-- where a process stands so, it delivers behind these entries by these flags to these destinations: a recipe whose conditions hold to those
+-- of its text, with the outputs of its commands, and one that falls off to a default mailbox
+abbrev pub DeliversAt : State → List Entry → Flags → List (List ℕ) → Mind → Type 0
+DeliversAt (Running (Do (Recipe top (Mailbox text)) ∷ rest) p) asked flags words mind =
+    (ready : Ready) × IsReady top text p asked ready × (flags ≡ top.flags) × (words ≡ words_in Many ready.mind.vars ready.outputs text) × (mind ≡ ready.mind)
+DeliversAt (FallingOff (mailbox ∷ rest) p) asked flags words mind = (asked ≡ []) × (flags ≡ no_flags) × (words ≡ mailbox ∷ []) × (mind ≡ p)
+DeliversAt other asked flags words mind = ⊥
 
 -- it removes a lock file, or says a line on `err`
 abbrev pub IsClosing : Act → Type 0
@@ -107,25 +134,67 @@ abbrev pub AreClosing : List Entry → Type 0
 AreClosing [] = Unit {0}
 AreClosing (e ∷ es) = IsClosing e.act × AreClosing es
 
--- Over the entries before, the process comes to where it delivers for good; the next entries file its piece to all the files
--- among the destinations, and behind them locks are given back, lines are told, and nothing else is done.
+-- the recipe is admitted, and over these entries its conditions hold
+pub record IsExecuted (top : Top) (p : Mind) (entries : List Entry) (mind : Mind) : Type 0 where
+  pub admitted : is_admitted top.flags p.chain ≡ true
+  pub judged : Mind
+  pub holds : Plays (judge top.conditions top.flags p) entries (judged_with Matched judged)
+  pub mind_is : mind ≡ executed top.flags judged
+
+-- where a process stands so, it comes over these entries to this action of a recipe that is executed
+abbrev pub ComesTo : State → List Entry → Action → Flags → Mind → Type 0
+ComesTo (Running (Do (Recipe top act) ∷ rest) p) asked action flags mind = (act ≡ action) × IsExecuted top p asked mind × (flags ≡ top.flags)
+ComesTo other asked action flags mind = ⊥
+
+-- One act alone that passes: a lock, if any was wanted, was got before and its removal asked for once behind, and lines were told
+-- before and then.
+pub record IsOneAct (Passes : Entry → Type 0) (entries : List Entry) : Type 0 where
+  pub lock : Option (List ℕ)
+  pub told : List Entry
+  pub got : List Entry
+  pub act : Entry
+  pub given : List Entry
+  pub lines : List Entry
+  pub whole : entries ≡ told ++ (got ++ (act ∷ (given ++ lines)))
+  pub are_told : AreLines told
+  pub is_got : IsGot lock got
+  pub passes : Passes act
+  pub is_given : IsGiven lock given
+  pub are_lines : AreLines lines
+
+-- the program was run with this input, and by these flags it didn't fail
+pub record IsFed (flags : Flags) (command : Command) (input : List ℕ) (e : Entry) : Type 0 where
+  pub act_is : e.act ≡ Run command input false
+  pub done : feed_outcome flags (length input) (run_end e.reply) ≡ Done
+
+-- the piece was written to standard output whole
+pub record IsWritten (piece : List ℕ) (e : Entry) : Type 0 where
+  pub act_is : e.act ≡ WriteOut piece
+  pub done : e.reply ≡ Wrote
+
+-- how the mail is delivered for good: to mailboxes, to the program of the line, or to standard output
+pub data IsMade (at : State) (asked : List Entry) (flags : Flags) (mind : Mind) (entries : List Entry) : Type 0 where
+  in_files : (words : List (List ℕ)) → DeliversAt at asked flags words mind → are_file_texts words ≡ true → IsFiled flags (map destination_of words) mind entries → IsMade at asked flags mind entries
+  by_program : (line : List ℕ) (command : Command) → ComesTo at asked (Pipe line) flags mind → line_of [] line mind ≡ Runs command → IsOneAct (IsFed flags command (fed_piece flags mind)) entries → IsMade at asked flags mind entries
+  by_output : ComesTo at asked WriteOutAction flags mind → IsOneAct (IsWritten (fed_piece flags mind)) entries → IsMade at asked flags mind entries
+
+-- Over the entries before, the process comes to where it delivers for good; over the next it becomes ready to; the last deliver the
+-- mail there, and behind them locks are given back, lines are told, and nothing else is done.
 pub record DeliversLast (s : State) (entries : List Entry) : Type 0 where
   pub before : List Entry
+  pub asked : List Entry
   pub last : List Entry
   pub behind : List Entry
-  pub whole : entries ≡ before ++ last ++ behind
+  pub whole : entries ≡ before ++ (asked ++ last) ++ behind
   pub closing : AreClosing behind
   pub at : State
   pub flags : Flags
-  pub words : List (List ℕ)
   pub mind : Mind
   pub comes : ArrivesAt {X = Ending} step s before at
-  pub delivers : DeliversAt at flags words mind
   pub final : flags.copy ≡ false
-  pub usable : are_file_texts words ≡ true
-  pub filed : IsFiled (mailbox_piece flags mind) (files_of mind.base words) last
+  pub made : IsMade at asked flags mind last
 
--- a process ends as delivered only where its last acts are such appends
+-- a process ends as delivered only where its last acts deliver the mail so
 abbrev pub DeliveredIsDone : Type 0
 DeliveredIsDone =
     (line : CommandLine) (env : Environ) (bytes : List ℕ) (entries : List Entry) (ending : Ending) → Means step (Arrived line env bytes) entries ending

@@ -5,10 +5,15 @@ pub mod CommandLine
 pub mod FirstValues
 pub mod Changes
 pub mod Turns
+pub mod Destinations
 pub mod Locks
+pub mod Programs
+pub mod Outputs
 pub mod GlobalLock
 pub mod Assigning
 pub mod Delivering
+pub mod ProgramActions
+pub mod Acting
 pub mod Blocks
 pub mod Judging
 pub mod Running

@@ -10,6 +10,7 @@ use Rattle.pm_journal.specs.Locking.{lock_rule}
 use Rattle.pm_journal.specs.declared.acts.Reply.{Reply}
 use Rattle.pm_journal.specs.declared.acts.Reply.TheVariants.{Faulted}
 use Rattle.pm_journal.specs.declared.locking.LockRule.{LockRule}
+use Rattle.pm_meaning.specs.Destinations.{without_ending}
 use Rattle.pm_meaning.specs.Texts.{is_empty, is_file_text}
 use Rattle.pm_meaning.specs.Minds.{Mind}
 
@@ -44,10 +45,11 @@ rule_of vars = lock_rule (number_or 8 (codes "LOCKSLEEP") vars) (number_or 1024 
 abbrev pub is_nothing : List ℕ → Bool
 is_nothing name = bytes_eq name (codes "/dev/null")
 
--- the first destination's name with LOCKEXT; `/dev/null` has no lock file
+-- the first destination's name, without a folder's ending, with LOCKEXT; `/dev/null` has no lock file
 abbrev pub automatic_lock : List (List ℕ) → Mind → Option (List ℕ)
 automatic_lock [] p = None
-automatic_lock (word ∷ words) p = if is_nothing (full_name p.base word) then None else Some (word ++ value_or (codes ".lock") (codes "LOCKEXT") p.vars)
+automatic_lock (word ∷ words) p =
+    if is_nothing (full_name p.base word) then None else Some (without_ending word ++ value_or (codes ".lock") (codes "LOCKEXT") p.vars)
 
 -- the lock file that a recipe asks for, by the text behind its second colon and what that expands to: without a text the automatic one
 abbrev pub lock_word : Option (List ℕ) → List ℕ → List (List ℕ) → Mind → Option (List ℕ)

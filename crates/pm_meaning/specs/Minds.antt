@@ -6,8 +6,8 @@ use Rattle.pm_meaning.specs.declared.chain.Chain.{Chain}
 use Rattle.pm_meaning.specs.declared.process.Process.{Process}
 
 -- The state of a process: the message that it delivers, its variables, the folder from which names are seen, the host's
--- name, whether it is a mail filter, the locks that it holds, the last taken first, which of them is LOCKFILE's, and what came of
--- the recipes before.
+-- name, whether it is a mail filter, the locks that it holds, the last taken first, which of them is LOCKFILE's, what came of
+-- the recipes before, and how many times the run has filed mail in a folder, or tried to.
 pub record Mind : Type 0 where
   pub filter : Bool
   pub message : Message
@@ -17,6 +17,7 @@ pub record Mind : Type 0 where
   pub locks : List (List ℕ)
   pub global : Option (List ℕ)
   pub chain : Chain
+  pub placed : ℕ
 
 -- how much room there is for more locks isn't spoken of
 abbrev pub mind_of : Process → Mind
@@ -29,4 +30,5 @@ mind_of p = record {
   locks = p.locks.names;
   global = p.global;
   chain = p.chain;
+  placed = p.placed;
 }

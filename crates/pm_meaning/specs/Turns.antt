@@ -1,5 +1,5 @@
 -- What comes of a statement, and what every statement may ask for.
-use Rattle.std.specs.Prelude.{ℕ, Bool, not, ◌-◌, ◌^◌, min, nat_eq, nat_lt, length, List, [], Option}
+use Rattle.std.specs.Prelude.{ℕ, Bool, not, ◌-◌, ◌^◌, min, nat_eq, nat_lt, length, List, Option}
 use Rattle.pm_vars.specs.Table.{Table}
 use Rattle.pm_subst.specs.Commands.{commands_in}
 use Rattle.pm_subst.specs.Words.{size_in}
@@ -39,10 +39,14 @@ refuse_name text p = say_then p (unusable_name_line text) (GoesOn p)
 abbrev pub has_command : Mode → List ℕ → Bool
 has_command mode text = not (nat_eq (length (commands_in mode text)) 0)
 
--- a value has at most 1,048,576 bytes
-abbrev pub is_too_long : Mode → List ℕ → Table → Bool
-is_too_long mode text vars = nat_lt 1048576 (size_in mode vars [] text)
+-- a text with these outputs of its commands is expanded to more than 1,048,576 bytes
+abbrev pub is_too_long : Mode → List ℕ → Table → List (List ℕ) → Bool
+is_too_long mode text vars outputs = nat_lt 1048576 (size_in mode vars outputs text)
 
--- a value that is too long is told, by its length as far as a counter of 64 bits goes, and the statement is skipped
-abbrev pub skip_value : Mode → List ℕ → Mind → Plan Turn
-skip_value mode text p = say_then p (value_too_long_line (min (size_in mode p.vars [] text) (2 ^ 64 - 1))) (GoesOn (overflowed p))
+-- the length of the expansion, as far as a counter of 64 bits goes
+abbrev pub length_in : Mode → List ℕ → Table → List (List ℕ) → ℕ
+length_in mode text vars outputs = min (size_in mode vars outputs text) (2 ^ 64 - 1)
+
+-- a value that is too long is told by its length, and the statement is skipped
+abbrev pub skip_value : Mode → List ℕ → List (List ℕ) → Mind → Plan Turn
+skip_value mode text outputs p = say_then p (value_too_long_line (length_in mode text p.vars outputs)) (GoesOn (overflowed p))

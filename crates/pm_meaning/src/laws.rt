@@ -12,13 +12,14 @@ pub fn one_end()
     ensures { OneEnd }
 {}
 
-/// A recipe's destinations all have the mail only where it was appended to each file among them.
+/// A recipe's destinations all have the mail only where it was appended to each file among them, and filed in each folder.
 pub fn stored_is_done()
     ensures { StoredIsDone }
 {}
 
-/// A process ends as delivered only where its last acts are done appends of the piece to each file among the
-/// destinations of the recipe to which it came.
+/// A process ends as delivered only where its last acts are done appends to each file, and placed pieces in each folder,
+/// among the destinations of the recipe to which it came, a run of its program with the piece that didn't fail, or the
+/// writing of the whole piece to standard output.
 pub fn delivered_is_done()
     ensures { DeliveredIsDone }
 {}

@@ -10,5 +10,5 @@ pub mod status;
 
 pub use chain::{Chain, admits, after, new_chain, succeed};
 pub use command_line::CommandLine;
-pub use process::{Attempt, End, Ending, Filed, Process};
+pub use process::{Attempt, Destination, End, Ending, Filed, Outcome, Process, ProgramLine, Trial};
 pub use status::{Status, status_of};

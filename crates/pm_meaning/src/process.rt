@@ -1,13 +1,15 @@
 //! A process that runs recipes, what comes of a delivery, and how a process ends.
 use crate::Chain;
 use pm_bytes::Name;
-use pm_journal::HeldLocks;
+use pm_host::Command;
+use pm_journal::{FolderKind, HeldLocks};
 use pm_message::Message;
 use pm_vars::Vars;
 
 /// The state of a process: the message that it delivers, its variables, the folder `base` from which names are seen
 /// (MAILDIR, procmailrc(5)), the host's name, whether the program is a mail filter (`-m`, procmail(1)), the locks that
-/// it holds, which of them LOCKFILE names, and what came of the recipes before.
+/// it holds, which of them LOCKFILE names, what came of the recipes before, and how many times the run has filed mail in a
+/// folder, or tried to.
 #[derive(Drop)]
 pub struct Process {
     pub filter: bool,
@@ -18,6 +20,7 @@ pub struct Process {
     pub locks: HeldLocks,
     pub global: Option<Name>,
     pub chain: Chain,
+    pub placed: u64,
 }
 
 /// How a process ended.
@@ -39,17 +42,27 @@ pub struct Ending {
     pub end: End,
 }
 
+/// A destination of a recipe (procmailrc(5), "Recipe action line"): its name, and the kind of folder that its ending asks
+/// for. One without such an ending is a file, unless a folder stands there.
+#[derive(Debug, Drop)]
+pub struct Destination {
+    pub kind: Option<FolderKind>,
+    pub name: Name,
+}
+
 /// What came of the delivery to one destination, or to several in order up to one that didn't get the mail.
 #[derive(Debug, Drop)]
 pub enum Filed {
     /// Each destination has the mail.
     Stored,
-    /// The file of this name couldn't be written to, and is as before.
+    /// The file of this name couldn't be written to, and is as before; or no file was added to the folder of this name.
     Unwritten(Name),
     /// The file couldn't be written to, and so many bytes of the piece are left at its end.
     Left { name: Name, count: u64 },
-    /// A folder stands there. Delivery to folders isn't built yet.
-    Folder,
+    /// All names that were tried in the folder of this name are taken.
+    Crowded(Name),
+    /// A folder stands there, and MSGPREFIX can't begin a name in it.
+    Unnamed,
 }
 
 /// What came of an attempt to deliver to the destinations of an action, under a lock file where one was asked for.
@@ -64,6 +77,53 @@ pub enum Attempt {
         name: Name,
         forced: u32,
         filed: Filed,
+        stuck: bool,
+    },
+}
+
+/// A program line as it is read (procmailrc(5), "Recipe action line").
+#[derive(Debug, Drop)]
+pub enum ProgramLine {
+    /// This program runs.
+    Runs(Command),
+    /// The line has no words.
+    NoWords,
+    /// The line has a word that no program can get.
+    Unusable,
+    /// The line expands to so many bytes, which are too many.
+    TooLong(u64),
+}
+
+/// What came of handing the mail to a program or writing it to standard output.
+#[derive(Clone, Copy, Debug, PartialEq, Eq)]
+pub enum Outcome {
+    Done,
+    /// The program couldn't be started.
+    NotStarted,
+    /// A call failed that fed it, took its output or waited for it.
+    Lost,
+    /// It took less than all of its input.
+    Closed,
+    /// It ended with this code.
+    Code(u8),
+    /// Its output is too long.
+    TooLong,
+    /// The mail couldn't be written to standard output.
+    Unwritten,
+}
+
+/// What came of it under a lock file, where one was asked for.
+#[derive(Debug, Drop)]
+pub enum Trial {
+    /// No lock file was asked for.
+    Unlocked(Outcome),
+    /// The lock of this name wasn't got, and nothing was tried.
+    NotLocked(Name),
+    /// The lock was got after so many removals by force; `stuck` where its own removal failed behind what was tried.
+    Locked {
+        name: Name,
+        forced: u32,
+        outcome: Outcome,
         stuck: bool,
     },
 }

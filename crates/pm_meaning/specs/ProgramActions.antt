@@ -1,0 +1,252 @@
+-- What a recipe does that hands the mail to a program or writes it to standard output.
+use Rattle.std.specs.Prelude.{ℕ, Bool, true, false, not, ◌&&◌, ◌||◌, ◌==◌, nat_eq, nat_lt, List, [], ◌∷◌, ◌++◌, Option, Some, None, is_some, length, take, drop, codes, if◌then◌else◌}
+use Rattle.std.specs.List.{list_any, starts_with, position_or_len}
+use Rattle.pm_bytes.specs.Letter.{is_space_byte}
+use Rattle.pm_conds.specs.Leads.{behind_blanks}
+use Rattle.pm_host.specs.declared.command.Command.{Command}
+use Rattle.pm_message.specs.Piece.{piece_of}
+use Rattle.pm_message.specs.declared.pieces.Kind.TheVariants.{Other}
+use Rattle.pm_recipe.specs.declared.tree.Flags.{Flags}
+use Rattle.pm_subst.specs.Words.{words_in}
+use Rattle.pm_subst.specs.declared.kinds.Mode.{Mode}
+use Rattle.pm_subst.specs.declared.kinds.Mode.TheVariants.{One, Quoted}
+use Rattle.pm_journal.specs.Held.{without}
+use Rattle.pm_journal.specs.Locking.{lock_act}
+use Rattle.pm_journal.specs.LogText.{couldnt_lock_line, forcing_lock_line, couldnt_unlock_line, no_lock_line, value_too_long_line}
+use Rattle.pm_journal.specs.LogText.{program_failure_line, couldnt_start_line, lost_contact_line, input_closed_line, output_too_long_line, couldnt_write_out_line}
+use Rattle.pm_journal.specs.Outcomes.{run_end}
+use Rattle.pm_journal.specs.Plan.{Plan, Ends, and_then, ask}
+use Rattle.pm_journal.specs.declared.acts.Act.TheVariants.{Run, Unlock, WriteOut}
+use Rattle.pm_journal.specs.declared.acts.Reply.{Reply}
+use Rattle.pm_journal.specs.declared.acts.Reply.TheVariants.{Held, Wrote}
+use Rattle.pm_journal.specs.declared.children.RunEnd.{RunEnd}
+use Rattle.pm_journal.specs.declared.children.RunEnd.TheVariants.{Ended, NotStarted as RunNotStarted, Broken as RunBroken, TooLong as RunTooLong}
+use Rattle.pm_meaning.specs.Assigning.{first_word}
+use Rattle.pm_meaning.specs.Chains.{succeeded}
+use Rattle.pm_meaning.specs.Changes.{stored_in, overflowed}
+use Rattle.pm_meaning.specs.Delivering.{feed_of, line_if, say_each}
+use Rattle.pm_meaning.specs.Locks.{is_fault, text_or, value_or, rule_of, blamed_text, is_lock_word, full_lock, is_taken, with_lock}
+use Rattle.pm_meaning.specs.Minds.{Mind}
+use Rattle.pm_meaning.specs.Programs.{line_commands, line_of, code_of, with_exit_code}
+use Rattle.pm_meaning.specs.Texts.{is_empty}
+use Rattle.pm_meaning.specs.Turns.{Turn, GoesOn, Halts, not_built, log_act, say_then, refuse_name, has_command, is_too_long, skip_value}
+use Rattle.pm_meaning.specs.declared.process.End.TheVariants.{Delivered}
+use Rattle.pm_meaning.specs.declared.process.Outcome.{Outcome}
+use Rattle.pm_meaning.specs.declared.process.Outcome.TheVariants.{Done, NotStarted, Lost, Closed, Code, TooLong, Unwritten}
+use Rattle.pm_meaning.specs.declared.process.ProgramLine.{ProgramLine}
+use Rattle.pm_meaning.specs.declared.process.ProgramLine.TheVariants.{Runs, NoWords, Unusable, TooLong as LineTooLong}
+use Rattle.pm_meaning.specs.declared.process.Trial.{Trial}
+use Rattle.pm_meaning.specs.declared.process.Trial.TheVariants.{Unlocked, NotLocked, Locked}
+
+-- The flags of a recipe, the text of its lock file, the text that names the automatic one, the text of its action, and whether
+-- the process ends once that is done.
+pub record Task : Type 0 where
+  pub flags : Flags
+  pub lock : Option (List ℕ)
+  pub automatic : List ℕ
+  pub text : List ℕ
+  pub last : Bool
+
+-- what was tried came out so, and the process then
+pub record Tried : Type 0 where
+  pub outcome : Outcome
+  pub mind : Mind
+
+-- what came of it with its lock file, and the process then
+pub record Trying : Type 0 where
+  pub trial : Trial
+  pub mind : Mind
+
+-- it was done
+abbrev pub is_fine : Outcome → Bool
+is_fine Done = true
+is_fine other = false
+
+-- only the flags w and W heed the exit code
+abbrev pub code_outcome : Flags → ℕ → Outcome
+code_outcome flags code = if (flags.wait || flags.wait_quiet) && not (nat_eq code 0) then Code code else Done
+
+-- a program that gets the mail takes so many bytes of it, unless the flag i says otherwise
+abbrev pub feed_outcome : Flags → ℕ → RunEnd → Outcome
+feed_outcome flags count (Ended code took) = if nat_lt took count && not flags.ignore then Closed else code_outcome flags code
+feed_outcome flags count RunNotStarted = NotStarted
+feed_outcome flags count RunBroken = Lost
+feed_outcome flags count RunTooLong = TooLong
+
+-- where it was done the mail went to this destination
+abbrev pub stored_if : Outcome → List ℕ → Mind → Mind
+stored_if outcome folder p = if is_fine outcome then stored_in folder p else p
+
+-- a program was run that got so many bytes of the mail
+abbrev pub fed : Flags → List ℕ → ℕ → RunEnd → Mind → Tried
+fed flags folder count end p = record { outcome = feed_outcome flags count end; mind = stored_if (feed_outcome flags count end) folder (with_exit_code (code_of end) p) }
+
+-- the program gets these bytes of the mail, which is then at this destination
+abbrev pub feed : Flags → List ℕ → Command → List ℕ → Mind → Plan Tried
+feed flags folder command input p = and_then (ask (Run command input false)) (λ reply. Ends (fed flags folder (length input) (run_end reply) p))
+
+-- a text was written to standard output, or a part of it
+abbrev pub write_outcome : Reply → Outcome
+write_outcome Wrote = Done
+write_outcome other = Unwritten
+
+-- the mail is written to standard output, which is its destination `|`
+abbrev pub write : List ℕ → Mind → Plan Tried
+write piece p = and_then (ask (WriteOut piece)) (λ reply. Ends (record { outcome = write_outcome reply; mind = stored_if (write_outcome reply) (codes "|") p }))
+
+-- the lock is given back behind what was tried
+abbrev pub unlock_behind : List ℕ → ℕ → Tried → Plan Trying
+unlock_behind name forced t =
+    and_then (ask (Unlock name)) (λ reply. Ends (record { trial = Locked name forced t.outcome (is_fault reply); mind = record t.mind { locks = without t.mind.locks name } }))
+
+-- where the lock was got this is tried
+abbrev pub try_locked : List ℕ → (Mind → Plan Tried) → Mind → Reply → Plan Trying
+try_locked name work p (Held sleeps forced) = and_then (work (with_lock name p)) (unlock_behind name forced)
+try_locked name work p other = Ends (record { trial = NotLocked name; mind = p })
+
+-- this is tried, under a lock file where one is asked for
+abbrev pub try_under : Option (List ℕ) → (Mind → Plan Tried) → Mind → Plan Trying
+try_under None work p = and_then (work p) (λ t. Ends (record { trial = Unlocked t.outcome; mind = t.mind }))
+try_under (Some name) work p = and_then (ask (lock_act name (rule_of p.vars))) (try_locked name work p)
+
+-- this is told of what was tried; under W nothing of a code
+abbrev pub outcome_lines : Flags → List ℕ → Outcome → List (List ℕ)
+outcome_lines flags line Done = []
+outcome_lines flags line NotStarted = couldnt_start_line line ∷ []
+outcome_lines flags line Lost = lost_contact_line line ∷ []
+outcome_lines flags line Closed = input_closed_line line ∷ []
+outcome_lines flags line (Code code) = line_if (not flags.wait_quiet) (program_failure_line code line)
+outcome_lines flags line TooLong = output_too_long_line line ∷ []
+outcome_lines flags line Unwritten = couldnt_write_out_line ∷ []
+
+-- and this of the lock file, of what was tried under it, and of the lock file's removal
+abbrev pub trial_lines : Flags → List ℕ → Trial → List (List ℕ)
+trial_lines flags line (Unlocked outcome) = outcome_lines flags line outcome
+trial_lines flags line (NotLocked name) = couldnt_lock_line name ∷ []
+trial_lines flags line (Locked name forced outcome stuck) =
+    (line_if (nat_lt 0 forced) (forcing_lock_line name) ++ outcome_lines flags line outcome) ++ line_if stuck (couldnt_unlock_line name)
+
+-- it was done, with its lock file
+abbrev pub is_fine_trial : Trial → Bool
+is_fine_trial (Unlocked outcome) = is_fine outcome
+is_fine_trial (NotLocked name) = false
+is_fine_trial (Locked name forced outcome stuck) = is_fine outcome
+
+-- a recipe whose action was done succeeded
+abbrev pub settled_by : Trial → Mind → Mind
+settled_by trial p = if is_fine_trial trial then succeeded p else p
+
+-- what was done ends the process as delivered where it is the last
+abbrev pub trial_turn : Bool → Trial → Mind → Turn
+trial_turn last trial p = if last && is_fine_trial trial then Halts Delivered p else GoesOn p
+
+-- what is told, and what comes behind it, once it is known whether the recipe succeeded
+abbrev pub after_trial : Task → Trying → Plan Turn
+after_trial t done = let q = settled_by done.trial done.mind in say_each q (trial_lines t.flags t.text done.trial) (trial_turn t.last done.trial q)
+
+-- this is tried, and what came of it is told
+abbrev pub try_and_say : Task → Option (List ℕ) → (Mind → Plan Tried) → Mind → Plan Turn
+try_and_say t lock work p = and_then (try_under lock work p) (after_trial t)
+
+-- what stands behind the first `>>`
+abbrev pub behind_arrows : List ℕ → List ℕ
+behind_arrows [] = []
+behind_arrows (byte ∷ bytes) = if starts_with nat_eq (byte ∷ bytes) (codes ">>") then drop 1 bytes else behind_arrows bytes
+
+-- a byte that no shell takes for a part of a name
+abbrev pub ends_name : ℕ → Bool
+ends_name byte = is_space_byte byte || list_any (λ other. other == byte) (codes ";|&<>)")
+
+-- the text up to such a byte
+abbrev pub up_to_end : List ℕ → List ℕ
+up_to_end text = take (position_or_len ends_name text) text
+
+-- the name of the file to which a line appends: it stands behind the first `>>` and blanks
+abbrev pub appended_name : List ℕ → List ℕ
+appended_name line = up_to_end (behind_blanks (behind_arrows line))
+
+-- the automatic lock file is asked for
+abbrev pub is_automatic : Option (List ℕ) → Bool
+is_automatic None = false
+is_automatic (Some text) = is_empty text
+
+-- the text that names the lock file, and how it is expanded
+abbrev pub lock_source : Task → List ℕ
+lock_source t = if is_automatic t.lock then t.automatic else text_or [] t.lock
+
+abbrev pub lock_mode : Task → Mode
+lock_mode t = if is_automatic t.lock then Quoted else One
+
+-- there is no automatic lock file
+abbrev pub lacks_lock : Task → Bool
+lacks_lock t = is_automatic t.lock && is_empty t.automatic
+
+-- the lock file by what its text expands to: the automatic one has LOCKEXT behind it
+abbrev pub named_lock : Task → List ℕ → Mind → Option (List ℕ)
+named_lock t value p =
+    if lacks_lock t then None
+    else if is_automatic t.lock then Some (value ++ value_or (codes ".lock") (codes "LOCKEXT") p.vars)
+    else if is_some t.lock then Some value
+    else None
+
+-- that there is no automatic lock file is told before this
+abbrev pub told_first : Task → Mind → Plan Turn → Plan Turn
+told_first t p next = if lacks_lock t then and_then (ask (log_act p (no_lock_line t.text))) (λ reply. next) else next
+
+-- the lock file isn't held yet
+abbrev pub do_under : Task → Option (List ℕ) → (Mind → Plan Tried) → Mind → Plan Turn
+do_under t lock work p =
+    if is_taken lock [] p.locks then refuse_name (blamed_text t.lock t.text) p
+    else told_first t p (try_and_say t lock work p)
+
+-- the lock file's name can be a file's
+abbrev pub do_named : Task → Option (List ℕ) → (Mind → Plan Tried) → Mind → Plan Turn
+do_named t word work p =
+    if not (is_lock_word word) then refuse_name (blamed_text t.lock t.text) p
+    else do_under t (full_lock p.base word) work p
+
+-- the text that is told where a word of the line is unusable: the lock file's name is looked at before the words
+abbrev pub unusable_text : Task → Option (List ℕ) → List ℕ
+unusable_text t word = if is_lock_word word then t.text else blamed_text t.lock t.text
+
+-- by how the line is read
+abbrev pub do_line : Task → Option (List ℕ) → (Command → Mind → Plan Tried) → ProgramLine → Mind → Plan Turn
+do_line t word work (Runs command) p = do_named t word (work command) p
+do_line t word work NoWords p = refuse_name t.text p
+do_line t word work Unusable p = refuse_name (unusable_text t word) p
+do_line t word work (LineTooLong count) p = say_then p (value_too_long_line count) (GoesOn (overflowed p))
+
+-- the line has backquoted commands of its own
+abbrev pub runs_first : List ℕ → Mind → Bool
+runs_first line p = not (nat_eq (length (line_commands line p)) 0)
+
+-- the lock file's text is expanded first; running commands isn't built yet
+abbrev pub lock_first : Task → Bool → (Option (List ℕ) → Plan Turn) → Mind → Plan Turn
+lock_first t runs next p =
+    if has_command (lock_mode t) (lock_source t) || runs then not_built p
+    else if is_too_long (lock_mode t) (lock_source t) p.vars [] then skip_value (lock_mode t) (lock_source t) [] p
+    else next (named_lock t (first_word (words_in (lock_mode t) p.vars [] (lock_source t))) p)
+
+-- the task's text is a program line
+abbrev pub do_program : Task → (Command → Mind → Plan Tried) → Mind → Plan Turn
+do_program t work p = lock_first t (runs_first t.text p) (λ word. do_line t word work (line_of [] t.text p) p) p
+
+-- the parts of the mail that the flags h and b feed, as they are
+abbrev pub fed_piece : Flags → Mind → List ℕ
+fed_piece flags p = piece_of p.message (feed_of flags) Other flags.raw
+
+-- a pipe, whose lock file is named by the file to which it appends
+abbrev pub pipe_task : Flags → Option (List ℕ) → List ℕ → Task
+pipe_task flags lock line = record { flags = flags; lock = lock; automatic = appended_name line; text = line; last = not flags.copy }
+
+-- the mail goes to a program
+abbrev pub pipe : Flags → Option (List ℕ) → List ℕ → Mind → Plan Turn
+pipe flags lock line p = do_program (pipe_task flags lock line) (λ command. feed flags line command (fed_piece flags p)) p
+
+-- standard output has no automatic lock file
+abbrev pub write_task : Flags → Option (List ℕ) → Task
+write_task flags lock = record { flags = flags; lock = lock; automatic = []; text = codes "|"; last = not flags.copy }
+
+-- the mail goes to standard output
+abbrev pub write_out : Flags → Option (List ℕ) → Mind → Plan Turn
+write_out flags lock p = let t = write_task flags lock in lock_first t false (λ word. do_named t word (write (fed_piece flags p)) p) p
