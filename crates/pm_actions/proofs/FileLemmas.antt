@@ -1,136 +1,221 @@
--- Deliveries to files in plans.
-use Rattle.std.proofs.Common.{◌≡◌, ◌≢◌, ◌<◌, ◌≤◌, ◌+◌, Bool, true, false, Option, List, ℕ, [], ◌∷◌, length, map, drop, get_or, refl, sym, ap, ◌∙◌, subst}
-use Rattle.std.specs.Prelude.{codes, bytes_eq, if◌then◌else◌}
+-- Deliveries to files and folders in plans.
+use Rattle.std.proofs.Common.{◌≡◌, ◌<◌, ◌+◌, Bool, true, false, Option, Some, None, List, ℕ, [], ◌∷◌, length, map, drop, get_or, refl, sym, ap, ◌∙◌, subst}
 use Rattle.std.proofs.lemmas.List.{at_drop_more}
-use Rattle.pm_host.proofs.Put.{same_name}
+use Rattle.std.specs.Prelude.{if◌then◌else◌}
+use Rattle.pm_bytes.specs.Name.{is_usable}
 use Rattle.pm_bytes.specs.Path.{full_name}
+use Rattle.pm_message.specs.Piece.{piece_of}
+use Rattle.pm_message.specs.declared.head.Message.{Message}
+use Rattle.pm_message.specs.declared.pieces.Kind.TheVariants.{MailboxFile, Other}
 use Rattle.pm_journal.specs.JournalState.{JournalState}
 use Rattle.pm_journal.specs.Entries.{View}
 use Rattle.pm_journal.specs.Appending.{append_reply}
 use Rattle.pm_journal.specs.Noted.{NotesAct}
 use Rattle.pm_journal.specs.declared.acts.Act.TheVariants.{Append}
-use Rattle.pm_journal.specs.declared.appending.AppendEnd.{AppendEnd}
+use Rattle.pm_journal.specs.declared.acts.Reply.{Reply}
+use Rattle.pm_journal.specs.declared.acts.Reply.TheVariants.{Done, IsFolder, Torn}
+use Rattle.pm_journal.specs.declared.placing.FolderKind.{FolderKind}
+use Rattle.pm_journal.specs.declared.placing.FolderKind.TheVariants.{Plain}
 use Rattle.pm_journal.specs.Plan.{Plan, Ends, and_then, ask}
 use Rattle.pm_journal.specs.Executed.{Executes, OutOfMemory, LeadsTo}
-use Rattle.pm_journal.proofs.ActPlans.{act_executes, executes_then}
-use Rattle.pm_journal.proofs.FirstActs.{later_start}
-use Rattle.pm_journal.proofs.PlanLeads.{leads_on, leads_to_end}
-use Rattle.pm_journal.proofs.WantsMemory.{executes_nothing, out_then}
+use Rattle.pm_journal.proofs.FirstActs.{first_act, first_act_out}
+use Rattle.pm_journal.proofs.PlanLeads.{leads_itself, leads_on, leads_to_end, leads_to_want}
+use Rattle.pm_journal.proofs.WantsMemory.{executes_nothing, out_front}
 use Rattle.pm_recipe.specs.declared.tree.Flags.{Flags}
 use Rattle.pm_vars.specs.Table.{Table}
-use Rattle.pm_vars.specs.Variables.{Variable, with_value}
-use Rattle.pm_meaning.specs.Changes.{stored_in}
-use Rattle.pm_meaning.specs.Delivering.{is_stored, Filing, filed_by, file_at, file_all, mailbox_piece}
+use Rattle.pm_meaning.specs.Delivering.{Filing, feed_of, mailbox_piece, folder_piece, is_stored, in_folder, plain_prefix, in_plain, appended_by, to_file, file_as, file_one, file_all}
 use Rattle.pm_meaning.specs.Locks.{is_nothing}
 use Rattle.pm_meaning.specs.Minds.{Mind}
+use Rattle.pm_meaning.specs.declared.process.Destination.{Destination}
 use Rattle.pm_meaning.specs.declared.process.Filed.{Filed}
-use Rattle.pm_meaning.specs.declared.process.Filed.TheVariants.{Stored, Unwritten, Left, Folder}
-use Rattle.pm_actions.specs.Copies.{copy_for, remembered, file_copies, filing_of, mind_after, with_vars, AllShown}
+use Rattle.pm_meaning.specs.declared.process.Filed.TheVariants.{Stored, Unnamed}
+use Rattle.pm_meaning.proofs.OneFiled.{StaysSo, remembering, one_filed}
+use Rattle.pm_actions.specs.Copies.{file_copy_for, folder_copy_for, copy_as, copy_for, file_copy, filing_of, with_vars, IsShown, AllShown}
+use Rattle.pm_actions.specs.Filing.{is_folder_there, filed_by, mind_after}
+use Rattle.pm_actions.specs.Names.{prefix_of}
 use Rattle.pm_actions.specs.declared.filing.Copy.{Copy}
-use Rattle.pm_actions.proofs.Choices.{choose_then, choose_else}
-
--- a value that is set again
-with_value_again : (name first second : List ℕ) (vs : List Variable) → with_value name second (with_value name first vs) ≡ with_value name second vs
-with_value_again name first second [] = ap (λ b. if b then (record { name = name; value = second } ∷ []) else (record { name = name; value = first } ∷ record { name = name; value = second } ∷ [])) (same_name name)
-with_value_again name first second (v ∷ vs) =
-    elim (bytes_eq name v.name) as (λ b. bytes_eq name v.name ≡ b
-    → with_value name second (if b then (record { name = v.name; value = first } ∷ vs) else (v ∷ with_value name first vs)) ≡ (if b then (record { name = v.name; value = second } ∷ vs) else (v ∷ with_value name second vs))) [
-      | true ↦ λ e. ap (λ b. if b then (record { name = v.name; value = second } ∷ vs) else (record { name = v.name; value = first } ∷ with_value name second vs)) e
-      | false ↦ λ e. ap (λ b. if b then (record { name = v.name; value = second } ∷ with_value name first vs) else (v ∷ with_value name second (with_value name first vs))) e ∙ ap (λ l. v ∷ l) (with_value_again name first second vs)
-    ] refl
-
--- what is wanted for a destination is the same whatever destination was remembered before
-copy_again : (flags : Flags) (p : Mind) (before word : List ℕ) → copy_for flags (stored_in before p) word ≡ copy_for flags p word
-copy_again flags p before word =
-    ap (λ vs. record { name = full_name p.base word; shown = full_name p.base word; piece = mailbox_piece flags p; vars = record p.vars { variables = vs } }) (with_value_again (codes "LASTFOLDER") before word p.vars.variables)
-
-copies_again : (flags : Flags) (p : Mind) (before : List ℕ) (words : List (List ℕ)) → map (copy_for flags (stored_in before p)) words ≡ map (copy_for flags p) words
-copies_again flags p before [] = refl
-copies_again flags p before (word ∷ words) = ap (λ c. c ∷ map (copy_for flags (stored_in before p)) words) (copy_again flags p before word) ∙ ap (λ l. copy_for flags p word ∷ l) (copies_again flags p before words)
-
--- the copies for destinations are delivered as the destinations are
-pub copies_file : (flags : Flags) (words : List (List ℕ)) (p : Mind) → file_copies (map (copy_for flags p) words) p ≡ file_all flags words p
-copies_file flags [] p = refl
-copies_file flags (word ∷ words) p =
-    let q = stored_in word p in
-    ap (λ rest. and_then (file_at (full_name p.base word) (mailbox_piece flags p)) (λ filed. elim filed [
-      | Stored ↦ rest
-      | Unwritten name ↦ Ends (filing_of (Unwritten name) p)
-      | Left name count ↦ Ends (filing_of (Left name count) p)
-      | Folder ↦ Ends (filing_of Folder p)
-    ])) (ap (λ l. file_copies l q) (sym (copies_again flags p word words)) ∙ copies_file flags words q)
-
-pub copies_shown : (flags : Flags) (p : Mind) (words : List (List ℕ)) → AllShown (map (copy_for flags p) words)
-copies_shown flags p [] = tt
-copies_shown flags p (word ∷ words) = (refl, copies_shown flags p words)
-
--- nothing is appended to `/dev/null`
-pub taken_by_nothing : (name piece : List ℕ) (x : JournalState) (s : View) → is_nothing name ≡ true → Executes (file_at name piece) Stored x x s s
-taken_by_nothing name piece x s e = choose_then (is_nothing name) (Ends Stored) (and_then (ask (Append name piece)) (λ reply. Ends (filed_by name reply))) Stored x x s s e (executes_nothing Stored x x s refl)
-
--- the piece was appended, and this came of it
-pub appended : (name piece shown : List ℕ) (end : AppendEnd) (filed : Filed) (x y : JournalState) (a b : View) → is_nothing name ≡ false → shown ≡ name → filed ≡ filed_by shown (append_reply end)
-    → NotesAct (Append name piece) (append_reply end) x y a b → Executes (file_at name piece) filed x y a b
-appended name piece shown end filed x y a b some same is n =
-    let f = is ∙ ap (λ l. filed_by l (append_reply end)) same in
-    choose_else (is_nothing name) (Ends Stored) (and_then (ask (Append name piece)) (λ reply. Ends (filed_by name reply))) filed x y a b some
-    (executes_then (ask (Append name piece)) (λ reply. Ends (filed_by name reply)) (append_reply end) filed x y y a b b (act_executes (Append name piece) (append_reply end) x y a b n)
-    (subst (λ d. Executes (Ends (filed_by name (append_reply end))) d y y b b) (sym f) (executes_nothing (filed_by name (append_reply end)) y y b refl)))
+use Rattle.pm_actions.specs.declared.filing.Copy.TheVariants.{ToFile, ToFolder}
+use Rattle.pm_actions.proofs.Choices.{choose_then, choose_else, then_out, else_out}
+use Rattle.pm_actions.proofs.NameLemmas.{some_if, none_if}
 
 -- the first of what is left of a list
 pub front_of_rest : {A : Type 0} (items : List A) (i : ℕ) (d item : A) → item ≡ get_or items i d → i < length items → drop i items ≡ item ∷ drop (i + 1) items
 front_of_rest items i d item is more = at_drop_more (λ l. l) items i d more ∙ ap (λ x. x ∷ drop (i + 1) items) (sym is)
 
--- what comes behind a copy
-abbrev behind : List Copy → Table → Mind → Filed → Plan Filing
-behind copies vars p = λ filed. elim filed [
-  | Stored ↦ file_copies copies (with_vars vars p)
-  | Unwritten name ↦ Ends (filing_of (Unwritten name) p)
-  | Left name count ↦ Ends (filing_of (Left name count) p)
-  | Folder ↦ Ends (filing_of Folder p)
-]
+-- what is wanted for a destination goes where the destination asks for
+copy_as_files : (kind : Option FolderKind) (flags : Flags) (name : List ℕ) (p : Mind) → file_copy flags (copy_as kind flags p name) p ≡ file_as kind flags name p
+copy_as_files None flags name p = refl
+copy_as_files (Some kind) flags name p = refl
 
-tried : (whole : Plan Filing) (items rest : List Copy) (copy : Copy) (filed : Filed) (p : Mind) (x y z : JournalState) (a b c : View) → LeadsTo whole (file_copies items p) x y a b → items ≡ copy ∷ rest
-    → Executes (file_at copy.name copy.piece) filed y z b c → LeadsTo whole (behind rest copy.vars p filed) x z a c
-tried whole items rest copy filed p x y z a b c h e k =
-    leads_on whole (file_at copy.name copy.piece) (behind rest copy.vars p) filed x y z a b c (subst (λ l. LeadsTo whole (file_copies l p) x y a b) e h) k
+copy_files : (flags : Flags) (d : Destination) (copy : Copy) (p : Mind) → copy ≡ copy_for flags p d → file_copy flags copy p ≡ file_one flags d p
+copy_files flags d copy p is = ap (λ c. file_copy flags c p) is ∙ copy_as_files d.kind flags d.name p
 
-stored_is : (filed : Filed) → true ≡ is_stored filed → filed ≡ Stored
-stored_is Stored h = refl
-stored_is (Unwritten name) h = let e : true ≡ false = h in absurd (cc)
-stored_is (Left name count) h = let e : true ≡ false = h in absurd (cc)
-stored_is Folder h = let e : true ≡ false = h in absurd (cc)
+-- what is wanted stays the same while the process delivers
+abbrev file_with : Flags → List ℕ → List ℕ → Message → Table → Copy
+file_with flags name base message vars = ToFile (record { name = full_name base name; shown = full_name base name; piece = piece_of message (feed_of flags) MailboxFile flags.raw; vars = vars })
+
+abbrev folder_with : FolderKind → Flags → List ℕ → List ℕ → Message → Copy
+folder_with kind flags name base message = ToFolder (record { kind = kind; folder = full_name base name; shown = full_name base name; prefix = []; piece = piece_of message (feed_of flags) Other flags.raw })
+
+same_as : (kind : Option FolderKind) (flags : Flags) (name : List ℕ) (p q : Mind) → StaysSo p q → copy_as kind flags q name ≡ copy_as kind flags p name
+same_as None flags name p q s =
+    ap (λ b. file_with flags name b q.message (remembering name q)) s.base ∙ (ap (λ m. file_with flags name p.base m (remembering name q)) s.message ∙ ap (λ v. file_with flags name p.base p.message v) (s.vars name))
+same_as (Some kind) flags name p q s = ap (λ b. folder_with kind flags name b q.message) s.base ∙ ap (λ m. folder_with kind flags name p.base m) s.message
+
+same_copies : (flags : Flags) (ds : List Destination) (p q : Mind) → StaysSo p q → map (copy_for flags q) ds ≡ map (copy_for flags p) ds
+same_copies flags [] p q s = refl
+same_copies flags (d ∷ ds) p q s = ap (λ c. c ∷ map (copy_for flags q) ds) (same_as d.kind flags d.name p q s) ∙ ap (λ l. copy_for flags p d ∷ l) (same_copies flags ds p q s)
+
+-- they are the same whatever locks are held
+pub copies_locked : (flags : Flags) (ds : List Destination) (copies : List Copy) (p : Mind) (held : List (List ℕ)) → copies ≡ map (copy_for flags p) ds → copies ≡ map (copy_for flags (record p { locks = held })) ds
+copies_locked flags ds copies p held e = e ∙ sym (same_copies flags ds p (record p { locks = held }) (record { base = refl; message = refl; vars = λ word. refl }))
+
+shown_as : (kind : Option FolderKind) (flags : Flags) (name : List ℕ) (p : Mind) → IsShown (copy_as kind flags p name)
+shown_as None flags name p = refl
+shown_as (Some kind) flags name p = refl
+
+pub copies_shown : (flags : Flags) (p : Mind) (ds : List Destination) → AllShown (map (copy_for flags p) ds)
+copies_shown flags p [] = tt
+copies_shown flags p (d ∷ ds) = (shown_as d.kind flags d.name p, copies_shown flags p ds)
+
+-- some destinations have the mail, and these copies are for the rest
+pub record RestOf (whole : Plan Filing) (flags : Flags) (copies : List Copy) (p : Mind) (x y : JournalState) (a b : View) : Type 0 where
+  pub rest : List Destination
+  pub leads : LeadsTo whole (file_all flags rest p) x y a b
+  pub copies_are : copies ≡ map (copy_for flags p) rest
+
+pub rest_begun : (flags : Flags) (ds : List Destination) (copies : List Copy) (p : Mind) (x : JournalState) (a : View) → copies ≡ map (copy_for flags p) ds → RestOf (file_all flags ds p) flags copies p x x a a
+rest_begun flags ds copies p x a e = record { rest = ds; leads = leads_itself (file_all flags ds p) x a; copies_are = e }
+
+-- the first of the rest
+record FirstOf (whole : Plan Filing) (flags : Flags) (copy : Copy) (copies : List Copy) (p : Mind) (x y : JournalState) (a b : View) : Type 0 where
+  first : Destination
+  rest : List Destination
+  leads : LeadsTo whole (file_all flags (first ∷ rest) p) x y a b
+  copy_is : copy ≡ copy_for flags p first
+  copies_are : copies ≡ map (copy_for flags p) rest
+
+first_at : (whole : Plan Filing) (flags : Flags) (items copies : List Copy) (copy : Copy) (rest : List Destination) (p : Mind) (x y : JournalState) (a b : View) → LeadsTo whole (file_all flags rest p) x y a b
+    → items ≡ map (copy_for flags p) rest → items ≡ copy ∷ copies → FirstOf whole flags copy copies p x y a b
+first_at whole flags items copies copy [] p x y a b leads are is = let e : [] ≡ copy ∷ copies = sym are ∙ is in absurd (cc)
+first_at whole flags items copies copy (d ∷ ds) p x y a b leads are is =
+    let e : copy ∷ copies ≡ copy_for flags p d ∷ map (copy_for flags p) ds = sym is ∙ are in
+    let one : copy ≡ copy_for flags p d = cc in
+    let others : copies ≡ map (copy_for flags p) ds = cc in
+    record { first = d; rest = ds; leads = leads; copy_is = one; copies_are = others }
+
+first_of : (whole : Plan Filing) (flags : Flags) (items copies : List Copy) (copy : Copy) (p : Mind) (x y : JournalState) (a b : View) → RestOf whole flags items p x y a b → items ≡ copy ∷ copies
+    → FirstOf whole flags copy copies p x y a b
+first_of whole flags items copies copy p x y a b h is = first_at whole flags items copies copy h.rest p x y a b h.leads h.copies_are is
+
+-- what comes behind a destination
+abbrev behind : Flags → List Destination → Filing → Plan Filing
+behind flags ds filing = if is_stored filing.filed then file_all flags ds filing.mind else Ends filing
+
+as_one : (flags : Flags) (d : Destination) (copy : Copy) (p : Mind) (filing : Filing) (y z : JournalState) (b c : View) → copy ≡ copy_for flags p d → Executes (file_copy flags copy p) filing y z b c
+    → Executes (file_one flags d p) filing y z b c
+as_one flags d copy p filing y z b c is h = subst (λ plan. Executes plan filing y z b c) (copy_files flags d copy p is) h
 
 -- a copy was taken, and the next comes
-pub copy_on : (whole : Plan Filing) (items rest : List Copy) (copy : Copy) (filed : Filed) (p q : Mind) (x y z : JournalState) (a b c : View) → LeadsTo whole (file_copies items p) x y a b → items ≡ copy ∷ rest
-    → Executes (file_at copy.name copy.piece) filed y z b c → q ≡ mind_after filed copy.vars p → true ≡ is_stored filed → LeadsTo whole (file_copies rest q) x z a c
-copy_on whole items rest copy filed p q x y z a b c h e k m s =
-    let is : filed ≡ Stored = stored_is filed s in
-    let r : mind_after filed copy.vars p ≡ with_vars copy.vars p = ap (λ f. mind_after f copy.vars p) is in
-    subst (λ v. LeadsTo whole (file_copies rest v) x z a c) (sym (m ∙ r))
-    (tried whole items rest copy Stored p x y z a b c h e (subst (λ f. Executes (file_at copy.name copy.piece) f y z b c) is k))
-
-stops : (rest : List Copy) (vars : Table) (p : Mind) (filed : Filed) → false ≡ is_stored filed → behind rest vars p filed ≡ Ends (filing_of filed (mind_after filed vars p))
-stops rest vars p Stored h = let e : false ≡ true = h in absurd (cc)
-stops rest vars p (Unwritten name) h = refl
-stops rest vars p (Left name count) h = refl
-stops rest vars p Folder h = refl
+pub copy_on : (whole : Plan Filing) (flags : Flags) (items copies : List Copy) (copy : Copy) (filed : Filed) (p q : Mind) (x y z : JournalState) (a b c : View) → RestOf whole flags items p x y a b → items ≡ copy ∷ copies
+    → Executes (file_copy flags copy p) (filing_of filed q) y z b c → true ≡ is_stored filed → RestOf whole flags copies q x z a c
+copy_on whole flags items copies copy filed p q x y z a b c h is k stored =
+    let f = first_of whole flags items copies copy p x y a b h is in
+    let one = as_one flags f.first copy p (filing_of filed q) y z b c f.copy_is k in
+    let goes : LeadsTo whole (behind flags f.rest (filing_of filed q)) x z a c = leads_on whole (file_one flags f.first p) (behind flags f.rest) (filing_of filed q) x y z a b c f.leads one in
+    let stays = (one_filed flags f.first p one.more (filing_of filed q) one.plays).same in
+    record {
+      rest = f.rest;
+      leads = subst (λ v. LeadsTo whole (if v then file_all flags f.rest q else Ends (filing_of filed q)) x z a c) (sym stored) goes;
+      copies_are = f.copies_are ∙ sym (same_copies flags f.rest p q stays);
+    }
 
 -- a copy wasn't taken, and the rest isn't tried
-pub copy_stops : (whole : Plan Filing) (items rest : List Copy) (copy : Copy) (filed : Filed) (p q : Mind) (x y z : JournalState) (a b c : View) → LeadsTo whole (file_copies items p) x y a b → items ≡ copy ∷ rest
-    → Executes (file_at copy.name copy.piece) filed y z b c → q ≡ mind_after filed copy.vars p → false ≡ is_stored filed → Executes whole (filing_of filed q) x z a c
-copy_stops whole items rest copy filed p q x y z a b c h e k m s =
-    let last = filing_of filed (mind_after filed copy.vars p) in
-    subst (λ v. Executes whole (filing_of filed v) x z a c) (sym m)
-    (leads_to_end whole (Ends last) last x z z a c c (subst (λ plan. LeadsTo whole plan x z a c) (stops rest copy.vars p filed s) (tried whole items rest copy filed p x y z a b c h e k)) (executes_nothing last z z c refl))
+pub copy_stops : (whole : Plan Filing) (flags : Flags) (items copies : List Copy) (copy : Copy) (filed : Filed) (p q : Mind) (x y z : JournalState) (a b c : View) → RestOf whole flags items p x y a b → items ≡ copy ∷ copies
+    → Executes (file_copy flags copy p) (filing_of filed q) y z b c → false ≡ is_stored filed → Executes whole (filing_of filed q) x z a c
+copy_stops whole flags items copies copy filed p q x y z a b c h is k stored =
+    let f = first_of whole flags items copies copy p x y a b h is in
+    let one = as_one flags f.first copy p (filing_of filed q) y z b c f.copy_is k in
+    let goes : LeadsTo whole (behind flags f.rest (filing_of filed q)) x z a c = leads_on whole (file_one flags f.first p) (behind flags f.rest) (filing_of filed q) x y z a b c f.leads one in
+    let ends : LeadsTo whole (Ends (filing_of filed q)) x z a c = subst (λ v. LeadsTo whole (if v then file_all flags f.rest q else Ends (filing_of filed q)) x z a c) (sym stored) goes in
+    leads_to_end whole (Ends (filing_of filed q)) (filing_of filed q) x z z a c c ends (executes_nothing (filing_of filed q) z z c refl)
+
+-- memory was wanting at a copy
+pub copy_wants : (whole : Plan Filing) (flags : Flags) (items copies : List Copy) (copy : Copy) (p : Mind) (x y z : JournalState) (a b c : View) → RestOf whole flags items p x y a b → items ≡ copy ∷ copies
+    → OutOfMemory (file_copy flags copy p) y z b c → OutOfMemory whole x z a c
+copy_wants whole flags items copies copy p x y z a b c h is k =
+    let f = first_of whole flags items copies copy p x y a b h is in
+    let one = subst (λ plan. OutOfMemory plan y z b c) (copy_files flags f.first copy p f.copy_is) k in
+    leads_to_want whole (file_all flags (f.first ∷ f.rest) p) x y z a b c f.leads (out_front (file_one flags f.first p) (behind flags f.rest) y z b c one)
+
+all_over : (whole : Plan Filing) (flags : Flags) (rest : List Destination) (p : Mind) (x y : JournalState) (a b : View) → LeadsTo whole (file_all flags rest p) x y a b → [] ≡ map (copy_for flags p) rest
+    → Executes whole (filing_of Stored p) x y a b
+all_over whole flags [] p x y a b h e = leads_to_end whole (Ends (filing_of Stored p)) (filing_of Stored p) x y y a b b h (executes_nothing (filing_of Stored p) y y b refl)
+all_over whole flags (d ∷ ds) p x y a b h e = let f : [] ≡ copy_for flags p d ∷ map (copy_for flags p) ds = e in absurd (cc)
 
 -- all copies were taken
-pub copies_over : (whole : Plan Filing) (items : List Copy) (p : Mind) (x y : JournalState) (a b : View) → LeadsTo whole (file_copies items p) x y a b → items ≡ [] → Executes whole (filing_of Stored p) x y a b
-copies_over whole items p x y a b h e =
-    leads_to_end whole (Ends (filing_of Stored p)) (filing_of Stored p) x y y a b b (subst (λ l. LeadsTo whole (file_copies l p) x y a b) e h) (executes_nothing (filing_of Stored p) y y b refl)
+pub copies_over : (whole : Plan Filing) (flags : Flags) (items : List Copy) (p : Mind) (x y : JournalState) (a b : View) → RestOf whole flags items p x y a b → items ≡ [] → Executes whole (filing_of Stored p) x y a b
+copies_over whole flags items p x y a b h e = all_over whole flags h.rest p x y a b h.leads (sym e ∙ h.copies_are)
 
--- the copies for destinations were delivered, after room was made
-pub all_appended : (flags : Flags) (words : List (List ℕ)) (copies : List Copy) (p : Mind) (filing : Filing) (x w y : JournalState) (a b : View) → copies ≡ map (copy_for flags p) words → w.entries ≡ x.entries
-    → Executes (file_copies copies p) filing w y a b → Executes (file_all flags words p) filing x y a b
-all_appended flags words copies p filing x w y a b is e h =
-    later_start (file_all flags words p) filing x w y a b (subst (λ plan. Executes plan filing w y a b) (ap (λ l. file_copies l p) is ∙ copies_file flags words p) h) e
+-- `/dev/null` takes the mail
+pub taken_by_nothing : (flags : Flags) (name piece : List ℕ) (stored p : Mind) (x : JournalState) (s : View) → is_nothing name ≡ true → Executes (to_file flags name piece stored p) (filing_of Stored stored) x x s s
+taken_by_nothing flags name piece stored p x s e =
+    choose_then (is_nothing name) (Ends (filing_of Stored stored)) (and_then (ask (Append name piece)) (appended_by flags name stored p)) (filing_of Stored stored) x x s s e (executes_nothing (filing_of Stored stored) x x s refl)
+
+-- what came of an append where no folder stood
+append_ends : (flags : Flags) (name : List ℕ) (vars : Table) (p : Mind) (reply : Reply) → is_folder_there reply ≡ false
+    → Ends (filing_of (filed_by name reply) (mind_after (filed_by name reply) vars p)) ≡ appended_by flags name (with_vars vars p) p reply
+append_ends flags name vars p Done h = refl
+append_ends flags name vars p IsFolder h = let e : true ≡ false = h in absurd (cc)
+append_ends flags name vars p (Torn count) h = refl
+append_ends flags name vars p other h = refl
+
+pub appended : (flags : Flags) (name piece shown : List ℕ) (vars : Table) (reply : Reply) (filed : Filed) (p q : Mind) (x y : JournalState) (a b : View) → is_nothing name ≡ false → shown ≡ name → is_folder_there reply ≡ false
+    → filed ≡ filed_by shown reply → q ≡ mind_after filed vars p → NotesAct (Append name piece) reply x y a b → Executes (to_file flags name piece (with_vars vars p) p) (filing_of filed q) x y a b
+appended flags name piece shown vars reply filed p q x y a b some same free is minds n =
+    let stored = with_vars vars p in
+    let as_filed : filed ≡ filed_by name reply = is ∙ ap (λ l. filed_by l reply) same in
+    let last : filing_of filed q ≡ filing_of (filed_by name reply) (mind_after (filed_by name reply) vars p) = ap (filing_of filed) minds ∙ ap (λ f. filing_of f (mind_after f vars p)) as_filed in
+    let ends : Executes (appended_by flags name stored p reply) (filing_of filed q) y y b b =
+    subst (λ plan. Executes plan (filing_of filed q) y y b b) (append_ends flags name vars p reply free) (subst (λ r. Executes (Ends r) (filing_of filed q) y y b b) last (executes_nothing (filing_of filed q) y y b refl)) in
+    choose_else (is_nothing name) (Ends (filing_of Stored stored)) (and_then (ask (Append name piece)) (appended_by flags name stored p)) (filing_of filed q) x y a b some
+    (first_act (Append name piece) (appended_by flags name stored p) reply (filing_of filed q) x x y y a b b refl n ends)
+
+folder_there : (reply : Reply) → is_folder_there reply ≡ true → reply ≡ IsFolder
+folder_there IsFolder h = refl
+folder_there other h = let e : false ≡ true = h in absurd (cc)
+
+-- a folder stood there, and got the mail, or memory was wanting then
+pub appended_plain : (flags : Flags) (name piece shown : List ℕ) (stored p : Mind) (reply : Reply) (filing : Filing) (x y z : JournalState) (a b c : View) → is_nothing name ≡ false → shown ≡ name → is_folder_there reply ≡ true
+    → NotesAct (Append name piece) reply x y a b → Executes (in_plain flags shown p) filing y z b c → Executes (to_file flags name piece stored p) filing x z a c
+appended_plain flags name piece shown stored p reply filing x y z a b c some same there n k =
+    let note = subst (λ r. NotesAct (Append name piece) r x y a b) (folder_there reply there) n in
+    choose_else (is_nothing name) (Ends (filing_of Stored stored)) (and_then (ask (Append name piece)) (appended_by flags name stored p)) filing x z a c some
+    (first_act (Append name piece) (appended_by flags name stored p) IsFolder filing x x y z a b c refl note (subst (λ l. Executes (in_plain flags l p) filing y z b c) same k))
+
+pub appended_plain_out : (flags : Flags) (name piece shown : List ℕ) (stored p : Mind) (reply : Reply) (x y z : JournalState) (a b c : View) → is_nothing name ≡ false → shown ≡ name → is_folder_there reply ≡ true
+    → NotesAct (Append name piece) reply x y a b → OutOfMemory (in_plain flags shown p) y z b c → OutOfMemory (to_file flags name piece stored p) x z a c
+appended_plain_out flags name piece shown stored p reply x y z a b c some same there n k =
+    let note = subst (λ r. NotesAct (Append name piece) r x y a b) (folder_there reply there) n in
+    else_out (is_nothing name) (Ends (filing_of Stored stored)) (and_then (ask (Append name piece)) (appended_by flags name stored p)) x z a c some
+    (first_act_out (Append name piece) (appended_by flags name stored p) IsFolder x x y z a b c refl note (subst (λ l. OutOfMemory (in_plain flags l p) y z b c) same k))
+
+-- a name can begin so, or can't
+pub plain_unnamed : (flags : Flags) (folder : List ℕ) (p : Mind) (x : JournalState) (s : View) → None ≡ prefix_of (plain_prefix p) → Executes (in_plain flags folder p) (filing_of Unnamed p) x x s s
+plain_unnamed flags folder p x s h =
+    choose_else (is_usable (plain_prefix p)) (in_folder Plain folder (plain_prefix p) (folder_piece flags p) p) (Ends (filing_of Unnamed p)) (filing_of Unnamed p) x x s s (none_if (is_usable (plain_prefix p)) (plain_prefix p) h)
+    (executes_nothing (filing_of Unnamed p) x x s refl)
+
+pub plain_filed : (flags : Flags) (folder prefix piece : List ℕ) (p : Mind) (filing : Filing) (x y : JournalState) (a b : View) → Some prefix ≡ prefix_of (plain_prefix p) → piece ≡ folder_piece flags p
+    → Executes (in_folder Plain folder prefix piece p) filing x y a b → Executes (in_plain flags folder p) filing x y a b
+plain_filed flags folder prefix piece p filing x y a b h is k =
+    let e = some_if (is_usable (plain_prefix p)) prefix (plain_prefix p) h in
+    choose_then (is_usable (plain_prefix p)) (in_folder Plain folder (plain_prefix p) (folder_piece flags p) p) (Ends (filing_of Unnamed p)) filing x y a b e.0
+    (subst (λ l. Executes (in_folder Plain folder l (folder_piece flags p) p) filing x y a b) e.1 (subst (λ l. Executes (in_folder Plain folder prefix l p) filing x y a b) is k))
+
+pub plain_wants : (flags : Flags) (folder prefix piece : List ℕ) (p : Mind) (x y : JournalState) (a b : View) → Some prefix ≡ prefix_of (plain_prefix p) → piece ≡ folder_piece flags p
+    → OutOfMemory (in_folder Plain folder prefix piece p) x y a b → OutOfMemory (in_plain flags folder p) x y a b
+plain_wants flags folder prefix piece p x y a b h is k =
+    let e = some_if (is_usable (plain_prefix p)) prefix (plain_prefix p) h in
+    then_out (is_usable (plain_prefix p)) (in_folder Plain folder (plain_prefix p) (folder_piece flags p) p) (Ends (filing_of Unnamed p)) x y a b e.0
+    (subst (λ l. OutOfMemory (in_folder Plain folder l (folder_piece flags p) p) x y a b) e.1 (subst (λ l. OutOfMemory (in_folder Plain folder prefix l p) x y a b) is k))

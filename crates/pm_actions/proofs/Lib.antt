@@ -1,6 +1,15 @@
 pub mod Choices
 pub mod SkipLemmas
 pub mod FileLemmas
+mod FoundLemmas
+mod PlaceLemmas
+mod NameLemmas
 pub mod DeliverLemmas
 mod AttemptLemmas
 mod SayingLemmas
+pub mod Sequences
+pub mod OutputLemmas
+mod ProgramLemmas
+mod ErrandLemmas
+mod TryLemmas
+mod TaskLemmas

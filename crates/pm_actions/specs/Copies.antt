@@ -1,30 +1,52 @@
 -- Destinations with all that is wanted for them.
-use Rattle.std.specs.Prelude.{◌≡◌, ℕ, Bool, true, false, List, [], ◌∷◌, Option, Some, None, codes}
+use Rattle.std.specs.Prelude.{◌≡◌, ℕ, false, List, [], ◌∷◌, Option, Some, None, codes}
 use Rattle.pm_bytes.specs.Path.{full_name}
-use Rattle.pm_journal.specs.Plan.{Plan, Ends, and_then}
-use Rattle.pm_meaning.specs.Delivering.{Attempted, Filing, file_at, mailbox_piece}
-use Rattle.pm_meaning.specs.declared.process.Attempt.{Attempt}
 use Rattle.pm_journal.specs.Held.{holds_name}
+use Rattle.pm_journal.specs.Plan.{Plan}
+use Rattle.pm_journal.specs.declared.placing.FolderKind.{FolderKind}
+use Rattle.pm_meaning.specs.Delivering.{Attempted, Filing, mailbox_piece, folder_piece, to_file, in_folder}
 use Rattle.pm_meaning.specs.Minds.{Mind}
+use Rattle.pm_meaning.specs.declared.process.Attempt.{Attempt}
+use Rattle.pm_meaning.specs.declared.process.Destination.{Destination}
 use Rattle.pm_meaning.specs.declared.process.Filed.{Filed}
-use Rattle.pm_meaning.specs.declared.process.Filed.TheVariants.{Stored, Unwritten, Left, Folder}
 use Rattle.pm_recipe.specs.declared.tree.Flags.{Flags}
 use Rattle.pm_vars.specs.Table.{Table}
 use Rattle.pm_vars.specs.Variables.{with_value}
 use Rattle.pm_actions.specs.declared.filing.Copy.{Copy}
+use Rattle.pm_actions.specs.declared.filing.Copy.TheVariants.{ToFile, ToFolder}
+use Rattle.pm_actions.specs.declared.filing.FileCopy.{FileCopy}
+use Rattle.pm_actions.specs.declared.placing.FolderCopy.{FolderCopy}
 
 -- the variables once this destination has the mail
 abbrev pub remembered : List ℕ → Table → Table
 remembered word vars = record vars { variables = with_value (codes "LASTFOLDER") word vars.variables }
 
--- one destination with its name, its piece, and the variables once it has the mail
-abbrev pub copy_for : Flags → Mind → List ℕ → Copy
-copy_for flags p word = record {
-  name = full_name p.base word;
-  shown = full_name p.base word;
+-- a file with its name, its piece, and the variables once it has the mail
+abbrev pub file_copy_for : Flags → Mind → List ℕ → FileCopy
+file_copy_for flags p name = record {
+  name = full_name p.base name;
+  shown = full_name p.base name;
   piece = mailbox_piece flags p;
-  vars = remembered word p.vars;
+  vars = remembered name p.vars;
 }
+
+-- a folder with its name and its piece; no name in it begins in a way of its own
+abbrev pub folder_copy_for : FolderKind → Flags → Mind → List ℕ → FolderCopy
+folder_copy_for kind flags p name = record {
+  kind = kind;
+  folder = full_name p.base name;
+  shown = full_name p.base name;
+  prefix = [];
+  piece = folder_piece flags p;
+}
+
+-- one destination with all that is wanted for it
+abbrev pub copy_as : Option FolderKind → Flags → Mind → List ℕ → Copy
+copy_as None flags p name = ToFile (file_copy_for flags p name)
+copy_as (Some kind) flags p name = ToFolder (folder_copy_for kind flags p name)
+
+abbrev pub copy_for : Flags → Mind → Destination → Copy
+copy_for flags p destination = copy_as destination.kind flags p destination.name
 
 -- what came of destinations, with the process then
 abbrev pub filing_of : Filed → Mind → Filing
@@ -43,24 +65,16 @@ IsFreeLock (Some name) names = holds_name names name ≡ false
 abbrev pub with_vars : Table → Mind → Mind
 with_vars vars p = record p { vars = vars }
 
--- a destination that has the mail is remembered
-abbrev pub mind_after : Filed → Table → Mind → Mind
-mind_after Stored vars p = with_vars vars p
-mind_after other vars p = p
+-- the copy goes to its destination
+abbrev pub file_copy : Flags → Copy → Mind → Plan Filing
+file_copy flags (ToFile copy) p = to_file flags copy.name copy.piece (with_vars copy.vars p) p
+file_copy flags (ToFolder copy) p = in_folder copy.kind copy.folder copy.prefix copy.piece p
 
--- each copy in order, up to one that isn't taken
-abbrev pub file_copies : List Copy → Mind → Plan Filing
-file_copies [] p = Ends (filing_of Stored p)
-file_copies (copy ∷ copies) p =
-    and_then (file_at copy.name copy.piece)
-    (λ filed. elim filed [
-      | Stored ↦ file_copies copies (with_vars copy.vars p)
-      | Unwritten name ↦ Ends (filing_of (Unwritten name) p)
-      | Left name count ↦ Ends (filing_of (Left name count) p)
-      | Folder ↦ Ends (filing_of Folder p)
-    ])
+-- the name for the line is that of the file or the folder
+abbrev pub IsShown : Copy → Type 0
+IsShown (ToFile copy) = copy.shown ≡ copy.name
+IsShown (ToFolder copy) = copy.shown ≡ copy.folder
 
--- the name for the line is that of the file
 abbrev pub AllShown : List Copy → Type 0
 AllShown [] = Unit {0}
-AllShown (copy ∷ copies) = (copy.shown ≡ copy.name) × AllShown copies
+AllShown (copy ∷ copies) = IsShown copy × AllShown copies

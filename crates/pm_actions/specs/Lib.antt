@@ -2,3 +2,8 @@ pub mod Turning
 pub mod Names
 pub mod Expanding
 pub mod Copies
+pub mod Programs
+pub mod Outputs
+pub mod Placing
+pub mod Filing
+pub mod Errands

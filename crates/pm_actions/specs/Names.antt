@@ -1,10 +1,12 @@
 -- Texts as names of files.
-use Rattle.std.specs.Prelude.{◌≡◌, ℕ, true, false, List, Option, Some, None, Result, Ok, Err, Vec, if◌then◌else◌}
+use Rattle.std.specs.Prelude.{◌≡◌, ℕ, true, false, List, Option, Some, None, Result, Ok, Err, Vec, map, if◌then◌else◌}
 use Rattle.std.specs.Global.{Global}
+use Rattle.pm_bytes.specs.Name.{is_usable}
 use Rattle.pm_recipe.specs.Tree.{Top}
 use Rattle.pm_recipe.specs.declared.tree.Recipe.{Recipe}
 use Rattle.pm_meaning.specs.Texts.{is_file_text}
-use Rattle.pm_meaning.specs.Delivering.{are_file_texts}
+use Rattle.pm_meaning.specs.Destinations.{without_ending, destination_of, are_file_texts}
+use Rattle.pm_meaning.specs.declared.process.Destination.{Destination}
 use Rattle.pm_meaning.specs.Locks.{is_lock_word}
 use Rattle.pm_bytes.specs.declared.error.NameRefused.{NameRefused}
 use Rattle.pm_bytes.specs.declared.error.NameRefused.TheVariants.{Unusable, Memory}
@@ -13,10 +15,18 @@ use Rattle.pm_bytes.specs.declared.error.NameRefused.TheVariants.{Unusable, Memo
 abbrev pub file_name_of : List ℕ → Option (List ℕ)
 file_name_of text = if is_file_text text then Some text else None
 
--- the words as names, or that they aren't usable
-abbrev pub AreNames : List (List ℕ) → Option (Vec (List ℕ) Global) → Type 0
-AreNames words None = are_file_texts words ≡ false
-AreNames words (Some names) = (are_file_texts words ≡ true) × (names.items ≡ words)
+-- what a word asks for, where its name can be used
+abbrev pub usable_destination : List ℕ → Option Destination
+usable_destination word = if is_file_text (without_ending word) then Some (destination_of word) else None
+
+-- the words as destinations, or that they aren't usable
+abbrev pub AreDestinations : List (List ℕ) → Option (Vec Destination Global) → Type 0
+AreDestinations words None = are_file_texts words ≡ false
+AreDestinations words (Some all) = (are_file_texts words ≡ true) × (all.items ≡ map destination_of words)
+
+-- the text where names can begin with it
+abbrev pub prefix_of : List ℕ → Option (List ℕ)
+prefix_of text = if is_usable text then Some text else None
 
 -- the word as a name, or that it isn't usable
 abbrev pub IsLockName : Option (List ℕ) → Result (Option (List ℕ)) NameRefused → Type 0

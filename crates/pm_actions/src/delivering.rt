@@ -1,36 +1,41 @@
 //! Recipes that deliver to mailboxes (procmailrc(5), "Recipe action line"), and default mailboxes.
-ghost use Rattle.std.specs.Prelude.{◌≡◌, false};
+ghost use Rattle.std.specs.Prelude.{◌≡◌, [], length};
 ghost use Rattle.pm_journal.specs.Executed.{Carries};
-ghost use Rattle.pm_subst.specs.declared.kinds.Mode.TheVariants.{Many};
+ghost use Rattle.pm_subst.specs.Commands.{commands_in};
+ghost use Rattle.pm_subst.specs.declared.kinds.Mode.TheVariants.{One, Many};
 ghost use Rattle.pm_journal.specs.Held.{Keeping};
 ghost use Rattle.pm_recipe.specs.View.{act_of};
-ghost use Rattle.pm_meaning.specs.Locks.{blamed_text as blamed};
+ghost use Rattle.pm_meaning.specs.Acting.{act_on};
+ghost use Rattle.pm_meaning.specs.Locks.{blamed_text as blamed, text_or};
 ghost use Rattle.pm_meaning.specs.Delivering.{attempt_turn, filed_turn, is_done as is_done_by, settled};
 ghost use Rattle.pm_meaning.specs.Delivering.{file_and_say as filed_and_said};
-ghost use Rattle.pm_meaning.specs.Turns.{has_command, refuse_name};
+ghost use Rattle.pm_meaning.specs.Turns.{refuse_name};
 ghost use Rattle.pm_meaning.specs.Delivering.{deliver_at as to_names, deliver_named as to_usable};
-ghost use Rattle.pm_meaning.specs.Delivering.{deliver_to as to_words, deliver_text as by_value, deliver, act_on};
+ghost use Rattle.pm_meaning.specs.Delivering.{deliver_to as to_words, deliver_text as by_value, deliver_with, deliver};
 ghost use Rattle.pm_meaning.specs.Minds.{Mind, mind_of};
 ghost use Rattle.pm_meaning.specs.Running.{deliver_default as to_default, no_flags as none_flags};
 ghost use Rattle.pm_actions.specs.Copies.{IsFreeLock};
 ghost use Rattle.pm_actions.specs.Names.{top_of};
+ghost use Rattle.pm_actions.specs.Outputs.{ready_of};
 ghost use Rattle.pm_actions.specs.Turning.{turn_of};
 
 use crate::attempting::attempt;
-use crate::expanding::{Expansion, expand_text, first_word, runs_command};
+use crate::expanding::{Expansion, expand_text, first_word};
 use crate::filing::is_stored;
 use crate::locks::{
     any_held, blamed_text, full_lock, full_names, is_taken, lock_name, lock_text, lock_word,
 };
-use crate::names::{file_names, has_folder};
+use crate::names::destinations;
+use crate::outputs::{Ready, make_ready};
 use crate::saying::{attempt_lines, say_each};
 use crate::skipping::skip_value;
+use crate::tasks::{pipe_or_filter, write_out};
 use pm_acts::{Outside, say};
 use pm_bytes::{Blob, Memory, Name, NameRefused};
 use pm_journal::{Journal, unusable_name};
-use pm_meaning::{Attempt, End, Filed, Process, succeed};
+use pm_meaning::{Attempt, Destination, End, Filed, Process, succeed};
 use pm_recipe::{Action, Flags, Recipe};
-use pm_subst::Mode;
+use pm_subst::{Mode, commands};
 use std::alloc::Global;
 
 // What an action asks for: its flags, the text of its lock file, and its own text.
@@ -65,6 +70,18 @@ pub fn perform<D: Outside>(
             };
             deliver_mail(alloc, &order, process, outside, journal)
         }
+        Action::Pipe(line) => {
+            pipe_or_filter(
+                alloc,
+                recipe.flags,
+                &recipe.lock,
+                line.as_slice(),
+                process,
+                outside,
+                journal,
+            )
+        }
+        Action::WriteOut => write_out(alloc, recipe.flags, &recipe.lock, process, outside, journal),
         _ => Ok(Some(End::NotBuilt)),
     }
 }
@@ -124,7 +141,7 @@ fn no_flags() -> Flags
     }
 }
 
-// Expands the text of the lock file, and then delivers.
+// Runs the commands of the lock file's text and of the action's, and then delivers.
 fn deliver_mail<D: Outside>(
     alloc: Global,
     order: &Order<'_>,
@@ -139,16 +156,49 @@ fn deliver_mail<D: Outside>(
         journal.old journal.new (D.told outside.old) (D.told outside.new) }
     ensures keeping { Keeping journal.new process.new.locks.names }
 {
+    let lock_commands = commands(alloc, lock_text(order.lock), Mode::One)?;
+    let text_commands = commands(alloc, order.text, Mode::Many)?;
+    let ready = make_ready(
+        alloc,
+        lock_commands.as_slice(),
+        text_commands.as_slice(),
+        process,
+        outside,
+        journal,
+    )?;
+    deliver_ready(alloc, order, &ready, process, outside, journal)
+}
+
+// Expands the text of the lock file, and then delivers.
+fn deliver_ready<D: Outside>(
+    alloc: Global,
+    order: &Order<'_>,
+    ready: &Ready,
+    process: &mut Process,
+    outside: &mut D,
+    journal: &mut Journal,
+) -> Result<Option<End>, Memory>
+    requires locks { length ready.now.lock_outputs.items ≡ length (commands_in One (text_or [] order.now.lock.now)) }
+    requires each { length ready.now.outputs.items ≡ length (commands_in Many order.now.text.now) }
+    requires keeping { Keeping journal.old process.old.locks.names }
+    ensures carries { let o = order.now in
+        Carries (deliver_with o.flags o.lock.now o.text.now (ready_of ready.now (mind_of process.old)))
+        (λ end. turn_of end (mind_of process.new)) result
+        journal.old journal.new (D.told outside.old) (D.told outside.new) }
+    ensures keeping { Keeping journal.new process.new.locks.names }
+{
     let lock = lock_text(order.lock);
-    let lock_runs = runs_command(alloc, lock, Mode::One)?;
-    let text_runs = runs_command(alloc, order.text, Mode::Many)?;
-    if lock_runs || text_runs {
-        return Ok(Some(End::NotBuilt));
-    }
-    match expand_text(alloc, lock, Mode::One, &process.vars)? {
+    match expand_text(
+        alloc,
+        lock,
+        Mode::One,
+        &process.vars,
+        ready.lock_outputs.as_slice(),
+    )? {
         Expansion::Words(words) => {
             let value = first_word(alloc, words);
-            deliver_text(alloc, order, value, process, outside, journal)
+            let outputs = ready.outputs.as_slice();
+            deliver_text(alloc, order, value, outputs, process, outside, journal)
         }
         Expansion::TooLong(length) => skip_value(alloc, length, process, outside, journal),
     }
@@ -159,19 +209,20 @@ fn deliver_text<D: Outside>(
     alloc: Global,
     order: &Order<'_>,
     value: Blob,
+    outputs: &[Blob],
     process: &mut Process,
     outside: &mut D,
     journal: &mut Journal,
 ) -> Result<Option<End>, Memory>
-    requires commands { has_command Many order.now.text.now ≡ false }
+    requires each { length outputs.now ≡ length (commands_in Many order.now.text.now) }
     requires keeping { Keeping journal.old process.old.locks.names }
     ensures carries { let o = order.now in
-        Carries (by_value o.flags o.lock.now value o.text.now (mind_of process.old))
+        Carries (by_value o.flags o.lock.now value o.text.now outputs.now (mind_of process.old))
         (λ end. turn_of end (mind_of process.new)) result
         journal.old journal.new (D.told outside.old) (D.told outside.new) }
     ensures keeping { Keeping journal.new process.new.locks.names }
 {
-    match expand_text(alloc, order.text, Mode::Many, &process.vars)? {
+    match expand_text(alloc, order.text, Mode::Many, &process.vars, outputs)? {
         Expansion::Words(words) => {
             deliver_to_words(
                 alloc,
@@ -218,7 +269,7 @@ fn deliver_to_words<D: Outside>(
     }
 }
 
-// Delivers to these destinations, if each can be a file's name.
+// Delivers to these destinations, if each can be the name of a file or a folder.
 fn deliver_named<D: Outside>(
     alloc: Global,
     order: &Order<'_>,
@@ -235,15 +286,15 @@ fn deliver_named<D: Outside>(
         journal.old journal.new (D.told outside.old) (D.told outside.new) }
     ensures keeping { Keeping journal.new process.new.locks.names }
 {
-    match file_names(alloc, words)? {
+    match destinations(alloc, words)? {
         None => refuse(alloc, order.text, process, outside, journal),
-        Some(names) => {
+        Some(all) => {
             let lock = full_lock(alloc, &process.base, lock)?;
             deliver_at(
                 alloc,
                 order,
                 lock,
-                names.as_slice(),
+                all.as_slice(),
                 process,
                 outside,
                 journal,
@@ -257,19 +308,19 @@ fn deliver_at<D: Outside>(
     alloc: Global,
     order: &Order<'_>,
     lock: Option<Name>,
-    names: &[Name],
+    destinations: &[Destination],
     process: &mut Process,
     outside: &mut D,
     journal: &mut Journal,
 ) -> Result<Option<End>, Memory>
     requires keeping { Keeping journal.old process.old.locks.names }
     ensures carries { let o = order.now in
-        Carries (to_names o.flags lock (blamed o.lock.now o.text.now) o.text.now names.now (mind_of process.old))
+        Carries (to_names o.flags lock (blamed o.lock.now o.text.now) o.text.now destinations.now (mind_of process.old))
         (λ end. turn_of end (mind_of process.new)) result
         journal.old journal.new (D.told outside.old) (D.told outside.new) }
     ensures keeping { Keeping journal.new process.new.locks.names }
 {
-    let files = full_names(alloc, &process.base, names)?;
+    let files = full_names(alloc, &process.base, destinations)?;
     if is_taken(&lock, files.as_slice(), &process.locks) {
         let text = blamed_text(order.lock, order.text);
         return refuse(alloc, text, process, outside, journal);
@@ -277,33 +328,39 @@ fn deliver_at<D: Outside>(
     if any_held(files.as_slice(), &process.locks) {
         return refuse(alloc, order.text, process, outside, journal);
     }
-    if has_folder(names) {
-        return Ok(Some(End::NotBuilt));
-    }
-    file_and_say(alloc, lock, order.flags, names, process, outside, journal)
+    file_and_say(alloc, lock, order, destinations, process, outside, journal)
 }
 
 // Delivers, and says what came of it.
 fn file_and_say<D: Outside>(
     alloc: Global,
     lock: Option<Name>,
-    flags: Flags,
-    names: &[Name],
+    order: &Order<'_>,
+    destinations: &[Destination],
     process: &mut Process,
     outside: &mut D,
     journal: &mut Journal,
 ) -> Result<Option<End>, Memory>
     requires free { IsFreeLock lock process.old.locks.names }
     requires keeping { Keeping journal.old process.old.locks.names }
-    ensures carries { Carries (filed_and_said flags lock names.now (mind_of process.old))
+    ensures carries { let o = order.now in
+        Carries (filed_and_said o.flags lock o.text.now destinations.now (mind_of process.old))
         (λ end. turn_of end (mind_of process.new)) result
         journal.old journal.new (D.told outside.old) (D.told outside.new) }
     ensures keeping { Keeping journal.new process.new.locks.names }
 {
-    let attempt = attempt(alloc, lock, flags, names, process, outside, journal)?;
+    let attempt = attempt(
+        alloc,
+        lock,
+        order.flags,
+        destinations,
+        process,
+        outside,
+        journal,
+    )?;
     settle(&attempt, process);
-    let end = end_of(flags, &attempt);
-    let lines = attempt_lines(alloc, &attempt)?;
+    let end = end_of(order.flags, &attempt);
+    let lines = attempt_lines(alloc, order.text, &attempt)?;
     say_each(lines, end, process, outside, journal)
 }
 
@@ -357,7 +414,7 @@ fn end_of(flags: Flags, attempt: &Attempt) -> Option<End>
     }
 }
 
-// A copy doesn't end the process, and delivery to folders isn't built yet.
+// A copy doesn't end the process.
 fn filed_end(flags: Flags, filed: &Filed) -> Option<End>
     ensures { (p : Mind) → filed_turn flags filed.now p ≡ turn_of result p }
 {
@@ -369,7 +426,6 @@ fn filed_end(flags: Flags, filed: &Filed) -> Option<End>
                 Some(End::Delivered)
             }
         }
-        Filed::Folder => Some(End::NotBuilt),
-        Filed::Unwritten(_) | Filed::Left { .. } => None,
+        Filed::Unwritten(_) | Filed::Left { .. } | Filed::Crowded(_) | Filed::Unnamed => None,
     }
 }

@@ -1,7 +1,8 @@
-//! Texts expanded by the variables of a process. Running programs isn't built yet, so a text has no command here.
-ghost use Rattle.std.specs.Prelude.{◌≡◌, false, IfOk};
+//! Texts expanded by the variables of a process.
+ghost use Rattle.std.specs.Prelude.{◌≡◌, [], false, length, IfOk};
 ghost use Rattle.pm_meaning.specs.Assigning.{first_word as first_of};
 ghost use Rattle.pm_meaning.specs.Turns.{has_command};
+ghost use Rattle.pm_subst.specs.Commands.{commands_in};
 ghost use Rattle.pm_actions.specs.Expanding.{IsExpansion};
 
 use pm_bytes::{Blob, Memory};
@@ -24,11 +25,31 @@ pub fn runs_command(alloc: Global, text: &[u8], mode: Mode) -> Result<bool, Memo
     Ok(!commands.is_empty())
 }
 
-pub fn expand_text(alloc: Global, text: &[u8], mode: Mode, vars: &Vars) -> Result<Expansion, Memory>
+/// Expands a text that has no command.
+pub fn expand_plain(
+    alloc: Global,
+    text: &[u8],
+    mode: Mode,
+    vars: &Vars,
+) -> Result<Expansion, Memory>
     requires { has_command mode text.now ≡ false }
-    ensures { IfOk result (λ expansion. IsExpansion mode text.now vars.now expansion) }
+    ensures { IfOk result (λ expansion. IsExpansion mode text.now vars.now [] expansion) }
 {
-    match expand(alloc, text, mode, vars, &[]) {
+    expand_text(alloc, text, mode, vars, &[])
+}
+
+/// Expands a text, with the outputs of its commands in their order.
+pub fn expand_text(
+    alloc: Global,
+    text: &[u8],
+    mode: Mode,
+    vars: &Vars,
+    outputs: &[Blob],
+) -> Result<Expansion, Memory>
+    requires { length outputs.now ≡ length (commands_in mode text.now) }
+    ensures { IfOk result (λ expansion. IsExpansion mode text.now vars.now outputs.now expansion) }
+{
+    match expand(alloc, text, mode, vars, outputs) {
         Ok(words) => Ok(Expansion::Words(words)),
         Err(ExpandRefused::Overflow { length }) => Ok(Expansion::TooLong(length)),
         Err(ExpandRefused::Memory) => Err(Memory),

@@ -1,62 +1,98 @@
-//! The mail goes to files, one destination after the other. All memory is taken before the first of them, so that none
-//! can be wanting between two deliveries or right behind one.
-ghost use Rattle.std.specs.Prelude.{◌≡◌, ◌+◌, ◌≤◌, length, map, IfOk};
-ghost use Rattle.pm_bytes.specs.Path.{full_name};
+//! The mail goes to files and folders, one destination after the other. What each wants is taken before the first of them,
+//! so that no memory can be wanting between two deliveries to files or right behind one.
+ghost use Rattle.std.specs.Prelude.{◌≡◌, ◌+◌, ◌*◌, ◌≤◌, false, length, map, IfOk, OnErr, List};
+ghost use Rattle.std.specs.List.{list_any};
 ghost use Rattle.pm_journal.specs.Appending.{append_reply};
-ghost use Rattle.pm_journal.specs.Executed.{Executes};
+ghost use Rattle.pm_journal.specs.Executed.{Carries};
 ghost use Rattle.pm_journal.specs.Held.{Keeping};
-ghost use Rattle.pm_meaning.specs.Delivering.{feed_of, filed_by, file_at, is_stored as is_stored_by};
+ghost use Rattle.pm_meaning.specs.Delivering.{feed_of, folder_piece, file_all, to_file, in_plain, is_stored as is_stored_by};
 ghost use Rattle.pm_meaning.specs.Locks.{is_nothing as is_null_device};
 ghost use Rattle.pm_meaning.specs.Minds.{mind_of};
-ghost use Rattle.pm_actions.specs.Copies.{copy_for, remembered, file_copies, filing_of, mind_after};
-ghost use Rattle.pm_actions.specs.Copies.{AllShown};
+ghost use Rattle.pm_meaning.specs.declared.process.Destination.{Destination as Asked};
+ghost use Rattle.pm_actions.specs.Copies.{copy_for, file_copy_for, folder_copy_for, remembered, filing_of, with_vars};
+ghost use Rattle.pm_actions.specs.Copies.{file_copy as copy_filed, IsShown, AllShown};
+ghost use Rattle.pm_actions.specs.Filing.{is_folder_there, filed_by, mind_after, is_folder_copy, HasFound};
 
+use crate::names::plain_prefix;
+use crate::placing::{FolderCopy, file_in_folder};
 use pm_acts::Outside;
 use pm_append::AppendEnd;
 use pm_bytes::{Blob, Memory, Name, full};
-use pm_journal::Journal;
-use pm_meaning::{Filed, Process};
+use pm_journal::{FolderKind, Journal};
+use pm_meaning::{Destination, Filed, Process};
 use pm_message::{Feed, Kind, piece};
 use pm_recipe::Flags;
 use pm_vars::Vars;
 use std::alloc::Global;
 use std::collections::VecDeque;
 
-/// One destination with all that is wanted for it: its name for the entry and for the line where it fails, the piece, and
-/// the variables once it has the mail.
+/// A file with all that is wanted for it: its name for the entry and for what comes where it isn't done, the piece, and the
+/// variables once it has the mail.
 #[derive(Drop)]
-pub struct Copy {
+pub struct FileCopy {
     name: Name,
     shown: Name,
     piece: Blob,
     vars: Vars,
 }
 
+/// One destination with all that is wanted for it.
+#[derive(Drop)]
+pub enum Copy {
+    ToFile(FileCopy),
+    ToFolder(FolderCopy),
+}
+
 /// The destinations in order, each with all that is wanted for it.
 pub fn copies_for(
     alloc: Global,
     flags: Flags,
-    words: &[Name],
+    destinations: &[Destination],
     process: &Process,
 ) -> Result<VecDeque<Copy>, Memory>
-    ensures { IfOk result (λ copies. copies.items ≡ map (copy_for flags (mind_of process.now)) words.now) }
+    ensures { IfOk result (λ copies. copies.items ≡ map (copy_for flags (mind_of process.now)) destinations.now) }
 {
     let mut copies = VecDeque::new(alloc);
-    for word in words {
-        copies.push_back(make_copy(alloc, flags, word, process)?)?;
+    for destination in destinations {
+        copies.push_back(make_copy(alloc, flags, destination, process)?)?;
     }
     Ok(copies)
 }
 
-fn make_copy(alloc: Global, flags: Flags, word: &Name, process: &Process) -> Result<Copy, Memory>
-    ensures { IfOk result (λ copy. copy ≡ copy_for flags (mind_of process.now) word.now) }
+fn make_copy(
+    alloc: Global,
+    flags: Flags,
+    destination: &Destination,
+    process: &Process,
+) -> Result<Copy, Memory>
+    ensures { IfOk result (λ copy. copy ≡ copy_for flags (mind_of process.now) destination.now) }
+{
+    match destination.kind {
+        None => Ok(Copy::ToFile(file_copy_of(alloc, flags, &destination.name, process)?)),
+        Some(kind) => Ok(Copy::ToFolder(folder_copy_of(
+            alloc,
+            kind,
+            flags,
+            &destination.name,
+            process,
+        )?)),
+    }
+}
+
+fn file_copy_of(
+    alloc: Global,
+    flags: Flags,
+    word: &Name,
+    process: &Process,
+) -> Result<FileCopy, Memory>
+    ensures { IfOk result (λ copy. copy ≡ file_copy_for flags (mind_of process.now) word.now) }
 {
     let name = full(alloc, &process.base, word)?;
     let shown = name.copy(alloc)?;
     let feed = fed_parts(flags);
     let piece = piece(alloc, &process.message, feed, Kind::MailboxFile, flags.raw)?;
     let vars = remembering(alloc, word, &process.vars)?;
-    Ok(Copy {
+    Ok(FileCopy {
         name,
         shown,
         piece,
@@ -64,8 +100,43 @@ fn make_copy(alloc: Global, flags: Flags, word: &Name, process: &Process) -> Res
     })
 }
 
-// The parts of the mail that the flags h and b feed.
-fn fed_parts(flags: Flags) -> Feed
+fn folder_copy_of(
+    alloc: Global,
+    kind: FolderKind,
+    flags: Flags,
+    word: &Name,
+    process: &Process,
+) -> Result<FolderCopy, Memory>
+    ensures { IfOk result (λ copy. copy ≡ folder_copy_for kind flags (mind_of process.now) word.now) }
+{
+    let folder = full(alloc, &process.base, word)?;
+    let shown = folder.copy(alloc)?;
+    let prefix = Name::from_text(String::new(alloc));
+    let piece = own_piece(alloc, flags, process)?;
+    Ok(FolderCopy {
+        kind,
+        folder,
+        shown,
+        prefix,
+        piece,
+    })
+}
+
+// What a file of its own gets in a folder.
+fn own_piece(alloc: Global, flags: Flags, process: &Process) -> Result<Blob, Memory>
+    ensures { IfOk result (λ piece. piece ≡ folder_piece flags (mind_of process.now)) }
+{
+    piece(
+        alloc,
+        &process.message,
+        fed_parts(flags),
+        Kind::Other,
+        flags.raw,
+    )
+}
+
+/// The parts of the mail that the flags h and b feed.
+pub fn fed_parts(flags: Flags) -> Feed
     ensures { result ≡ feed_of flags }
 {
     if flags.feed_head && !flags.feed_body {
@@ -87,48 +158,83 @@ fn remembering(alloc: Global, word: &Name, vars: &Vars) -> Result<Vars, Memory>
     Ok(copy)
 }
 
-/// Delivers to each destination in order, up to one that doesn't get the mail. It takes no memory.
-pub fn append_all<D: Outside>(
+/// Delivers to each destination in order, up to one that doesn't get the mail. Memory can be wanting only where one of them
+/// is a folder.
+pub fn file_each<D: Outside>(
+    alloc: Global,
+    flags: Flags,
     mut copies: VecDeque<Copy>,
     process: &mut Process,
     outside: &mut D,
     journal: &mut Journal,
-) -> Filed
+) -> Result<Filed, Memory>
     requires keeping { Keeping journal.old process.old.locks.names }
-    requires room { length process.old.locks.names + length copies.items ≤ journal.old.room }
+    requires room { length process.old.locks.names + 3 * length copies.items ≤ journal.old.room }
     requires shown { AllShown copies.items }
-    ensures files { Executes (file_copies copies.items (mind_of process.old))
-        (filing_of result (mind_of process.new))
+    ensures carries { (destinations : List Asked) → copies.items ≡ map (copy_for flags (mind_of process.old)) destinations
+        → Carries (file_all flags destinations (mind_of process.old))
+        (λ filed. filing_of filed (mind_of process.new)) result
         journal.old journal.new (D.told outside.old) (D.told outside.new) }
     ensures locks { process.new.locks ≡ process.old.locks }
     ensures keeping { Keeping journal.new process.new.locks.names }
+    ensures found { OnErr result (list_any is_folder_copy copies.items ≡ false → HasFound journal.old journal.new) }
 {
     while let Some(copy) = copies.pop_front() {
-        let filed = append_copy(copy, process, outside, journal);
+        let filed = file_copy(alloc, flags, copy, process, outside, journal)?;
         if !is_stored(&filed) {
-            return filed;
+            return Ok(filed);
         }
     }
-    Filed::Stored
+    Ok(Filed::Stored)
 }
 
-fn append_copy<D: Outside>(
+fn file_copy<D: Outside>(
+    alloc: Global,
+    flags: Flags,
     copy: Copy,
     process: &mut Process,
     outside: &mut D,
     journal: &mut Journal,
-) -> Filed
+) -> Result<Filed, Memory>
     requires keeping { Keeping journal.old process.old.locks.names }
-    requires room { length process.old.locks.names + 1 ≤ journal.old.room }
-    requires shown { copy.shown ≡ copy.name }
-    ensures files { Executes (file_at copy.name copy.piece) result
+    requires room { length process.old.locks.names + 3 ≤ journal.old.room }
+    requires shown { IsShown copy }
+    ensures carries { Carries (copy_filed flags copy (mind_of process.old))
+        (λ filed. filing_of filed (mind_of process.new)) result
         journal.old journal.new (D.told outside.old) (D.told outside.new) }
-    ensures mind { mind_of process.new ≡ mind_after result copy.vars (mind_of process.old) }
     ensures locks { process.new.locks ≡ process.old.locks }
     ensures keeping { Keeping journal.new process.new.locks.names }
-    ensures room { journal.old.room ≤ journal.new.room + 1 }
+    ensures room { IfOk result (λ _. journal.old.room ≤ journal.new.room + 3) }
+    ensures found { OnErr result (is_folder_copy copy ≡ false → HasFound journal.old journal.new) }
 {
-    let Copy {
+    match copy {
+        Copy::ToFile(copy) => append_copy(alloc, flags, copy, process, outside, journal),
+        Copy::ToFolder(copy) => file_in_folder(alloc, copy, process, outside, journal),
+    }
+}
+
+// A file gets the piece; where a folder stands, that gets it.
+fn append_copy<D: Outside>(
+    alloc: Global,
+    flags: Flags,
+    copy: FileCopy,
+    process: &mut Process,
+    outside: &mut D,
+    journal: &mut Journal,
+) -> Result<Filed, Memory>
+    requires keeping { Keeping journal.old process.old.locks.names }
+    requires room { length process.old.locks.names + 3 ≤ journal.old.room }
+    requires shown { copy.shown ≡ copy.name }
+    ensures carries { let p = mind_of process.old in
+        Carries (to_file flags copy.name copy.piece (with_vars copy.vars p) p)
+        (λ filed. filing_of filed (mind_of process.new)) result
+        journal.old journal.new (D.told outside.old) (D.told outside.new) }
+    ensures locks { process.new.locks ≡ process.old.locks }
+    ensures keeping { Keeping journal.new process.new.locks.names }
+    ensures room { IfOk result (λ _. journal.old.room ≤ journal.new.room + 3) }
+    ensures found { OnErr result (HasFound journal.old journal.new) }
+{
+    let FileCopy {
         name,
         shown,
         piece,
@@ -136,11 +242,50 @@ fn append_copy<D: Outside>(
     } = copy;
     if is_nothing(&name) {
         process.vars = vars;
-        return Filed::Stored;
+        return Ok(Filed::Stored);
     }
-    let filed = filed_of(outside.append(journal, name, piece), shown);
+    let end = outside.append(journal, name, piece);
+    if is_folder(end) {
+        return file_plain(alloc, flags, shown, process, outside, journal);
+    }
+    let filed = filed_of(end, shown);
     remember(&filed, vars, process);
-    filed
+    Ok(filed)
+}
+
+// A plain folder gets the piece as a file of its own, if a name can begin as MSGPREFIX says.
+fn file_plain<D: Outside>(
+    alloc: Global,
+    flags: Flags,
+    folder: Name,
+    process: &mut Process,
+    outside: &mut D,
+    journal: &mut Journal,
+) -> Result<Filed, Memory>
+    requires keeping { Keeping journal.old process.old.locks.names }
+    requires room { length process.old.locks.names + 2 ≤ journal.old.room }
+    ensures carries { Carries (in_plain flags folder (mind_of process.old))
+        (λ filed. filing_of filed (mind_of process.new)) result
+        journal.old journal.new (D.told outside.old) (D.told outside.new) }
+    ensures locks { process.new.locks ≡ process.old.locks }
+    ensures keeping { Keeping journal.new process.new.locks.names }
+    ensures room { IfOk result (λ _. journal.old.room ≤ journal.new.room + 2) }
+{
+    match plain_prefix(alloc, &process.vars)? {
+        None => Ok(Filed::Unnamed),
+        Some(prefix) => {
+            let shown = folder.copy(alloc)?;
+            let piece = own_piece(alloc, flags, process)?;
+            let copy = FolderCopy {
+                kind: FolderKind::Plain,
+                folder,
+                shown,
+                prefix,
+                piece,
+            };
+            file_in_folder(alloc, copy, process, outside, journal)
+        }
+    }
 }
 
 // Only a destination that has the mail is remembered.
@@ -159,14 +304,20 @@ fn is_nothing(name: &Name) -> bool
     name.as_str() == "/dev/null"
 }
 
+// Whether a folder stands where the piece was to be appended.
+fn is_folder(end: AppendEnd) -> bool
+    ensures { result ≡ is_folder_there (append_reply end) }
+{
+    matches!(end, AppendEnd::IsFolder)
+}
+
 fn filed_of(end: AppendEnd, name: Name) -> Filed
     ensures { result ≡ filed_by name (append_reply end) }
 {
     match end {
         AppendEnd::Done => Filed::Stored,
-        AppendEnd::IsFolder => Filed::Folder,
         AppendEnd::Torn(count) => Filed::Left { name, count },
-        AppendEnd::Undone | AppendEnd::Raced => Filed::Unwritten(name),
+        AppendEnd::Undone | AppendEnd::Raced | AppendEnd::IsFolder => Filed::Unwritten(name),
     }
 }
 

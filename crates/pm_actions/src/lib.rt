@@ -1,19 +1,31 @@
-//! The actions of recipes: texts are expanded, destinations checked, and the mail is delivered to files, with the log
-//! lines behind it.
+//! The actions of recipes: texts are expanded, destinations checked, and the mail is delivered to files and folders, to
+//! programs or to standard output, with the log lines behind it.
 #![tactic(auto)]
 
+pub mod appended;
 pub mod attempting;
 pub mod delivering;
+pub mod errands;
 pub mod expanding;
 pub mod filing;
 pub mod locks;
 pub mod names;
+pub mod outcomes;
+pub mod outputs;
+pub mod placing;
+pub mod programs;
 pub mod saying;
 pub mod skipping;
+pub mod tasks;
+pub mod trying;
 
 pub use attempting::is_stuck;
 pub use delivering::{deliver_default, perform, refuse};
-pub use expanding::{Expansion, expand_text, first_word, runs_command};
+pub use expanding::{Expansion, expand_text, first_word};
 pub use locks::lock_rule;
 pub use names::file_name;
+pub use outputs::{Ready, make_ready, outputs_of, read_line, tell_run};
+pub use programs::{
+    code_of, command_line, expanded_line, needs_shell, note_code, program_line, shell_line,
+};
 pub use skipping::skip_value;

@@ -2,6 +2,7 @@
 ghost use Rattle.std.specs.Prelude.{◌≡◌, [], codes, map, bytes_eq, IfOk};
 ghost use Rattle.std.specs.List.{list_any};
 ghost use Rattle.pm_bytes.specs.Path.{full_name};
+ghost use Rattle.pm_meaning.specs.Destinations.{full_of};
 ghost use Rattle.pm_meaning.specs.Locks.{rule_of, number_or as number_in, value_or, text_or};
 ghost use Rattle.pm_meaning.specs.Locks.{automatic_lock as automatic, lock_word as word_of_lock};
 ghost use Rattle.pm_meaning.specs.Locks.{blamed_text as blamed, full_lock as full_of_lock};
@@ -9,10 +10,10 @@ ghost use Rattle.pm_meaning.specs.Locks.{is_taken as taken, any_held as some_hel
 ghost use Rattle.pm_meaning.specs.Minds.{mind_of};
 ghost use Rattle.pm_actions.specs.Names.{IsLockName};
 
-use crate::names::file_name;
+use crate::names::{file_name, without_ending};
 use pm_bytes::{Blob, Memory, Name, NameRefused, full, read_count};
 use pm_journal::{HeldLocks, LockRule};
-use pm_meaning::Process;
+use pm_meaning::{Destination, Process};
 use pm_vars::Vars;
 use std::alloc::Global;
 
@@ -73,7 +74,7 @@ pub fn lock_word(
     }
 }
 
-// The first destination's name with LOCKEXT.
+// The first destination's name, without a folder's ending, with LOCKEXT.
 fn automatic_lock(alloc: Global, words: &[Blob], process: &Process) -> Result<Option<Blob>, Memory>
     ensures { IfOk result (λ word. word ≡ automatic words.now (mind_of process.now)) }
 {
@@ -84,7 +85,7 @@ fn automatic_lock(alloc: Global, words: &[Blob], process: &Process) -> Result<Op
             if name.as_slice() == b"/dev/null".as_slice() {
                 return Ok(None);
             }
-            let mut lock = word.copy(alloc)?;
+            let mut lock = Blob::from_slice(alloc, without_ending(word.as_slice()))?;
             lock.push_slice(lock_extension(&process.vars))?;
             Ok(Some(lock))
         }
@@ -108,7 +109,7 @@ fn full_bytes(alloc: Global, base: &Name, word: &[u8]) -> Result<Blob, Memory>
 }
 
 // LOCKEXT, as it stands.
-fn lock_extension(vars: &Vars) -> &[u8]
+pub fn lock_extension(vars: &Vars) -> &[u8]
     ensures { result.now ≡ value_or (codes ".lock") (codes "LOCKEXT") vars.now }
 {
     match vars.get(b"LOCKEXT") {
@@ -151,13 +152,17 @@ pub fn full_lock(alloc: Global, base: &Name, lock: Option<Name>) -> Result<Optio
     }
 }
 
-/// The destinations as seen from where the run began.
-pub fn full_names(alloc: Global, base: &Name, names: &[Name]) -> Result<Vec<Name>, Memory>
-    ensures { IfOk result (λ all. all.items ≡ map (full_name base.now) names.now) }
+/// The names of the destinations as seen from where the run began.
+pub fn full_names(
+    alloc: Global,
+    base: &Name,
+    destinations: &[Destination],
+) -> Result<Vec<Name>, Memory>
+    ensures { IfOk result (λ all. all.items ≡ map (full_of base.now) destinations.now) }
 {
     let mut all = Vec::new(alloc);
-    for name in names {
-        all.push(full(alloc, base, name)?)?;
+    for destination in destinations {
+        all.push(full(alloc, base, &destination.name)?)?;
     }
     Ok(all)
 }

@@ -1,10 +1,13 @@
 //! Texts as names of files.
-ghost use Rattle.std.specs.Prelude.{◌≡◌, IfOk, bytes_eq};
-ghost use Rattle.std.specs.List.{list_any, ends_with};
-ghost use Rattle.pm_meaning.specs.Delivering.{is_folder_name as has_folder_ending};
-ghost use Rattle.pm_actions.specs.Names.{AreNames, file_name_of};
+ghost use Rattle.std.specs.Prelude.{◌≡◌, IfOk, codes};
+ghost use Rattle.pm_meaning.specs.Destinations.{folder_kind as kind_of_ending, without_ending as word_without_ending};
+ghost use Rattle.pm_meaning.specs.Locks.{value_or};
+ghost use Rattle.pm_actions.specs.Names.{AreDestinations, file_name_of, usable_destination, prefix_of};
 
 use pm_bytes::{Blob, Memory, Name, NameRefused};
+use pm_journal::FolderKind;
+use pm_meaning::Destination;
+use pm_vars::Vars;
 use std::alloc::Global;
 
 /// The text as a file's name, where it is not empty and can be one.
@@ -21,33 +24,78 @@ pub fn file_name(alloc: Global, text: &[u8]) -> Result<Option<Name>, Memory>
     }
 }
 
-/// The words as names, if there is one and each can be a file's.
-pub fn file_names(alloc: Global, words: &[Blob]) -> Result<Option<Vec<Name>>, Memory>
-    ensures { IfOk result (λ names. AreNames words.now names) }
+/// The words as destinations, if there is one and each can be the name of a file or a folder.
+pub fn destinations(alloc: Global, words: &[Blob]) -> Result<Option<Vec<Destination>>, Memory>
+    ensures { IfOk result (λ all. AreDestinations words.now all) }
 {
-    let mut names = Vec::new(alloc);
+    let mut all = Vec::new(alloc);
     if words.len() == 0 {
         return Ok(None);
     }
     for word in words {
-        match file_name(alloc, word.as_slice())? {
-            Some(name) => names.push(name)?,
+        match destination(alloc, word.as_slice())? {
+            Some(destination) => all.push(destination)?,
             None => return Ok(None),
         }
     }
-    Ok(Some(names))
+    Ok(Some(all))
 }
 
-/// Whether one of the names is a folder's by its ending.
-pub fn has_folder(names: &[Name]) -> bool
-    ensures { result ≡ list_any has_folder_ending names.now }
+// What a word asks for, where its name can be used.
+fn destination(alloc: Global, word: &[u8]) -> Result<Option<Destination>, Memory>
+    ensures { IfOk result (λ destination. destination ≡ usable_destination word.now) }
 {
-    names.iter().any(|name| is_folder_name(name))
+    match file_name(alloc, without_ending(word))? {
+        Some(name) => Ok(Some(Destination {
+            kind: folder_kind(word),
+            name,
+        })),
+        None => Ok(None),
+    }
 }
 
-fn is_folder_name(name: &Name) -> bool
-    ensures { result ≡ has_folder_ending name.now }
+// The kind of folder that a word's ending asks for (procmailrc(5), "Recipe action line").
+fn folder_kind(word: &[u8]) -> Option<FolderKind>
+    ensures { result ≡ kind_of_ending word.now }
 {
-    let bytes = name.as_str().as_bytes();
-    bytes.ends_with(b"/") || bytes.ends_with(b"/.")
+    if word.ends_with(b"/.") {
+        Some(FolderKind::Mh)
+    } else if word.ends_with(b"/") {
+        Some(FolderKind::Maildir)
+    } else {
+        None
+    }
+}
+
+/// A word without a folder's ending.
+pub fn without_ending(word: &[u8]) -> &[u8]
+    ensures { result.now ≡ word_without_ending word.now }
+{
+    if word.ends_with(b"/.") {
+        &word[..word.len() - 2]
+    } else if word.ends_with(b"/") {
+        &word[..word.len() - 1]
+    } else {
+        word
+    }
+}
+
+/// How names in a plain folder begin (MSGPREFIX, procmailrc(5)), where they can begin so.
+pub fn plain_prefix(alloc: Global, vars: &Vars) -> Result<Option<Name>, Memory>
+    ensures { IfOk result (λ prefix. prefix ≡ prefix_of (value_or (codes "msg.") (codes "MSGPREFIX") vars.now)) }
+{
+    match Name::read(alloc, prefix_text(vars)) {
+        Ok(name) => Ok(Some(name)),
+        Err(NameRefused::Unusable) => Ok(None),
+        Err(NameRefused::Memory) => Err(Memory),
+    }
+}
+
+fn prefix_text(vars: &Vars) -> &[u8]
+    ensures { result.now ≡ value_or (codes "msg.") (codes "MSGPREFIX") vars.now }
+{
+    match vars.get(b"MSGPREFIX") {
+        None => b"msg.",
+        Some(value) => value.as_slice(),
+    }
 }

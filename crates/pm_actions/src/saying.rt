@@ -9,18 +9,25 @@ ghost use Rattle.pm_actions.specs.Turning.{turn_of};
 
 use pm_acts::{Outside, say};
 use pm_bytes::{Blob, Memory, Name};
-use pm_journal::{Journal, bytes_left, couldnt_lock, couldnt_unlock, couldnt_write, forcing_lock};
+use pm_journal::{
+    Journal, bytes_left, couldnt_lock, couldnt_unlock, couldnt_write, forcing_lock, no_free_name,
+    unusable_name,
+};
 use pm_meaning::{Attempt, End, Filed, Process};
 use std::alloc::Global;
 use std::collections::VecDeque;
 
-/// What is told of an attempt, in order.
-pub fn attempt_lines(alloc: Global, attempt: &Attempt) -> Result<VecDeque<Blob>, Memory>
-    ensures { IfOk result (λ lines. lines.items ≡ lines_of_attempt attempt.now) }
+/// What is told of an attempt, in order; `text` is that of the action.
+pub fn attempt_lines(
+    alloc: Global,
+    text: &[u8],
+    attempt: &Attempt,
+) -> Result<VecDeque<Blob>, Memory>
+    ensures { IfOk result (λ lines. lines.items ≡ lines_of_attempt text.now attempt.now) }
 {
     let mut lines = VecDeque::new(alloc);
     match attempt {
-        Attempt::Unlocked(filed) => push_filed(alloc, filed, &mut lines)?,
+        Attempt::Unlocked(filed) => push_filed(alloc, text, filed, &mut lines)?,
         Attempt::NotLocked(name) => lines.push_back(couldnt_lock(alloc, name)?)?,
         Attempt::Locked {
             name,
@@ -29,7 +36,7 @@ pub fn attempt_lines(alloc: Global, attempt: &Attempt) -> Result<VecDeque<Blob>,
             stuck,
         } => {
             push_forced(alloc, *forced, name, &mut lines)?;
-            push_filed(alloc, filed, &mut lines)?;
+            push_filed(alloc, text, filed, &mut lines)?;
             push_stuck(alloc, *stuck, name, &mut lines)?;
         }
     }
@@ -37,19 +44,26 @@ pub fn attempt_lines(alloc: Global, attempt: &Attempt) -> Result<VecDeque<Blob>,
 }
 
 // The destination that didn't get the mail.
-fn push_filed(alloc: Global, filed: &Filed, lines: &mut VecDeque<Blob>) -> Result<(), Memory>
-    ensures { OnOk result (lines.new.items ≡ lines.old.items ++ filed_lines filed.now) }
+fn push_filed(
+    alloc: Global,
+    text: &[u8],
+    filed: &Filed,
+    lines: &mut VecDeque<Blob>,
+) -> Result<(), Memory>
+    ensures { OnOk result (lines.new.items ≡ lines.old.items ++ filed_lines text.now filed.now) }
 {
     match filed {
+        Filed::Stored => {}
         Filed::Unwritten(name) => lines.push_back(couldnt_write(alloc, name)?)?,
         Filed::Left { name, count } => lines.push_back(bytes_left(alloc, *count, name)?)?,
-        Filed::Stored | Filed::Folder => {}
+        Filed::Crowded(name) => lines.push_back(no_free_name(alloc, name)?)?,
+        Filed::Unnamed => lines.push_back(unusable_name(alloc, text)?)?,
     }
     Ok(())
 }
 
-// A lock file that was removed by force.
-fn push_forced(
+/// Adds that a lock file was removed by force, where it was.
+pub fn push_forced(
     alloc: Global,
     forced: u32,
     name: &Name,
@@ -64,8 +78,8 @@ fn push_forced(
     Ok(())
 }
 
-// A lock file whose removal failed.
-fn push_stuck(
+/// Adds that a lock file's removal failed, where it did.
+pub fn push_stuck(
     alloc: Global,
     stuck: bool,
     name: &Name,

@@ -2,19 +2,47 @@ use Rattle.std.proofs.Common.{refl, rules, sym, subst}
 use Rattle.pm_journal.proofs.WantsMemory.{on_err, out_anywhere}
 use Rattle.pm_meaning.specs.Minds.{mind_of}
 use Rattle.pm_actions.specs.Copies.{AllShown}
-use Rattle.pm_actions.proofs.AttemptLemmas.{attempted_plain}
+use Rattle.pm_actions.proofs.AttemptLemmas.{attempted_plain, attempted_plain_out}
 use Rattle.pm_actions.proofs.FileLemmas.{copies_shown}
+use Rattle.pm_actions.proofs.FoundLemmas.{grown_none, grown_out, untouched_if, found_if}
 use Rattle.pm_actions.proofs.attempting.file_all.Goals as goal
 
 pub returns-in_err-copies-clause-carries : goal.returns-in_err-copies-clause-carries
 returns-in_err-copies-clause-carries g c = (search rules, on_err _ _ (out_anywhere _ _ _ _ refl))
 
+pub returns-in_err-room_for-clause-carries : goal.returns-in_err-room_for-clause-carries
+returns-in_err-room_for-clause-carries g c = (search rules, on_err _ _ (out_anywhere _ _ _ _ refl))
+
 pub returns-in_err-reserve-clause-carries : goal.returns-in_err-reserve-clause-carries
 returns-in_err-reserve-clause-carries g c = (search rules, on_err _ _ (out_anywhere _ _ _ _ c.reserve.ensures.same))
 
-pub append_all-filed-requires-clause-shown : goal.append_all-filed-requires-clause-shown
-append_all-filed-requires-clause-shown g c = subst AllShown (sym c.in_ok-copies.ensures) (copies_shown c.args.flags (mind_of c.args.process.now) c.args.words.now)
+pub file_each-requires-clause-shown : goal.file_each-requires-clause-shown
+file_each-requires-clause-shown g c = subst AllShown (sym c.in_ok-copies.ensures) (copies_shown c.args.flags (mind_of c.args.process.now) c.args.destinations.now)
+
+pub returns-in_err-filed-clause-carries : goal.returns-in_err-filed-clause-carries
+returns-in_err-filed-clause-carries g c =
+    let k = c.in_err-filed.ensures.carries c.args.destinations.now c.in_ok-copies.ensures in
+    (search rules, on_err _ _ (attempted_plain_out c.args.flags c.args.destinations.now (mind_of c.args.process.now) _ c.reserve.new.self c.file_each.new.journal _ _ c.reserve.ensures.same k.1))
 
 pub returns-clause-carries : goal.returns-clause-carries
 returns-clause-carries g c =
-    (attempted_plain c.args.flags c.args.words.now _ (mind_of c.args.process.now) (mind_of c.append_all-filed.new.process) c.append_all-filed.result _ c.reserve.new.self c.append_all-filed.new.journal _ _ c.in_ok-copies.ensures c.reserve.ensures.same c.append_all-filed.ensures.files, tt)
+    let k = c.in_ok-filed.ensures.carries c.args.destinations.now c.in_ok-copies.ensures in
+    (attempted_plain c.args.flags c.args.destinations.now (mind_of c.args.process.now) (mind_of c.file_each.new.process) c.in_ok-filed.filed _ c.reserve.new.self c.file_each.new.journal _ _ c.reserve.ensures.same k.0, tt)
+
+pub returns-in_err-copies-clause-untouched : goal.returns-in_err-copies-clause-untouched
+returns-in_err-copies-clause-untouched g c = on_err _ _ (untouched_if c.args.destinations.now c.args.journal.now c.args.journal.now refl)
+
+pub returns-in_err-room_for-clause-untouched : goal.returns-in_err-room_for-clause-untouched
+returns-in_err-room_for-clause-untouched g c = on_err _ _ (untouched_if c.args.destinations.now c.args.journal.now c.args.journal.now refl)
+
+pub returns-in_err-reserve-clause-untouched : goal.returns-in_err-reserve-clause-untouched
+returns-in_err-reserve-clause-untouched g c = on_err _ _ (untouched_if c.args.destinations.now c.args.journal.now c.reserve.new.self c.reserve.ensures.same)
+
+pub returns-in_err-filed-clause-untouched : goal.returns-in_err-filed-clause-untouched
+returns-in_err-filed-clause-untouched g c =
+    let k = c.in_err-filed.ensures.carries c.args.destinations.now c.in_ok-copies.ensures in
+    let x = c.args.journal.now in
+    let w = c.reserve.new.self in
+    let z = c.file_each.new.journal in
+    on_err _ _ (found_if c.args.flags (mind_of c.args.process.now) c.args.destinations.now c.in_ok-copies.copies.items x w z (grown_none x w c.reserve.ensures.same) (grown_out _ w z _ _ k.1) c.in_ok-copies.ensures
+    c.in_err-filed.ensures.found)

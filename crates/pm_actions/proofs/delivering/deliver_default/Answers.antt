@@ -1,4 +1,4 @@
-use Rattle.std.proofs.Common.{Some, [], ◌∷◌, refl, rules, sym, ap, ◌∙◌}
+use Rattle.std.proofs.Common.{Some, [], ◌∷◌, refl, rules}
 use Rattle.pm_journal.proofs.WantsMemory.{on_err, out_anywhere}
 use Rattle.pm_meaning.specs.Delivering.{deliver_to}
 use Rattle.pm_meaning.specs.Minds.{mind_of}

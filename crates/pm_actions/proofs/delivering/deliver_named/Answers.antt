@@ -6,8 +6,8 @@ use Rattle.pm_meaning.specs.Minds.{mind_of}
 use Rattle.pm_actions.proofs.DeliverLemmas.{carried, texts_usable}
 use Rattle.pm_actions.proofs.delivering.deliver_named.Goals as goal
 
-pub returns-in_err-file_names-clause-carries : goal.returns-in_err-file_names-clause-carries
-returns-in_err-file_names-clause-carries g c = (search rules, on_err _ _ (out_anywhere _ _ _ _ refl))
+pub returns-in_err-destinations-clause-carries : goal.returns-in_err-destinations-clause-carries
+returns-in_err-destinations-clause-carries g c = (search rules, on_err _ _ (out_anywhere _ _ _ _ refl))
 
 pub returns-in_err-lock-in-Some-clause-carries : goal.returns-in_err-lock-in-Some-clause-carries
 returns-in_err-lock-in-Some-clause-carries g c = (search rules, on_err _ _ (out_anywhere _ _ _ _ refl))
@@ -17,8 +17,8 @@ returns-in_ok-lock-in-Some-clause-carries g c =
     let o = c.args.order.now in
     let p = mind_of c.args.process.now in
     let blamed = blamed_text o.lock.now o.text.now in
-    let usable = rw c.in-Some.is at c.in_ok-file_names.ensures in
-    let names = c.as_slice.result.now in
+    let usable = rw c.in-Some.is at c.in_ok-destinations.ensures in
+    let ds = c.as_slice.result.now in
     let lock = c.in_ok-lock-in-Some.lock in
-    let same = texts_usable o.flags c.args.lock lock blamed o.text.now c.args.words.now names p usable.0 (c.as_slice.ensures.value ∙ usable.1) c.in_ok-lock-in-Some.ensures in
-    carried (deliver_at o.flags lock blamed o.text.now names p) (deliver_named o.flags c.args.lock blamed o.text.now c.args.words.now p) _ _ _ _ _ _ same c.deliver_at.ensures.carries
+    let same = texts_usable o.flags c.args.lock lock blamed o.text.now c.args.words.now ds p usable.0 (c.as_slice.ensures.value ∙ usable.1) c.in_ok-lock-in-Some.ensures in
+    carried (deliver_at o.flags lock blamed o.text.now ds p) (deliver_named o.flags c.args.lock blamed o.text.now c.args.words.now p) _ _ _ _ _ _ same c.deliver_at.ensures.carries

@@ -14,5 +14,5 @@ returns-in-Words-clause-carries g c =
     let p = mind_of c.args.process.now in
     let fits = rw c.in-Words.is at c.in_ok-words.ensures in
     let words = c.as_slice.result.now in
-    let same = text_expands o.flags o.lock.now c.args.value o.text.now words p fits.0 (c.as_slice.ensures.value ∙ fits.1) in
-    carried (deliver_to o.flags o.lock.now c.args.value o.text.now words p) (deliver_text o.flags o.lock.now c.args.value o.text.now p) _ _ _ _ _ _ same c.deliver_to_words.ensures.carries
+    let same = text_expands o.flags o.lock.now c.args.value o.text.now c.args.outputs.now words p fits.0 (c.as_slice.ensures.value ∙ fits.1) in
+    carried (deliver_to o.flags o.lock.now c.args.value o.text.now words p) (deliver_text o.flags o.lock.now c.args.value o.text.now c.args.outputs.now p) _ _ _ _ _ _ same c.deliver_to_words.ensures.carries

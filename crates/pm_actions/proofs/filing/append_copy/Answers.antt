@@ -1,17 +1,40 @@
-use Rattle.std.proofs.Common.{refl, sym, ap, ◌∙◌, subst}
-use Rattle.pm_journal.specs.Held.{Keeping}
+use Rattle.std.proofs.Common.{refl, rules, sym, ap, ◌∙◌, subst, arith}
 use Rattle.pm_journal.proofs.KeepingActs.{keeping_plain}
-use Rattle.pm_actions.proofs.FileLemmas.{taken_by_nothing, appended}
+use Rattle.pm_journal.specs.Held.{Keeping}
+use Rattle.pm_meaning.specs.Minds.{mind_of}
+use Rattle.pm_actions.specs.Copies.{filing_of, with_vars}
+use Rattle.pm_actions.proofs.Choices.{ok_map, err_map}
+use Rattle.pm_actions.proofs.FileLemmas.{taken_by_nothing, appended, appended_plain, appended_plain_out}
+use Rattle.pm_actions.specs.Filing.{is_folder_there}
+use Rattle.pm_actions.proofs.FoundLemmas.{found_first}
 use Rattle.pm_actions.proofs.filing.append_copy.Goals as goal
 
-pub returns-then-is_nothing-clause-files : goal.returns-then-is_nothing-clause-files
-returns-then-is_nothing-clause-files g c = taken_by_nothing c.args.copy.name c.args.copy.piece _ _ (sym c.is_nothing.ensures ∙ c.if-is_nothing.true)
+pub returns-then-is_nothing-clause-carries : goal.returns-then-is_nothing-clause-carries
+returns-then-is_nothing-clause-carries g c =
+    let p = mind_of c.args.process.now in
+    (taken_by_nothing c.args.flags c.args.copy.name c.args.copy.piece (with_vars c.args.copy.vars p) p _ _ (sym c.is_nothing.ensures ∙ c.if-is_nothing.true), tt)
 
-pub returns-clause-files : goal.returns-clause-files
-returns-clause-files g c =
-    appended c.args.copy.name c.args.copy.piece c.args.copy.shown c.append.result _ _ _ _ _ (sym c.is_nothing.ensures ∙ c.if-is_nothing.false) c.requires.shown c.filed_of-filed.ensures c.append.ensures
+pub file_plain-requires-clause-keeping : goal.file_plain-requires-clause-keeping
+file_plain-requires-clause-keeping g c =
+    keeping_plain _ _ c.args.journal.now c.args.journal.now c.append-end.new.journal _ _ _ tt c.requires.keeping refl (omega (arith, c.requires.room)) c.append-end.ensures
+
+pub returns-then-is_folder-clause-carries : goal.returns-then-is_folder-clause-carries
+returns-then-is_folder-clause-carries g c =
+    let p = mind_of c.args.process.now in
+    let q = mind_of c.file_plain.new.process in
+    let stored = with_vars c.args.copy.vars p in
+    let some = sym c.is_nothing.ensures ∙ c.if-is_nothing.false in
+    let there = sym c.is_folder.ensures ∙ c.if-is_folder.true in (
+      ok_map c.file_plain.result _ _ (λ filed h. appended_plain c.args.flags c.args.copy.name c.args.copy.piece c.args.copy.shown stored p _ (filing_of filed q) c.args.journal.now c.append-end.new.journal c.file_plain.new.journal _ _ _ some c.requires.shown there c.append-end.ensures h) c.file_plain.ensures.carries.0,
+      err_map c.file_plain.result _ _ (λ h. appended_plain_out c.args.flags c.args.copy.name c.args.copy.piece c.args.copy.shown stored p _ c.args.journal.now c.append-end.new.journal c.file_plain.new.journal _ _ _ some c.requires.shown there c.append-end.ensures h) c.file_plain.ensures.carries.1,
+    )
 
 pub returns-clause-keeping : goal.returns-clause-keeping
 returns-clause-keeping g c =
-    subst (λ l. Keeping c.append.new.journal l.names) (sym c.remember.ensures.locks)
-    (keeping_plain _ _ c.args.journal.now c.args.journal.now c.append.new.journal _ _ _ tt c.requires.keeping refl c.requires.room c.append.ensures)
+    subst (λ l. Keeping c.append-end.new.journal l.names) (sym c.remember.ensures.locks)
+    (keeping_plain _ _ c.args.journal.now c.args.journal.now c.append-end.new.journal _ _ _ tt c.requires.keeping refl (omega (arith, c.requires.room)) c.append-end.ensures)
+
+pub returns-then-is_folder-clause-found : goal.returns-then-is_folder-clause-found
+returns-then-is_folder-clause-found g c =
+    let there = ap is_folder_there c.append-end.ensures.reply_is ∙ (sym c.is_folder.ensures ∙ c.if-is_folder.true) in
+    err_map c.file_plain.result _ _ (λ h. found_first c.args.journal.now c.append-end.new.journal c.file_plain.new.journal c.append-end.ensures.entry h.more c.append-end.ensures.entries there h.entries) c.file_plain.ensures.carries.1

@@ -3,5 +3,5 @@ use Rattle.pm_meaning.specs.Minds.{mind_of}
 use Rattle.pm_actions.specs.Copies.{copy_for}
 use Rattle.pm_actions.proofs.filing.copies_for.Given as goal
 
-abbrev pub invariant-loop-word : goal.invariant-loop-word
-invariant-loop-word l = l.copies.items ≡ map (copy_for l.flags (mind_of l.process)) (take l.word-index l.words)
+abbrev pub invariant-loop-destination : goal.invariant-loop-destination
+invariant-loop-destination l = l.copies.items ≡ map (copy_for l.flags (mind_of l.process)) (take l.destination-index l.destinations)

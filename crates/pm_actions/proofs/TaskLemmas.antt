@@ -1,0 +1,156 @@
+-- Actions that hand the mail to a program or to standard output, in plans.
+use Rattle.std.proofs.Common.{◌≡◌, Bool, true, false, not, List, ℕ, [], Option, refl, sym, ap, ◌∙◌, subst}
+use Rattle.std.specs.Prelude.{if◌then◌else◌, ◌||◌}
+use Rattle.pm_host.specs.declared.command.Command.{Command}
+use Rattle.pm_subst.specs.Words.{words_in}
+use Rattle.pm_journal.specs.JournalState.{JournalState}
+use Rattle.pm_journal.specs.Entries.{View}
+use Rattle.pm_journal.specs.LogText.{no_lock_line, value_too_long_line}
+use Rattle.pm_journal.specs.declared.acts.Act.TheVariants.{SayErr}
+use Rattle.pm_journal.specs.Plan.{Plan, and_then, ask}
+use Rattle.pm_journal.specs.Executed.{Executes, OutOfMemory, LeadsTo}
+use Rattle.pm_journal.proofs.ActPlans.{executes_then}
+use Rattle.pm_journal.proofs.PlanLeads.{leads_itself, leads_on}
+use Rattle.pm_journal.proofs.WantsMemory.{out_then, out_front}
+use Rattle.pm_acts.specs.Acts.{Says}
+use Rattle.pm_recipe.specs.declared.tree.Flags.{Flags}
+use Rattle.pm_meaning.specs.Acting.{run_by}
+use Rattle.pm_meaning.specs.Assigning.{first_word}
+use Rattle.pm_meaning.specs.Changes.{overflowed}
+use Rattle.pm_meaning.specs.Delivering.{say_each}
+use Rattle.pm_meaning.specs.Locks.{blamed_text, is_lock_word, full_lock, is_taken}
+use Rattle.pm_meaning.specs.Minds.{Mind}
+use Rattle.pm_meaning.specs.ProgramActions.{Task, Tried, Trying, try_under, trial_lines, settled_by, trial_turn, after_trial, try_and_say, lacks_lock, lock_source, lock_mode, named_lock, told_first, do_under, do_named, unusable_text, do_line, lock_first, pipe}
+use Rattle.pm_meaning.specs.Turns.{Turn, GoesOn, not_built, say_then, refuse_name, has_command, is_too_long, skip_value}
+use Rattle.pm_meaning.specs.declared.process.ProgramLine.{ProgramLine}
+use Rattle.pm_meaning.specs.declared.process.Trial.{Trial}
+use Rattle.pm_actions.specs.Errands.{trying_of, IsLockText, IsLockFile}
+use Rattle.pm_actions.specs.declared.tasks.LockFile.{LockFile}
+use Rattle.pm_actions.specs.declared.tasks.LockFile.TheVariants.{Free, Refused}
+use Rattle.pm_actions.specs.declared.tasks.LockText.TheVariants.{NotBuilt, Word, TooLong}
+
+if_yes : {R : Type 0} (b : Bool) (p q : R) → b ≡ true → p ≡ (if b then p else q)
+if_yes b p q e = ap (λ v. if v then p else q) (sym e)
+
+if_no : {R : Type 0} (b : Bool) (p q : R) → b ≡ false → q ≡ (if b then p else q)
+if_no b p q e = ap (λ v. if v then p else q) (sym e)
+
+right_true : (b c : Bool) → c ≡ true → (b || c) ≡ true
+right_true true c e = refl
+right_true false c e = e
+
+-- the errand was tried, and what is told behind it comes
+pub trial_then : (t : Task) (lock : Option (List ℕ)) (work : Mind → Plan Tried) (p : Mind) (done : Trying) (turn : Turn) (x y z : JournalState) (a b c : View) → Executes (try_under lock work p) done x y a b
+    → Executes (after_trial t done) turn y z b c → Executes (try_and_say t lock work p) turn x z a c
+trial_then t lock work p done turn x y z a b c h k = executes_then (try_under lock work p) (after_trial t) done turn x y z a b c h k
+
+pub trial_then_out : (t : Task) (lock : Option (List ℕ)) (work : Mind → Plan Tried) (p : Mind) (done : Trying) (x y z : JournalState) (a b c : View) → Executes (try_under lock work p) done x y a b
+    → OutOfMemory (after_trial t done) y z b c → OutOfMemory (try_and_say t lock work p) x z a c
+trial_then_out t lock work p done x y z a b c h k = out_then (try_under lock work p) (after_trial t) done x y z a b c h k
+
+pub trial_out : (t : Task) (lock : Option (List ℕ)) (work : Mind → Plan Tried) (p : Mind) (x y : JournalState) (a b : View) → OutOfMemory (try_under lock work p) x y a b → OutOfMemory (try_and_say t lock work p) x y a b
+trial_out t lock work p x y a b h = out_front (try_under lock work p) (after_trial t) x y a b h
+
+-- what is told behind it, and what comes then
+pub said_after_trial : (t : Task) (trial : Trial) (m q : Mind) (lines : List (List ℕ)) (turn : Turn) → lines ≡ trial_lines t.flags t.text trial → q ≡ settled_by trial m → trial_turn t.last trial q ≡ turn
+    → say_each q lines turn ≡ after_trial t (trying_of trial m)
+said_after_trial t trial m q lines turn e is f =
+    ap (λ l. say_each q l turn) e ∙ (ap (say_each q (trial_lines t.flags t.text trial)) (sym f) ∙ ap (λ r. say_each r (trial_lines t.flags t.text trial) (trial_turn t.last trial r)) is)
+
+-- that there is no automatic lock file was told, or needn't be
+pub was_told : (t : Task) (p : Mind) (next : Plan Turn) (line : List ℕ) (x y : JournalState) (a b : View) → lacks_lock t ≡ true → line ≡ no_lock_line t.text → Says line x y a b → LeadsTo (told_first t p next) next x y a b
+was_told t p next line x y a b lacks is h =
+    let whole : Plan Turn = and_then (ask (SayErr (no_lock_line t.text))) (λ reply. next) in
+    subst (λ w. LeadsTo w next x y a b) (if_yes (lacks_lock t) whole next lacks)
+    (leads_on whole (ask (SayErr (no_lock_line t.text))) (λ reply. next) h.reply x x y a a b (leads_itself whole x a) (subst (λ l. Executes (ask (SayErr l)) h.reply x y a b) is h.executes))
+
+pub wasnt_told : (t : Task) (p : Mind) (next : Plan Turn) (line : List ℕ) (x y : JournalState) (a b : View) → lacks_lock t ≡ true → line ≡ no_lock_line t.text → OutOfMemory (ask (SayErr line)) x y a b
+    → OutOfMemory (told_first t p next) x y a b
+wasnt_told t p next line x y a b lacks is h =
+    let whole : Plan Turn = and_then (ask (SayErr (no_lock_line t.text))) (λ reply. next) in
+    subst (λ w. OutOfMemory w x y a b) (if_yes (lacks_lock t) whole next lacks)
+    (out_front (ask (SayErr (no_lock_line t.text))) (λ reply. next) x y a b (subst (λ l. OutOfMemory (ask (SayErr l)) x y a b) is h))
+
+pub needs_no_line : (t : Task) (p : Mind) (next : Plan Turn) (x : JournalState) (a : View) → lacks_lock t ≡ false → LeadsTo (told_first t p next) next x x a a
+needs_no_line t p next x a has =
+    subst (λ w. LeadsTo w next x x a a) (if_no (lacks_lock t) (and_then (ask (SayErr (no_lock_line t.text))) (λ reply. next)) next has) (leads_itself next x a)
+
+-- the lock file can't be used, or can
+either_bad : (t : Task) (lock : Option (List ℕ)) (work : Mind → Plan Tried) (p : Mind) (fits taken : Bool) (blamed next : Plan Turn) → (not fits || taken) ≡ true → blamed ≡ (if not fits then blamed else if taken then blamed else next)
+either_bad t lock work p false taken blamed next e = refl
+either_bad t lock work p true true blamed next e = refl
+either_bad t lock work p true false blamed next e = let f : false ≡ true = e in absurd (cc)
+
+pub lock_refused : (t : Task) (word : Option (List ℕ)) (work : Mind → Plan Tried) (shown : List ℕ) (p : Mind) → IsLockFile word p Refused → shown ≡ blamed_text t.lock t.text → refuse_name shown p ≡ do_named t word work p
+lock_refused t word work shown p e same =
+    let lock = full_lock p.base word in
+    ap (λ l. refuse_name l p) same ∙ either_bad t lock work p (is_lock_word word) (is_taken lock [] p.locks) (refuse_name (blamed_text t.lock t.text) p) (told_first t p (try_and_say t lock work p)) e
+
+pub lock_free : (t : Task) (word lock : Option (List ℕ)) (work : Mind → Plan Tried) (p : Mind) → IsLockFile word p (Free lock) → told_first t p (try_and_say t lock work p) ≡ do_named t word work p
+lock_free t word lock work p h =
+    let full = full_lock p.base word in
+    let blamed = refuse_name (blamed_text t.lock t.text) p in
+    ap (λ l. told_first t p (try_and_say t l work p)) h.1
+    ∙ (if_no (is_taken full [] p.locks) blamed (told_first t p (try_and_say t full work p)) (ap (λ l. is_taken l [] p.locks) (sym h.1) ∙ h.2)
+    ∙ if_no (not (is_lock_word word)) blamed (do_under t full work p) (ap not h.0))
+
+-- a name that is known to fit
+pub file_is : (word name : Option (List ℕ)) (p : Mind) (file : LockFile) → name ≡ word → IsLockFile name p file → IsLockFile word p file
+file_is word name p file e h = subst (λ w. IsLockFile w p file) e h
+
+pub taken_refused : (name lock : Option (List ℕ)) (p : Mind) → lock ≡ full_lock p.base name → is_taken lock [] p.locks ≡ true → IsLockFile name p Refused
+taken_refused name lock p is e = right_true (not (is_lock_word name)) (is_taken (full_lock p.base name) [] p.locks) (ap (λ l. is_taken l [] p.locks) (sym is) ∙ e)
+
+pub unfit_refused : (word : Option (List ℕ)) (p : Mind) → is_lock_word word ≡ false → IsLockFile word p Refused
+unfit_refused word p e = ap (λ b. not b || is_taken (full_lock p.base word) [] p.locks) e
+
+-- what is told where a word of the line is unusable
+pub line_blamed : (t : Task) (word : Option (List ℕ)) (fits : Bool) (shown : List ℕ) (p : Mind) → fits ≡ is_lock_word word → shown ≡ (if fits then t.text else blamed_text t.lock t.text)
+    → refuse_name shown p ≡ refuse_name (unusable_text t word) p
+line_blamed t word fits shown p e same = ap (λ l. refuse_name l p) (same ∙ ap (λ b. if b then t.text else blamed_text t.lock t.text) e)
+
+-- the line was read so
+pub read_so : (t : Task) (word : Option (List ℕ)) (work : Command → Mind → Plan Tried) (line shown read : ProgramLine) (p : Mind) → shown ≡ read → shown ≡ line → do_line t word work line p ≡ do_line t word work read p
+read_so t word work line shown read p is same = ap (λ l. do_line t word work l p) (sym same ∙ is)
+
+-- the text of the lock file gives so much
+pub lock_not_built : (t : Task) (runs : Bool) (next : Option (List ℕ) → Plan Turn) (p : Mind) → IsLockText t runs p NotBuilt → not_built p ≡ lock_first t runs next p
+lock_not_built t runs next p e =
+    if_yes (has_command (lock_mode t) (lock_source t) || runs) (not_built p)
+    (if is_too_long (lock_mode t) (lock_source t) p.vars [] then skip_value (lock_mode t) (lock_source t) [] p else next (named_lock t (first_word (words_in (lock_mode t) p.vars [] (lock_source t))) p)) e
+
+pub lock_too_long : (t : Task) (runs : Bool) (next : Option (List ℕ) → Plan Turn) (length : ℕ) (p : Mind) → IsLockText t runs p (TooLong length)
+    → say_then p (value_too_long_line length) (GoesOn (overflowed p)) ≡ lock_first t runs next p
+lock_too_long t runs next length p h =
+    let mode = lock_mode t in
+    let source = lock_source t in
+    let last : Plan Turn = next (named_lock t (first_word (words_in mode p.vars [] source)) p) in
+    let sized : Plan Turn = if is_too_long mode source p.vars [] then skip_value mode source [] p else last in
+    ap (λ n. say_then p (value_too_long_line n) (GoesOn (overflowed p))) h.2
+    ∙ (if_yes (is_too_long mode source p.vars []) (skip_value mode source [] p) last h.1 ∙ if_no (has_command mode source || runs) (not_built p) sized h.0)
+
+pub lock_worded : (t : Task) (runs : Bool) (next : Option (List ℕ) → Plan Turn) (word : Option (List ℕ)) (p : Mind) → IsLockText t runs p (Word word) → next word ≡ lock_first t runs next p
+lock_worded t runs next word p h =
+    let mode = lock_mode t in
+    let source = lock_source t in
+    let last : Plan Turn = next (named_lock t (first_word (words_in mode p.vars [] source)) p) in
+    let sized : Plan Turn = if is_too_long mode source p.vars [] then skip_value mode source [] p else last in
+    ap next h.2 ∙ (if_no (is_too_long mode source p.vars []) (skip_value mode source [] p) last h.1 ∙ if_no (has_command mode source || runs) (not_built p) sized h.0)
+
+-- a task whose lock file has a word has no commands that are run before
+runs_none : (b c : Bool) → (b || c) ≡ false → c ≡ false
+runs_none true c e = let f : true ≡ false = e in absurd (cc)
+runs_none false c e = e
+
+pub runs_not : (t : Task) (runs : Bool) (p : Mind) (word : Option (List ℕ)) → IsLockText t runs p (Word word) → runs ≡ false
+runs_not t runs p word h = runs_none (has_command (lock_mode t) (lock_source t)) runs h.0
+
+-- a pipe with this text for its automatic lock file
+abbrev pub task_with : Flags → Option (List ℕ) → List ℕ → List ℕ → Task
+task_with flags lock line automatic = record { flags = flags; lock = lock; automatic = automatic; text = line; last = not flags.copy }
+
+pub runs_filter : (flags : Flags) (lock : Option (List ℕ)) (line : List ℕ) (p : Mind) → flags.filter ≡ true → not_built p ≡ run_by flags lock line p
+runs_filter flags lock line p e = if_yes flags.filter (not_built p) (pipe flags lock line p) e
+
+pub runs_pipe : (flags : Flags) (lock : Option (List ℕ)) (line : List ℕ) (p : Mind) → flags.filter ≡ false → pipe flags lock line p ≡ run_by flags lock line p
+runs_pipe flags lock line p e = if_no flags.filter (not_built p) (pipe flags lock line p) e

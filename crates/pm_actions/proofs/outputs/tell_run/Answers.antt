@@ -1,0 +1,12 @@
+use Rattle.std.proofs.Common.{refl, rules, sym, ◌∙◌}
+use Rattle.pm_journal.proofs.WantsMemory.{on_err, out_anywhere}
+use Rattle.pm_meaning.specs.Minds.{mind_of}
+use Rattle.pm_actions.proofs.OutputLemmas.{nothing_told}
+use Rattle.pm_actions.proofs.outputs.tell_run.Goals as goal
+
+pub returns-in_err-run_fault-clause-carries : goal.returns-in_err-run_fault-clause-carries
+returns-in_err-run_fault-clause-carries g c = (search rules, on_err _ _ (out_anywhere _ _ _ _ refl))
+
+pub returns-in-None-clause-carries : goal.returns-in-None-clause-carries
+returns-in-None-clause-carries g c =
+    (nothing_told c.args.end c.args.line.now (mind_of c.args.process.now) _ _ (sym c.in-None.is ∙ c.in_ok-run_fault.ensures), tt)

@@ -1,0 +1,27 @@
+use Rattle.std.proofs.Common.{rules}
+use Rattle.pm_journal.proofs.PlanLeads.{leads_to_end, leads_to_want}
+use Rattle.pm_journal.proofs.WantsMemory.{on_err}
+use Rattle.pm_meaning.specs.Minds.{mind_of}
+use Rattle.pm_meaning.specs.ProgramActions.{told_first, try_and_say}
+use Rattle.pm_actions.specs.Errands.{task_of}
+use Rattle.pm_actions.specs.Turning.{turn_of}
+use Rattle.pm_actions.proofs.Choices.{ok_map, err_map}
+use Rattle.pm_actions.proofs.tasks.do_free.Goals as goal
+
+pub returns-in_err-tell_first-clause-carries : goal.returns-in_err-tell_first-clause-carries
+returns-in_err-tell_first-clause-carries g c =
+    λ work is. (search rules, on_err _ _ (c.in_err-tell_first.ensures.memory (try_and_say (task_of c.args.task.now) c.args.lock work (mind_of c.args.process.now))))
+
+pub returns-clause-carries : goal.returns-clause-carries
+returns-clause-carries g c =
+    let t = task_of c.args.task.now in
+    let p = mind_of c.args.process.now in
+    let q = mind_of c.try_and_say.new.process in
+    λ work is.
+    let next = try_and_say t c.args.lock work p in
+    let whole = told_first t p next in
+    let leads = c.in_ok-tell_first.ensures.told next in
+    let said = c.try_and_say.ensures.carries work is in (
+      ok_map _ _ _ (λ end h. leads_to_end whole next (turn_of end q) c.args.journal.now c.tell_first.new.journal c.try_and_say.new.journal _ _ _ leads h) said.0,
+      err_map _ _ _ (λ h. leads_to_want whole next c.args.journal.now c.tell_first.new.journal c.try_and_say.new.journal _ _ _ leads h) said.1,
+    )

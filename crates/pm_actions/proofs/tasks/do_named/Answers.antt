@@ -1,0 +1,29 @@
+use Rattle.std.proofs.Common.{refl, rules}
+use Rattle.pm_journal.proofs.WantsMemory.{on_err, out_anywhere}
+use Rattle.pm_meaning.specs.Minds.{mind_of}
+use Rattle.pm_meaning.specs.ProgramActions.{told_first, try_and_say, do_named}
+use Rattle.pm_meaning.specs.Turns.{refuse_name}
+use Rattle.pm_actions.specs.Errands.{task_of}
+use Rattle.pm_actions.proofs.DeliverLemmas.{carried, free_lock}
+use Rattle.pm_actions.proofs.TaskLemmas.{lock_refused, lock_free}
+use Rattle.pm_actions.proofs.tasks.do_named.Goals as goal
+
+pub returns-in_err-lock-clause-carries : goal.returns-in_err-lock-clause-carries
+returns-in_err-lock-clause-carries g c = λ work is. (search rules, on_err _ _ (out_anywhere _ _ _ _ refl))
+
+pub do_free-requires-clause-free : goal.do_free-requires-clause-free
+do_free-requires-clause-free g c = let h = rw c.in-Free.is at c.in_ok-lock.ensures in free_lock c.in-Free.lock _ _ h.2
+
+pub returns-in-Free-clause-carries : goal.returns-in-Free-clause-carries
+returns-in-Free-clause-carries g c =
+    let t = task_of c.args.task.now in
+    let p = mind_of c.args.process.now in
+    let h = rw c.in-Free.is at c.in_ok-lock.ensures in
+    λ work is. carried (told_first t p (try_and_say t c.in-Free.lock work p)) (do_named t c.args.word work p) _ _ _ _ _ _ (lock_free t c.args.word c.in-Free.lock work p h) (c.do_free.ensures.carries work is)
+
+pub returns-in-Refused-clause-carries : goal.returns-in-Refused-clause-carries
+returns-in-Refused-clause-carries g c =
+    let t = task_of c.args.task.now in
+    let p = mind_of c.args.process.now in
+    let h = rw c.in-Refused.is at c.in_ok-lock.ensures in
+    λ work is. carried (refuse_name c.blamed_text-text.result.now p) (do_named t c.args.word work p) _ _ _ _ _ _ (lock_refused t c.args.word work c.blamed_text-text.result.now p h c.blamed_text-text.ensures) c.refuse.ensures.carries

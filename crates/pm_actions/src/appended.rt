@@ -1,0 +1,51 @@
+//! The file to which a program line appends: its name gives the automatic lock file (procmailrc(5), "Local lockfile").
+ghost use Rattle.std.specs.Prelude.{◌≡◌, position};
+ghost use Rattle.pm_conds.specs.Leads.{is_no_blank, behind_blanks as past_blanks};
+ghost use Rattle.pm_meaning.specs.ProgramActions.{behind_arrows as past_arrows, ends_name, up_to_end, appended_name as name_appended};
+
+use pm_bytes::{is_blank, is_space};
+
+/// The name behind the first `>>` and blanks.
+pub fn appended_name(line: &[u8]) -> &[u8]
+    ensures { result.now ≡ name_appended line.now }
+{
+    first_name(behind_blanks(behind_arrows(line)))
+}
+
+fn behind_arrows(line: &[u8]) -> &[u8]
+    ensures { result.now ≡ past_arrows line.now }
+{
+    let mut rest = line;
+    while let [_, behind @ ..] = rest {
+        if rest.starts_with(b">>") {
+            return &behind[1..];
+        }
+        rest = behind;
+    }
+    b""
+}
+
+fn behind_blanks(text: &[u8]) -> &[u8]
+    ensures { result.now ≡ past_blanks text.now }
+{
+    &text[blanks_end(text).unwrap_or(text.len())..]
+}
+
+fn blanks_end(text: &[u8]) -> Option<usize>
+    ensures { result ≡ position is_no_blank text.now }
+{
+    text.iter().position(|byte| !is_blank(*byte))
+}
+
+fn first_name(text: &[u8]) -> &[u8]
+    ensures { result.now ≡ up_to_end text.now }
+{
+    &text[..name_end(text).unwrap_or(text.len())]
+}
+
+fn name_end(text: &[u8]) -> Option<usize>
+    ensures { result ≡ position ends_name text.now }
+{
+    text.iter()
+        .position(|byte| is_space(*byte) || b";|&<>)".contains(byte))
+}

@@ -1,0 +1,131 @@
+//! A piece is filed in a folder: under the moment, which is asked first, and with the count of the run's filings.
+ghost use Rattle.std.specs.Prelude.{◌≡◌, ◌+◌, ◌≤◌, true, [], length, is_some, IfOk};
+ghost use Rattle.pm_journal.specs.Executed.{Carries};
+ghost use Rattle.pm_journal.specs.Held.{Keeping};
+ghost use Rattle.pm_journal.specs.Outcomes.{last_file as file_of_last};
+ghost use Rattle.pm_meaning.specs.Changes.{stored_in};
+ghost use Rattle.pm_meaning.specs.Delivering.{in_folder};
+ghost use Rattle.pm_meaning.specs.Locks.{text_or};
+ghost use Rattle.pm_meaning.specs.Minds.{mind_of};
+ghost use Rattle.pm_actions.specs.Copies.{filing_of};
+ghost use Rattle.pm_actions.specs.Placing.{HasFile, placed_as};
+
+use pm_acts::{Filing, Outside};
+use pm_bytes::{Blob, Memory, Name};
+use pm_journal::{FolderEnd, FolderKind, Journal, Stamp};
+use pm_meaning::{Filed, Process};
+use std::alloc::Global;
+
+/// A folder with all that is wanted to file a piece there: its name for the entry and for the line where that fails, how
+/// the names in it begin, and the piece.
+#[derive(Drop)]
+pub struct FolderCopy {
+    pub kind: FolderKind,
+    pub folder: Name,
+    pub shown: Name,
+    pub prefix: Name,
+    pub piece: Blob,
+}
+
+/// Files the piece in the folder as a file of its own. After want of memory behind the filing, that is noted.
+pub fn file_in_folder<D: Outside>(
+    alloc: Global,
+    copy: FolderCopy,
+    process: &mut Process,
+    outside: &mut D,
+    journal: &mut Journal,
+) -> Result<Filed, Memory>
+    requires keeping { Keeping journal.old process.old.locks.names }
+    requires room { length process.old.locks.names + 2 ≤ journal.old.room }
+    requires shown { copy.shown ≡ copy.folder }
+    ensures carries { Carries (in_folder copy.kind copy.folder copy.prefix copy.piece (mind_of process.old))
+        (λ filed. filing_of filed (mind_of process.new)) result
+        journal.old journal.new (D.told outside.old) (D.told outside.new) }
+    ensures locks { process.new.locks ≡ process.old.locks }
+    ensures keeping { Keeping journal.new process.new.locks.names }
+    ensures room { IfOk result (λ _. journal.old.room ≤ journal.new.room + 2) }
+{
+    let serial = next_serial(process)?;
+    let host_name = process.host_name.copy(alloc)?;
+    let FolderCopy {
+        kind,
+        folder,
+        shown,
+        prefix,
+        piece,
+    } = copy;
+    let stamp = Stamp {
+        moment: outside.moment(journal),
+        pid: process.vars.marks().pid,
+        serial,
+        host_name,
+    };
+    let filing = Filing {
+        kind,
+        folder,
+        prefix,
+        piece,
+        stamp,
+    };
+    let end = outside.place(alloc, journal, filing)?;
+    process.placed = serial;
+    conclude(alloc, end, shown, process, journal)
+}
+
+// The number of the next filing of the run. One that is too great for 64 bits would be want of memory.
+fn next_serial(process: &Process) -> Result<u64, Memory>
+    ensures { IfOk result (λ serial. serial ≡ process.now.placed + 1) }
+{
+    match process.placed.checked_add(1) {
+        Some(serial) => Ok(serial),
+        None => Err(Memory),
+    }
+}
+
+// What came of a filing that is the last entry. The name of its file is copied out of that entry.
+fn conclude(
+    alloc: Global,
+    end: FolderEnd,
+    folder: Name,
+    process: &mut Process,
+    journal: &Journal,
+) -> Result<Filed, Memory>
+    requires file { HasFile end (file_of_last journal.now.entries) }
+    ensures filed { IfOk result (λ filed. filing_of filed (mind_of process.new)
+        ≡ placed_as end (file_of_last journal.now.entries) folder (mind_of process.old)) }
+    ensures locks { process.new.locks ≡ process.old.locks }
+{
+    match end {
+        FolderEnd::Placed => {
+            remember_file(alloc, process, journal)?;
+            Ok(Filed::Stored)
+        }
+        FolderEnd::Undone => Ok(Filed::Unwritten(folder)),
+        FolderEnd::Torn(count) => Ok(Filed::Left {
+            name: last_file(journal).copy(alloc)?,
+            count,
+        }),
+        FolderEnd::NamesOut => Ok(Filed::Crowded(folder)),
+    }
+}
+
+// LASTFOLDER is the file of the last entry.
+fn remember_file(alloc: Global, process: &mut Process, journal: &Journal) -> Result<(), Memory>
+    requires file { is_some (file_of_last journal.now.entries) ≡ true }
+    ensures mind { IfOk result (λ _. mind_of process.new
+        ≡ stored_in (text_or [] (file_of_last journal.now.entries)) (mind_of process.old)) }
+    ensures locks { process.new.locks ≡ process.old.locks }
+{
+    let name = Blob::from_slice(alloc, last_file(journal).as_str().as_bytes())?;
+    process.vars.set(b"LASTFOLDER", name)
+}
+
+fn last_file(journal: &Journal) -> &Name
+    requires { is_some (file_of_last journal.now.entries) ≡ true }
+    ensures { result.now ≡ text_or [] (file_of_last journal.now.entries) }
+{
+    match journal.last_file() {
+        Some(name) => name,
+        None => unreachable!(),
+    }
+}

@@ -1,0 +1,139 @@
+//! An errand under its lock file, where one is asked for.
+ghost use Rattle.std.specs.Prelude.{◌≡◌, false, Some, None};
+ghost use Rattle.pm_journal.specs.Executed.{Carries};
+ghost use Rattle.pm_journal.specs.Held.{Keeping, holds_name};
+ghost use Rattle.pm_journal.specs.Plan.{Plan};
+ghost use Rattle.pm_meaning.specs.Minds.{Mind, mind_of};
+ghost use Rattle.pm_meaning.specs.ProgramActions.{Tried, try_under as tried_under, is_fine_trial as trial_was_done};
+ghost use Rattle.pm_meaning.specs.ProgramActions.{settled_by, trial_turn};
+ghost use Rattle.pm_actions.specs.Copies.{IsFreeLock};
+ghost use Rattle.pm_actions.specs.Errands.{trying_of, IsWork};
+ghost use Rattle.pm_actions.specs.Turning.{turn_of};
+
+use crate::attempting::is_stuck;
+use crate::errands::{Errand, carry, is_fine};
+use crate::locks::lock_rule;
+use pm_acts::{Outside, give, take};
+use pm_bytes::{Memory, Name};
+use pm_journal::{Journal, LockEnd};
+use pm_meaning::{End, Process, Trial, succeed};
+use pm_recipe::Flags;
+use std::alloc::Global;
+
+/// Does the errand under the lock of this name.
+pub fn try_under<D: Outside>(
+    alloc: Global,
+    lock: Option<Name>,
+    errand: Errand,
+    flags: Flags,
+    process: &mut Process,
+    outside: &mut D,
+    journal: &mut Journal,
+) -> Result<Trial, Memory>
+    requires free { IsFreeLock lock process.old.locks.names }
+    requires keeping { Keeping journal.old process.old.locks.names }
+    ensures carries { (work : Mind → Plan Tried) → IsWork flags errand process.old.vars work
+        → Carries (tried_under lock work (mind_of process.old)) (λ trial. trying_of trial (mind_of process.new)) result
+        journal.old journal.new (D.told outside.old) (D.told outside.new) }
+    ensures keeping { Keeping journal.new process.new.locks.names }
+{
+    match lock {
+        None => try_free(alloc, errand, flags, process, outside, journal),
+        Some(name) => try_locked(alloc, name, errand, flags, process, outside, journal),
+    }
+}
+
+fn try_free<D: Outside>(
+    alloc: Global,
+    errand: Errand,
+    flags: Flags,
+    process: &mut Process,
+    outside: &mut D,
+    journal: &mut Journal,
+) -> Result<Trial, Memory>
+    requires keeping { Keeping journal.old process.old.locks.names }
+    ensures carries { (work : Mind → Plan Tried) → IsWork flags errand process.old.vars work
+        → Carries (tried_under None work (mind_of process.old)) (λ trial. trying_of trial (mind_of process.new)) result
+        journal.old journal.new (D.told outside.old) (D.told outside.new) }
+    ensures keeping { Keeping journal.new process.new.locks.names }
+{
+    journal.reserve(process.locks.len() + 1)?;
+    let outcome = carry(alloc, errand, flags, process, outside, journal)?;
+    Ok(Trial::Unlocked(outcome))
+}
+
+// The lock's entry and that of its removal have room too. After want of memory in the errand the lock is still held.
+fn try_locked<D: Outside>(
+    alloc: Global,
+    name: Name,
+    errand: Errand,
+    flags: Flags,
+    process: &mut Process,
+    outside: &mut D,
+    journal: &mut Journal,
+) -> Result<Trial, Memory>
+    requires free { holds_name process.old.locks.names name ≡ false }
+    requires keeping { Keeping journal.old process.old.locks.names }
+    ensures carries { (work : Mind → Plan Tried) → IsWork flags errand process.old.vars work
+        → Carries (tried_under (Some name) work (mind_of process.old)) (λ trial. trying_of trial (mind_of process.new)) result
+        journal.old journal.new (D.told outside.old) (D.told outside.new) }
+    ensures keeping { Keeping journal.new process.new.locks.names }
+{
+    let rule = lock_rule(&process.vars);
+    let noted = name.copy(alloc)?;
+    let kept = name.copy(alloc)?;
+    process.locks.reserve()?;
+    journal.reserve(process.locks.len() + 3)?;
+    match take(&mut process.locks, noted, kept, rule, outside, journal) {
+        LockEnd::Held { forced, .. } => {
+            let outcome = carry(alloc, errand, flags, process, outside, journal)?;
+            let removed = give(&mut process.locks, &name, outside, journal);
+            let stuck = is_stuck(removed);
+            Ok(Trial::Locked {
+                name,
+                forced,
+                outcome,
+                stuck,
+            })
+        }
+        LockEnd::Busy | LockEnd::Failed => {
+            let_go(errand);
+            Ok(Trial::NotLocked(name))
+        }
+    }
+}
+
+/// The errand isn't done.
+pub fn let_go(_errand: Errand) {}
+
+// Whether the errand was done.
+fn is_fine_trial(trial: &Trial) -> bool
+    ensures { result ≡ trial_was_done trial.now }
+{
+    match trial {
+        Trial::Unlocked(outcome) => is_fine(*outcome),
+        Trial::NotLocked(_) => false,
+        Trial::Locked { outcome, .. } => is_fine(*outcome),
+    }
+}
+
+/// A recipe whose action was done succeeded.
+pub fn settle(trial: &Trial, process: &mut Process)
+    ensures mind { mind_of process.new ≡ settled_by trial.now (mind_of process.old) }
+    ensures locks { process.new.locks ≡ process.old.locks }
+{
+    if is_fine_trial(trial) {
+        process.chain = succeed(&process.chain);
+    }
+}
+
+/// Where the errand is the last and was done, it ends the process.
+pub fn end_of(last: bool, trial: &Trial) -> Option<End>
+    ensures { (p : Mind) → trial_turn last trial.now p ≡ turn_of result p }
+{
+    if last && is_fine_trial(trial) {
+        Some(End::Delivered)
+    } else {
+        None
+    }
+}
