@@ -9,12 +9,14 @@ use Rattle.pm_journal.specs.Entries.{View}
 use Rattle.pm_journal.specs.LogText.{couldnt_chdir_line, unusable_name_line}
 use Rattle.pm_journal.specs.declared.acts.Act.TheVariants.{Probe, SayErr}
 use Rattle.pm_journal.specs.declared.acts.Reply.TheVariants.{Found}
+use Rattle.pm_subst.specs.Commands.{commands_in}
 use Rattle.pm_subst.specs.declared.kinds.Mode.TheVariants.{One}
 use Rattle.pm_journal.specs.Plan.{Plan, Ends, and_then, ask}
 use Rattle.pm_journal.specs.Executed.{Executes, OutOfMemory}
 use Rattle.pm_meaning.specs.Changes.{with_variable, without_variable, with_base}
+use Rattle.pm_meaning.specs.Outputs.{Outputs, outputs_of}
 use Rattle.pm_meaning.specs.Turns.{Turn, GoesOn, Halts, say_then, not_built, is_too_long, skip_value}
-use Rattle.pm_meaning.specs.Assigning.{waits, leads_elsewhere, value_in, probed, change_folder, assigned, assign, unset}
+use Rattle.pm_meaning.specs.Assigning.{is_later, leads_elsewhere, value_in, probed, change_folder, assigned, assign_with, assign, unset}
 use Rattle.pm_meaning.specs.GlobalLock.{drop_lock, change_lock}
 use Rattle.pm_meaning.specs.Texts.{is_file_text}
 use Rattle.pm_meaning.specs.Minds.{Mind}
@@ -153,32 +155,22 @@ unset_plainly name p q other plain is =
     ∙ (if_no (bytes_eq name (codes "LOCKFILE")) (drop_lock (without_variable name p)) (Ends (GoesOn (without_variable name p))) plain
     ∙ if_no (bytes_eq name (codes "SWITCHRC")) (not_built p) (after_unsetting name (without_variable name p)) other)
 
--- the text of an assignment
-pub assignment_waits : (name text : List ℕ) (p : Mind) (x : JournalState) (s : View) → waits name text ≡ true → Executes (assign name text p) (Halts NotBuilt p) x x s s
+-- the commands of the value come first, unless the assignment isn't built yet
+abbrev pub given : List ℕ → List ℕ → Outputs → Plan Turn
+given name text = λ ran. assign_with name text ran.outputs ran.mind
+
+pub assignment_waits : (name text : List ℕ) (p : Mind) (x : JournalState) (s : View) → is_later name ≡ true → Executes (assign name text p) (Halts NotBuilt p) x x s s
 assignment_waits name text p x s e =
-    choose_then (waits name text) (not_built p) (if is_too_long One text p.vars then skip_value One text p else assigned name (value_in p.vars text) p) (Halts NotBuilt p) x x s s e
-    (executes_nothing (Halts NotBuilt p) x x s refl)
+    choose_then (is_later name) (not_built p) (and_then (outputs_of (commands_in One text) p) (given name text)) (Halts NotBuilt p) x x s s e (executes_nothing (Halts NotBuilt p) x x s refl)
 
-pub value_assigned : (name text value : List ℕ) (p : Mind) (turn : Turn) (x y : JournalState) (a b : View) → waits name text ≡ false → is_too_long One text p.vars ≡ false → value ≡ value_in p.vars text
-    → Executes (assigned name value p) turn x y a b → Executes (assign name text p) turn x y a b
-value_assigned name text value p turn x y a b now fits is h =
-    choose_else (waits name text) (not_built p) (if is_too_long One text p.vars then skip_value One text p else assigned name (value_in p.vars text) p) turn x y a b now
-    (choose_else (is_too_long One text p.vars) (skip_value One text p) (assigned name (value_in p.vars text) p) turn x y a b fits (subst (λ v. Executes (assigned name v p) turn x y a b) is h))
+pub commands_first : (name text : List ℕ) (p : Mind) → is_later name ≡ false → and_then (outputs_of (commands_in One text) p) (given name text) ≡ assign name text p
+commands_first name text p e = if_no (is_later name) (not_built p) (and_then (outputs_of (commands_in One text) p) (given name text)) e
 
-pub value_assigned_out : (name text value : List ℕ) (p : Mind) (x y : JournalState) (a b : View) → waits name text ≡ false → is_too_long One text p.vars ≡ false → value ≡ value_in p.vars text
-    → OutOfMemory (assigned name value p) x y a b → OutOfMemory (assign name text p) x y a b
-value_assigned_out name text value p x y a b now fits is h =
-    else_out (waits name text) (not_built p) (if is_too_long One text p.vars then skip_value One text p else assigned name (value_in p.vars text) p) x y a b now
-    (else_out (is_too_long One text p.vars) (skip_value One text p) (assigned name (value_in p.vars text) p) x y a b fits (subst (λ v. OutOfMemory (assigned name v p) x y a b) is h))
+-- the value is expanded, or is too long
+pub value_assigned : (name text value : List ℕ) (outputs : List (List ℕ)) (p : Mind) → is_too_long One text p.vars outputs ≡ false → value ≡ value_in p.vars outputs text
+    → assigned name value p ≡ assign_with name text outputs p
+value_assigned name text value outputs p fits is =
+    ap (λ v. assigned name v p) is ∙ if_no (is_too_long One text p.vars outputs) (skip_value One text outputs p) (assigned name (value_in p.vars outputs text) p) fits
 
-pub value_skipped : (name text : List ℕ) (p : Mind) (turn : Turn) (x y : JournalState) (a b : View) → waits name text ≡ false → is_too_long One text p.vars ≡ true
-    → Executes (skip_value One text p) turn x y a b → Executes (assign name text p) turn x y a b
-value_skipped name text p turn x y a b now long h =
-    choose_else (waits name text) (not_built p) (if is_too_long One text p.vars then skip_value One text p else assigned name (value_in p.vars text) p) turn x y a b now
-    (choose_then (is_too_long One text p.vars) (skip_value One text p) (assigned name (value_in p.vars text) p) turn x y a b long h)
-
-pub value_skipped_out : (name text : List ℕ) (p : Mind) (x y : JournalState) (a b : View) → waits name text ≡ false → is_too_long One text p.vars ≡ true
-    → OutOfMemory (skip_value One text p) x y a b → OutOfMemory (assign name text p) x y a b
-value_skipped_out name text p x y a b now long h =
-    else_out (waits name text) (not_built p) (if is_too_long One text p.vars then skip_value One text p else assigned name (value_in p.vars text) p) x y a b now
-    (then_out (is_too_long One text p.vars) (skip_value One text p) (assigned name (value_in p.vars text) p) x y a b long h)
+pub value_skipped : (name text : List ℕ) (outputs : List (List ℕ)) (p : Mind) → is_too_long One text p.vars outputs ≡ true → skip_value One text outputs p ≡ assign_with name text outputs p
+value_skipped name text outputs p long = if_yes (is_too_long One text p.vars outputs) (skip_value One text outputs p) (assigned name (value_in p.vars outputs text) p) long

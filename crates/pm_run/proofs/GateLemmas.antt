@@ -4,6 +4,7 @@ use Rattle.std.specs.Prelude.{if◌then◌else◌, nat_lt, not, codes}
 use Rattle.pm_bytes.specs.Path.{full_name}
 use Rattle.pm_bytes.specs.declared.error.Memory.{Memory}
 use Rattle.pm_recipe.specs.Tree.{Top}
+use Rattle.pm_subst.specs.Commands.{commands_in}
 use Rattle.pm_subst.specs.declared.kinds.Mode.TheVariants.{One}
 use Rattle.pm_journal.specs.JournalState.{JournalState}
 use Rattle.pm_journal.specs.Entries.{View}
@@ -19,11 +20,12 @@ use Rattle.pm_journal.specs.Executed.{Executes, OutOfMemory, Carries}
 use Rattle.pm_journal.proofs.FirstActs.{first_act, first_act_out}
 use Rattle.pm_journal.proofs.WantsMemory.{executes_nothing}
 use Rattle.pm_meaning.specs.Assigning.{value_in}
-use Rattle.pm_meaning.specs.Blocks.{got_block_lock, lock_block, enter_under, enter, enter_block}
+use Rattle.pm_meaning.specs.Blocks.{got_block_lock, lock_block, enter_with, enter_under, enter, enter_block}
 use Rattle.pm_meaning.specs.Locks.{rule_of, with_lock}
+use Rattle.pm_meaning.specs.Outputs.{Outputs, outputs_of}
 use Rattle.pm_meaning.specs.Texts.{is_empty, is_file_text}
 use Rattle.pm_meaning.specs.Minds.{Mind}
-use Rattle.pm_meaning.specs.Turns.{Turn, GoesOn, Enters, not_built, say_then, refuse_name, has_command, is_too_long, skip_value}
+use Rattle.pm_meaning.specs.Turns.{Turn, GoesOn, Enters, not_built, say_then, refuse_name, is_too_long, skip_value}
 use Rattle.pm_actions.specs.Turning.{turn_of}
 use Rattle.pm_actions.proofs.Choices.{ok_map, err_map}
 use Rattle.pm_actions.proofs.DeliverLemmas.{if_yes, if_no}
@@ -41,12 +43,12 @@ copies top p e = if_yes top.flags.copy (not_built p) (enter top.lock p) e
 pub enters : (top : Top) (lock : Option (List ℕ)) (p : Mind) → top.flags.copy ≡ false → top.lock ≡ lock → enter lock p ≡ enter_block top p
 enters top lock p e is = ap (λ l. enter l p) (sym is) ∙ if_no top.flags.copy (not_built p) (enter top.lock p) e
 
--- what comes of a text for a lock that isn't empty
-abbrev sized : List ℕ → Mind → Plan Turn
-sized text p = if is_too_long One text p.vars then skip_value One text p else lock_block text (value_in p.vars text) p
+-- what comes of a text for a lock that isn't empty, behind its commands
+abbrev pub locks_with : List ℕ → Outputs → Plan Turn
+locks_with text = λ ran. enter_with text ran.outputs ran.mind
 
 abbrev running : List ℕ → Mind → Plan Turn
-running text p = if has_command One text then not_built p else sized text p
+running text p = and_then (outputs_of (commands_in One text) p) (locks_with text)
 
 abbrev without_text : Mind → Plan Turn
 without_text p = say_then p (no_lock_line (codes "{")) (Enters None p)
@@ -54,19 +56,15 @@ without_text p = say_then p (no_lock_line (codes "{")) (Enters None p)
 pub no_text : (text : List ℕ) (p : Mind) → is_empty text ≡ true → without_text p ≡ enter_under text p
 no_text text p e = if_yes (is_empty text) (without_text p) (running text p) e
 
-pub text_runs : (text : List ℕ) (p : Mind) → is_empty text ≡ false → has_command One text ≡ true → not_built p ≡ enter_under text p
-text_runs text p e r = if_yes (has_command One text) (not_built p) (sized text p) r ∙ if_no (is_empty text) (without_text p) (running text p) e
+pub text_runs : (text : List ℕ) (p : Mind) → is_empty text ≡ false → running text p ≡ enter_under text p
+text_runs text p e = if_no (is_empty text) (without_text p) (running text p) e
 
-pub text_long : (text : List ℕ) (p : Mind) → is_empty text ≡ false → has_command One text ≡ false → is_too_long One text p.vars ≡ true → skip_value One text p ≡ enter_under text p
-text_long text p e r l =
-    if_yes (is_too_long One text p.vars) (skip_value One text p) (lock_block text (value_in p.vars text) p) l
-    ∙ (if_no (has_command One text) (not_built p) (sized text p) r ∙ if_no (is_empty text) (without_text p) (running text p) e)
+pub text_long : (text : List ℕ) (outputs : List (List ℕ)) (p : Mind) → is_too_long One text p.vars outputs ≡ true → skip_value One text outputs p ≡ enter_with text outputs p
+text_long text outputs p l = if_yes (is_too_long One text p.vars outputs) (skip_value One text outputs p) (lock_block text (value_in p.vars outputs text) p) l
 
-pub text_value : (text value : List ℕ) (p : Mind) → is_empty text ≡ false → has_command One text ≡ false → is_too_long One text p.vars ≡ false → value ≡ value_in p.vars text → lock_block text value p ≡ enter_under text p
-text_value text value p e r l is =
-    ap (λ v. lock_block text v p) is
-    ∙ (if_no (is_too_long One text p.vars) (skip_value One text p) (lock_block text (value_in p.vars text) p) l
-    ∙ (if_no (has_command One text) (not_built p) (sized text p) r ∙ if_no (is_empty text) (without_text p) (running text p) e))
+pub text_value : (text value : List ℕ) (outputs : List (List ℕ)) (p : Mind) → is_too_long One text p.vars outputs ≡ false → value ≡ value_in p.vars outputs text → lock_block text value p ≡ enter_with text outputs p
+text_value text value outputs p l is =
+    ap (λ v. lock_block text v p) is ∙ if_no (is_too_long One text p.vars outputs) (skip_value One text outputs p) (lock_block text (value_in p.vars outputs text) p) l
 
 -- the lock by its value
 abbrev asked : List ℕ → Mind → Plan Turn

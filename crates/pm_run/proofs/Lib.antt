@@ -1,6 +1,7 @@
 pub mod AssignLemmas
 pub mod EnvironmentLemmas
 pub mod JudgeLemmas
+pub mod ConditionLemmas
 pub mod ProcessLemmas
 mod GlobalLemmas
 mod FrameLemmas

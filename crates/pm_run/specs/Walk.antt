@@ -6,7 +6,7 @@ use Rattle.pm_code.specs.declared.steps.Step.{Step}
 use Rattle.pm_recipe.specs.Tree.{Tree, Recipe}
 use Rattle.pm_journal.specs.Plan.{Plan, Ends}
 use Rattle.pm_meaning.specs.Blocks.{begun_block}
-use Rattle.pm_meaning.specs.Delivering.{act_on}
+use Rattle.pm_meaning.specs.Acting.{act_on}
 use Rattle.pm_meaning.specs.Judging.{judge_first}
 use Rattle.pm_meaning.specs.Minds.{Mind}
 use Rattle.pm_meaning.specs.Turns.{Turn, GoesOn, Halts, Enters}

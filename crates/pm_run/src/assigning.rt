@@ -1,17 +1,19 @@
 //! Assignments and unsettings, and what each has for an effect (procmailrc(5), "Environment").
-ghost use Rattle.std.specs.Prelude.{◌≡◌, bytes_eq, codes, IfOk};
+ghost use Rattle.std.specs.Prelude.{◌≡◌, bytes_eq, codes, length};
 ghost use Rattle.pm_journal.specs.Executed.{Carries};
 ghost use Rattle.pm_journal.specs.Held.{Keeping};
 ghost use Rattle.pm_journal.specs.Plan.{and_then, ask};
 ghost use Rattle.pm_journal.specs.declared.acts.Act.TheVariants.{Probe};
-ghost use Rattle.pm_meaning.specs.Assigning.{is_later, waits as asks_for_later};
+ghost use Rattle.pm_meaning.specs.Assigning.{is_later};
 ghost use Rattle.pm_meaning.specs.Assigning.{leads_elsewhere as leads_away, probed, change_folder};
-ghost use Rattle.pm_meaning.specs.Assigning.{assigned, assign, unset};
+ghost use Rattle.pm_meaning.specs.Assigning.{assigned, assign, assign_with, unset};
 ghost use Rattle.pm_meaning.specs.Minds.{mind_of};
+ghost use Rattle.pm_subst.specs.Commands.{commands_in};
+ghost use Rattle.pm_subst.specs.declared.kinds.Mode.TheVariants.{One};
 ghost use Rattle.pm_actions.specs.Turning.{turn_of};
 
 use crate::global_lock::{change_lock, drop_lock};
-use pm_actions::{Expansion, expand_text, file_name, first_word, runs_command, skip_value};
+use pm_actions::{Expansion, expand_text, file_name, first_word, outputs_of, skip_value};
 use pm_acts::{Outside, probe, say};
 use pm_bytes::{Blob, Memory, Name, full};
 use pm_host::Looked;
@@ -35,10 +37,39 @@ pub fn assign_text<D: Outside>(
         journal.old journal.new (D.told outside.old) (D.told outside.new) }
     ensures keeping { Keeping journal.new process.new.locks.names }
 {
-    if waits(alloc, name, text)? {
+    if is_later_name(name) {
         return Ok(Some(End::NotBuilt));
     }
-    match expand_text(alloc, text, Mode::One, &process.vars)? {
+    let outputs = outputs_of(alloc, text, Mode::One, process, outside, journal)?;
+    assign_expanded(
+        alloc,
+        name,
+        text,
+        outputs.as_slice(),
+        process,
+        outside,
+        journal,
+    )
+}
+
+// Expands the text with the outputs of its commands, and gives it to the variable.
+fn assign_expanded<D: Outside>(
+    alloc: Global,
+    name: &[u8],
+    text: &[u8],
+    outputs: &[Blob],
+    process: &mut Process,
+    outside: &mut D,
+    journal: &mut Journal,
+) -> Result<Option<End>, Memory>
+    requires each { length outputs.now ≡ length (commands_in One text.now) }
+    requires keeping { Keeping journal.old process.old.locks.names }
+    ensures carries { Carries (assign_with name.now text.now outputs.now (mind_of process.old))
+        (λ end. turn_of end (mind_of process.new)) result
+        journal.old journal.new (D.told outside.old) (D.told outside.new) }
+    ensures keeping { Keeping journal.new process.new.locks.names }
+{
+    match expand_text(alloc, text, Mode::One, &process.vars, outputs)? {
         Expansion::Words(words) => {
             let value = first_word(alloc, words);
             assign_value(alloc, name, value, process, outside, journal)
@@ -48,15 +79,6 @@ pub fn assign_text<D: Outside>(
 }
 
 // Whether an assignment asks for what isn't built yet, whatever its value is.
-fn waits(alloc: Global, name: &[u8], text: &[u8]) -> Result<bool, Memory>
-    ensures { IfOk result (λ found. found ≡ asks_for_later name.now text.now) }
-{
-    if is_later_name(name) {
-        return Ok(true);
-    }
-    runs_command(alloc, text, Mode::One)
-}
-
 fn is_later_name(name: &[u8]) -> bool
     ensures { result ≡ is_later name.now }
 {

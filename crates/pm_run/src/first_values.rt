@@ -42,6 +42,7 @@ pub fn begin(
         locks: HeldLocks::new(alloc),
         global: None,
         chain: new_chain(),
+        placed: 0,
     })
 }
 

@@ -1,27 +1,29 @@
 //! Recipes with a block: whether it is entered, and under which lock (procmailrc(5), "Recipe action line" and "Local
 //! lockfile").
-ghost use Rattle.std.specs.Prelude.{◌≡◌, false, nat_lt, Some, if◌then◌else◌};
+ghost use Rattle.std.specs.Prelude.{◌≡◌, false, length, nat_lt, Some, if◌then◌else◌};
 ghost use Rattle.pm_journal.specs.Executed.{Carries};
 ghost use Rattle.pm_journal.specs.Held.{Keeping, holds_name};
 ghost use Rattle.pm_journal.specs.Locking.{lock_act};
 ghost use Rattle.pm_journal.specs.LogText.{couldnt_lock_line, forcing_lock_line};
 ghost use Rattle.pm_journal.specs.Plan.{Ends, and_then, ask};
-ghost use Rattle.pm_meaning.specs.Blocks.{enter_block as block_entered, enter_under as entered_under};
+ghost use Rattle.pm_meaning.specs.Blocks.{enter_block as block_entered, enter_under as entered_under, enter_with as entered_with};
 ghost use Rattle.pm_meaning.specs.Blocks.{lock_block as block_locked, got_block_lock};
 ghost use Rattle.pm_meaning.specs.Judging.{judge_first};
 ghost use Rattle.pm_meaning.specs.Locks.{rule_of};
 ghost use Rattle.pm_meaning.specs.Minds.{Mind, mind_of};
 ghost use Rattle.pm_meaning.specs.Turns.{GoesOn, Enters, say_then};
+ghost use Rattle.pm_subst.specs.Commands.{commands_in};
+ghost use Rattle.pm_subst.specs.declared.kinds.Mode.TheVariants.{One};
 ghost use Rattle.pm_actions.specs.Names.{top_of};
 ghost use Rattle.pm_actions.specs.Turning.{turn_of};
 ghost use Rattle.pm_run.specs.Walk.{gate_turn};
 
 use crate::judging::{Come, come_to};
 use pm_actions::{
-    Expansion, expand_text, file_name, first_word, lock_rule, refuse, runs_command, skip_value,
+    Expansion, expand_text, file_name, first_word, lock_rule, outputs_of, refuse, skip_value,
 };
 use pm_acts::{Outside, say, take};
-use pm_bytes::{Memory, Name, full};
+use pm_bytes::{Blob, Memory, Name, full};
 use pm_journal::{Journal, LockEnd, couldnt_lock, forcing_lock, no_lock};
 use pm_meaning::{End, Process};
 use pm_recipe::Recipe;
@@ -109,10 +111,27 @@ fn enter_under<D: Outside>(
         say(&process.locks, line, outside, journal)?;
         return Ok(Gate::Enters(None));
     }
-    if runs_command(alloc, text, Mode::One)? {
-        return Ok(Gate::Halts(End::NotBuilt));
-    }
-    match expand_text(alloc, text, Mode::One, &process.vars)? {
+    let outputs = outputs_of(alloc, text, Mode::One, process, outside, journal)?;
+    enter_expanded(alloc, text, outputs.as_slice(), process, outside, journal)
+}
+
+// Expands the text of the lock with the outputs of its commands, and enters the block under it.
+fn enter_expanded<D: Outside>(
+    alloc: Global,
+    text: &[u8],
+    outputs: &[Blob],
+    process: &mut Process,
+    outside: &mut D,
+    journal: &mut Journal,
+) -> Result<Gate, Memory>
+    requires each { length outputs.now ≡ length (commands_in One text.now) }
+    requires keeping { Keeping journal.old process.old.locks.names }
+    ensures carries { Carries (entered_with text.now outputs.now (mind_of process.old))
+        (λ gate. gate_turn gate (mind_of process.new)) result
+        journal.old journal.new (D.told outside.old) (D.told outside.new) }
+    ensures keeping { Keeping journal.new process.new.locks.names }
+{
+    match expand_text(alloc, text, Mode::One, &process.vars, outputs)? {
         Expansion::Words(words) => {
             let value = first_word(alloc, words);
             lock_block(alloc, text, value.as_slice(), process, outside, journal)

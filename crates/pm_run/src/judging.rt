@@ -6,8 +6,8 @@ ghost use Rattle.pm_journal.specs.Held.{Keeping};
 ghost use Rattle.pm_journal.specs.LogText.{defective_condition_line};
 ghost use Rattle.pm_journal.specs.Plan.{Plan, Ends};
 ghost use Rattle.pm_recipe.specs.View.{act_of};
+ghost use Rattle.pm_meaning.specs.Acting.{act_on};
 ghost use Rattle.pm_meaning.specs.Chains.{passed, executed};
-ghost use Rattle.pm_meaning.specs.Delivering.{act_on};
 ghost use Rattle.pm_meaning.specs.Judging.{by_verdict, judge_first};
 ghost use Rattle.pm_meaning.specs.Minds.{Mind, mind_of};
 ghost use Rattle.pm_meaning.specs.Turns.{Turn, GoesOn, say_then};
@@ -15,10 +15,11 @@ ghost use Rattle.pm_actions.specs.Names.{top_of};
 ghost use Rattle.pm_actions.specs.Turning.{turn_of};
 ghost use Rattle.pm_run.specs.Coming.{ComesTo, is_matched as is_match};
 
+use crate::conditions::judge;
 use pm_actions::{perform, skip_value};
 use pm_acts::{Outside, say};
 use pm_bytes::{Blob, Memory};
-use pm_conds::{Verdict, judge};
+use pm_conds::Verdict;
 use pm_journal::{Journal, defective_condition};
 use pm_meaning::{End, Process, admits, after};
 use pm_recipe::{Flags, Recipe};
@@ -53,8 +54,7 @@ pub fn come_to<D: Outside>(
         return Ok(Come::Ended(None));
     }
     let conditions = recipe.conditions.as_slice();
-    let message = &process.message;
-    match judge(alloc, conditions, flags, message, &mut process.vars) {
+    match judge(alloc, conditions, flags, process, outside, journal) {
         Err(Memory) => Err(Memory),
         Ok(verdict) => {
             if is_matched(&verdict) {
@@ -110,7 +110,6 @@ fn tell_verdict<D: Outside>(
         Verdict::Matched | Verdict::Unmatched => Ok(None),
         Verdict::Defective(text) => tell_defect(alloc, text, process, outside, journal),
         Verdict::TooLong(length) => skip_value(alloc, length, process, outside, journal),
-        Verdict::NotBuilt => Ok(Some(End::NotBuilt)),
     }
 }
 

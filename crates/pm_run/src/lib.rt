@@ -4,6 +4,7 @@
 #![tactic(auto)]
 
 mod assigning;
+mod conditions;
 mod falling_off;
 mod first_values;
 mod frames;

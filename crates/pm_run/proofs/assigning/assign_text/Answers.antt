@@ -1,26 +1,33 @@
+use Rattle.std.proofs.Common.{rules, sym, ap, ◌∙◌}
+use Rattle.pm_journal.proofs.WantsMemory.{on_err, out_front}
+use Rattle.pm_subst.specs.Commands.{commands_in}
+use Rattle.pm_subst.specs.declared.kinds.Mode.TheVariants.{One}
+use Rattle.pm_meaning.specs.Assigning.{assign, assign_with}
 use Rattle.pm_meaning.specs.Minds.{mind_of}
-use Rattle.std.proofs.Common.{rules, refl, sym, ◌∙◌, ap}
-use Rattle.pm_meaning.specs.Assigning.{first_word}
-use Rattle.pm_journal.proofs.WantsMemory.{on_err, out_anywhere}
-use Rattle.pm_actions.proofs.Choices.{ok_map, err_map}
-use Rattle.pm_run.proofs.AssignLemmas.{assignment_waits, value_assigned, value_assigned_out}
+use Rattle.pm_meaning.specs.Outputs.{outputs_with, outputs_of}
+use Rattle.pm_actions.proofs.DeliverLemmas.{carried}
+use Rattle.pm_actions.proofs.Sequences.{then_carries, out_same}
+use Rattle.pm_run.proofs.AssignLemmas.{given, assignment_waits, commands_first}
 use Rattle.pm_run.proofs.assigning.assign_text.Goals as goal
 
-pub returns-in_err-waits-clause-carries : goal.returns-in_err-waits-clause-carries
-returns-in_err-waits-clause-carries g c =
-    (search rules, on_err _ _ (out_anywhere _ _ _ _ refl))
+pub returns-then-is_later_name-clause-carries : goal.returns-then-is_later_name-clause-carries
+returns-then-is_later_name-clause-carries g c =
+    (assignment_waits c.args.name.now c.args.text.now (mind_of c.args.process.now) _ _ (sym c.is_later_name.ensures ∙ c.if-is_later_name.true), tt)
 
-pub returns-then-branch-clause-carries : goal.returns-then-branch-clause-carries
-returns-then-branch-clause-carries g c =
-    (assignment_waits c.args.name.now c.args.text.now (mind_of c.args.process.now) _ _ (sym c.in_ok-waits.ensures ∙ c.if-branch.true), tt)
+pub returns-in_err-outputs-clause-carries : goal.returns-in_err-outputs-clause-carries
+returns-in_err-outputs-clause-carries g c =
+    let p = mind_of c.args.process.now in
+    let name = c.args.name.now in
+    let text = c.args.text.now in
+    let same = commands_first name text p (sym c.is_later_name.ensures ∙ c.if-is_later_name.false) in
+    (search rules, on_err _ _ (out_same _ (assign name text p) _ _ _ _ same (out_front (outputs_of (commands_in One text) p) (given name text) _ _ _ _ c.in_err-outputs.ensures.carries.1)))
 
-pub returns-in_err-words-clause-carries : goal.returns-in_err-words-clause-carries
-returns-in_err-words-clause-carries g c =
-    (search rules, on_err _ _ (out_anywhere _ _ _ _ refl))
-
-pub returns-in-Words-clause-carries : goal.returns-in-Words-clause-carries
-returns-in-Words-clause-carries g c =
-    let k = rw c.in-Words.is at c.in_ok-words.ensures in (
-      ok_map _ _ _ (λ end h. value_assigned c.args.name.now c.args.text.now c.first_word-value.result (mind_of c.args.process.now) _ _ _ _ _ (sym c.in_ok-waits.ensures ∙ c.if-branch.false) k.0 (c.first_word-value.ensures ∙ ap first_word k.1) h) c.assign_value.ensures.carries.0,
-      err_map _ _ _ (λ h. value_assigned_out c.args.name.now c.args.text.now c.first_word-value.result (mind_of c.args.process.now) _ _ _ _ (sym c.in_ok-waits.ensures ∙ c.if-branch.false) k.0 (c.first_word-value.ensures ∙ ap first_word k.1) h) c.assign_value.ensures.carries.1,
-    )
+pub returns-clause-carries : goal.returns-clause-carries
+returns-clause-carries g c =
+    let p = mind_of c.args.process.now in
+    let name = c.args.name.now in
+    let text = c.args.text.now in
+    let ran = outputs_with c.in_ok-outputs.outputs.items (mind_of c.outputs_of.new.process) in
+    let same = commands_first name text p (sym c.is_later_name.ensures ∙ c.if-is_later_name.false) in
+    carried _ (assign name text p) _ _ _ _ _ _ same
+    (then_carries (outputs_of (commands_in One text) p) (given name text) ran _ _ _ _ _ _ _ _ c.in_ok-outputs.ensures.carries.0 (carried _ (given name text ran) _ _ _ _ _ _ (ap (λ l. assign_with name text l ran.mind) c.as_slice.ensures.value) c.assign_expanded.ensures.carries))

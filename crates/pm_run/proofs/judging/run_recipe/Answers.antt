@@ -2,7 +2,7 @@ use Rattle.std.proofs.Common.{rules}
 use Rattle.pm_journal.specs.Plan.{Plan}
 use Rattle.pm_journal.proofs.WantsMemory.{on_err}
 use Rattle.pm_recipe.specs.View.{act_of}
-use Rattle.pm_meaning.specs.Delivering.{act_on}
+use Rattle.pm_meaning.specs.Acting.{act_on}
 use Rattle.pm_meaning.specs.Judging.{judge_first}
 use Rattle.pm_meaning.specs.Minds.{Mind, mind_of}
 use Rattle.pm_meaning.specs.Turns.{Turn}

@@ -1,0 +1,17 @@
+use Rattle.std.proofs.Common.{rules, refl, ap, ◌∙◌}
+use Rattle.pm_journal.proofs.WantsMemory.{on_err, out_anywhere}
+use Rattle.pm_meaning.specs.Assigning.{first_word, assign_with}
+use Rattle.pm_meaning.specs.Minds.{mind_of}
+use Rattle.pm_actions.proofs.DeliverLemmas.{carried}
+use Rattle.pm_run.proofs.AssignLemmas.{value_assigned}
+use Rattle.pm_run.proofs.assigning.assign_expanded.Goals as goal
+
+pub returns-in_err-words-clause-carries : goal.returns-in_err-words-clause-carries
+returns-in_err-words-clause-carries g c = (search rules, on_err _ _ (out_anywhere _ _ _ _ refl))
+
+pub returns-in-Words-clause-carries : goal.returns-in-Words-clause-carries
+returns-in-Words-clause-carries g c =
+    let p = mind_of c.args.process.now in
+    let k = rw c.in-Words.is at c.in_ok-words.ensures in
+    let same = value_assigned c.args.name.now c.args.text.now c.first_word-value.result c.args.outputs.now p k.0 (c.first_word-value.ensures ∙ ap first_word k.1) in
+    carried _ (assign_with c.args.name.now c.args.text.now c.args.outputs.now p) _ _ _ _ _ _ same c.assign_value.ensures.carries
