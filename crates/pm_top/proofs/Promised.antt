@@ -1,11 +1,11 @@
 -- The promise, from how a run went and the account of it.
-use Rattle.std.proofs.Common.{◌≡◌, List, ℕ, [], ◌∷◌, ◌++◌, refl, sym, ap, ◌∙◌, subst, append_assoc}
+use Rattle.std.proofs.Common.{◌≡◌, List, [], ◌++◌, refl, sym, ap, ◌∙◌, subst}
 use Rattle.pm_host.specs.Told.{HostView, Tells, Adds}
 use Rattle.pm_host.specs.Runs.{Ran, Steps, after_calls, child_after}
 use Rattle.pm_host.specs.declared.answers.Child.TheVariants.{NoChild}
 use Rattle.pm_host.proofs.RunsJoin.{tells_then, ran_join, child_after-append}
 use Rattle.pm_journal.specs.JournalState.{JournalState}
-use Rattle.pm_journal.specs.Entries.{View, counts_of, view_of, Honest, joined, after_entries, said_by, all_said, written_by, all_written, Frame, AllCovered}
+use Rattle.pm_journal.specs.Entries.{View, counts_of, view_of, Honest, joined, after_entries, all_said, all_written, Frame, AllCovered}
 use Rattle.pm_journal.specs.Held.{Keeping, AllGivenBack}
 use Rattle.pm_journal.specs.declared.acts.Entry.{Entry}
 use Rattle.pm_journal.proofs.AccountsJoin.{honest_join, covered_join, adds_then, all_said-append, all_written-append, accounts_effect}

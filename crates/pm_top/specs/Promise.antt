@@ -5,7 +5,7 @@ use Rattle.pm_host.specs.Runs.{Ran, after_calls}
 use Rattle.pm_host.specs.declared.answers.Child.TheVariants.{NoChild}
 use Rattle.pm_journal.specs.Entries.{counts_of, view_of, Honest, joined, after_entries, all_said, all_written, Frame, AllCovered}
 use Rattle.pm_journal.specs.declared.acts.Counts.{Counts}
-use Rattle.pm_journal.specs.Deliveries.{AllDelivered, AllGrow}
+use Rattle.pm_journal.specs.Deliveries.{all_folders, asked_folders, AllDelivered, AllGrow}
 use Rattle.pm_journal.specs.Held.{AllGivenBack}
 use Rattle.pm_meaning.specs.CommandLine.{command_line}
 use Rattle.pm_top.specs.Run.{Run}
@@ -29,11 +29,22 @@ pub record HasState (run : Run) (how : Outcome run) (account : Account run how) 
   pub written : Tells (Adds (all_written run.entries)) run.before.out.bytes run.after.out.bytes
   pub said : Tells (Adds (all_said run.entries)) run.before.err.bytes account.last.err.bytes
 
--- a done append added its piece, a torn one the front that it states, and any other nothing
+-- Each act left what its reply says: a done append its piece, a torn one the front that it states, a placed piece one
+-- new file, a program that ran what others did meanwhile; and an act that states nothing of the kind changed nothing.
 abbrev pub HasDelivered : (run : Run) (how : Outcome run) → Account run how → Type 0
 HasDelivered run how account =
     Tells (λ old new. AllDelivered (done_in run how) account.accounts.groups old)
     run.before.host.world account.middle.host.world
+
+-- the folders that a run makes where nothing stands: those of its entries, and those that an act asked for that was left off
+abbrev pub folders_of_run : (run : Run) → Outcome run → List (List ℕ)
+folders_of_run run how = all_folders run.entries ++ asked_folders (calls_in run how)
+
+-- In the end each file has its opening bytes and what the entries added to it, in order, and nothing else. Where none
+-- wrote exactly that stands which stood, or one of those folders where nothing stood. That is so at each name that isn't
+-- a lock file's and that others leave alone.
+abbrev pub HasGrown : (run : Run) → Outcome run → Type 0
+HasGrown run how = Tells (AllGrow run.entries (folders_of_run run how)) run.before.host.world run.after.host.world
 
 -- the counts of faults at the end of the run, before its last line
 abbrev pub last_counts : (run : Run) (how : Outcome run) → Account run how → Counts
@@ -78,10 +89,10 @@ pub record Promise (run : Run) : Type 0 where
   pub meaning : IsRefused run ⊎ (IsStarved run ⊎ HasMeaning run)
   -- the files and the sinks are what the account makes of them
   pub state : HasState run how account
-  -- each append added to its file what its reply says
+  -- each act left in the files what its reply says
   pub deliveries : HasDelivered run how account
   -- in the end each file has its opening bytes and what the entries added to it, in order, and nothing else
-  pub files : Tells (AllGrow run.entries) run.before.host.world run.after.host.world
+  pub files : HasGrown run how
   -- each lock that was taken was given back
   pub locks : AllGivenBack run.entries
   -- no call is hidden, and no fault is invented
