@@ -4,13 +4,14 @@ use pm_bytes::Memory;
 use std::alloc::Global;
 
 // The lines of each group come in their order; a group's place among the others doesn't count.
-const GROUPS: [&[&str]; 8] = [
+const GROUPS: [&[&str]; 9] = [
     &["status"],
     &["entry", "says"],
     &["last", "err"],
     &["out"],
     &["left"],
     &["gone"],
+    &["made"],
     &["calls"],
     &["unread"],
 ];

@@ -1,12 +1,13 @@
 //! What a run left, as lines: its status, its entries, what the sinks took, the files that changed, and the
 //! calls.
+use crate::entries::push_entry;
 use crate::plan::Plan;
 use crate::running::Ran;
 use case_file::Told;
-use pm_bytes::{Blob, Memory, Name};
-use pm_host::{Call, Got, Logged, Source};
-use pm_journal::{Act, Entry, Reply};
-use std::alloc::{AllocError, Global};
+use pm_bytes::Memory;
+use pm_host::{Answer, Call, Got, Logged, Made, Source};
+use pm_journal::{Act, Reply};
+use std::alloc::Global;
 
 /// Tells all that a run left.
 pub fn push_left(alloc: Global, told: &mut Told, plan: &Plan, ran: &mut Ran) -> Result<(), Memory> {
@@ -21,83 +22,9 @@ pub fn push_left(alloc: Global, told: &mut Told, plan: &Plan, ran: &mut Ran) -> 
         told.add(ran.out.written())?;
     }
     push_files(alloc, told, plan, ran)?;
+    push_folders(told, ran.host.calls())?;
     push_calls(alloc, told, ran.host.calls())?;
     push_unread(told, plan, ran)
-}
-
-fn push_entry(alloc: Global, told: &mut Told, plan: &Plan, entry: &Entry) -> Result<(), Memory> {
-    if let Act::SayErr { text } = &entry.act {
-        told.begin("says")?;
-        told.add(text.as_slice())?;
-        if !matches!(entry.reply, Reply::Wrote) {
-            told.add(debug_of(alloc, &entry.reply)?.as_str().as_bytes())?;
-        }
-        return Ok(());
-    }
-    told.begin("entry")?;
-    push_act(alloc, told, &entry.act)?;
-    match &entry.reply {
-        Reply::Content(bytes) => push_content(told, plan, &entry.act, bytes),
-        Reply::Held { sleeps, forced } => {
-            let text = format!(in alloc; "Held({sleeps},{forced})")?;
-            told.add(text.as_str().as_bytes())
-        }
-        reply => told.add(debug_of(alloc, reply)?.as_str().as_bytes()),
-    }
-}
-
-fn push_act(alloc: Global, told: &mut Told, act: &Act) -> Result<(), Memory> {
-    match act {
-        Act::ReadFile { name } => push_named(told, "ReadFile", name),
-        Act::Probe { name } => push_named(told, "Probe", name),
-        Act::Unlock { name } => push_named(told, "Unlock", name),
-        Act::Append { name, piece } => {
-            push_named(told, "Append", name)?;
-            told.add(piece.as_slice())
-        }
-        Act::SayFile { name, text } => {
-            push_named(told, "SayFile", name)?;
-            told.add(text.as_slice())
-        }
-        Act::Lock {
-            name,
-            sleep,
-            limit,
-            suspend,
-            tries,
-        } => {
-            push_named(told, "Lock", name)?;
-            let rule = format!(in alloc; "{sleep},{limit},{suspend},{tries}")?;
-            told.add(rule.as_str().as_bytes())
-        }
-        Act::WriteOut { piece } => {
-            told.add(b"WriteOut")?;
-            told.add(piece.as_slice())
-        }
-        other => told.add(format!(in alloc; "{other:?}")?.as_str().as_bytes()),
-    }
-}
-
-fn push_named(told: &mut Told, act: &str, name: &Name) -> Result<(), Memory> {
-    told.add(act.as_bytes())?;
-    told.add(name.as_str().as_bytes())
-}
-
-// The bytes that were read are left out where they are those that the file began with.
-fn push_content(told: &mut Told, plan: &Plan, act: &Act, bytes: &Blob) -> Result<(), Memory> {
-    told.add(b"Content")?;
-    if let Act::ReadFile { name } = act {
-        if let Some(given) = plan.file(name.as_str().as_bytes()) {
-            if given == bytes.as_slice() {
-                return Ok(());
-            }
-        }
-    }
-    told.add(bytes.as_slice())
-}
-
-fn debug_of(alloc: Global, reply: &Reply) -> Result<String, AllocError> {
-    format!(in alloc; "{reply:?}")
 }
 
 // What `err` took behind the texts that the entries say it took.
@@ -135,7 +62,7 @@ fn taken_of<'a>(text: &'a [u8], reply: &Reply) -> &'a [u8] {
     }
 }
 
-// The files that were there, and those that calls made or wrote to.
+// The files that were there, those that calls made, wrote to or moved, and those that others change.
 fn push_files(alloc: Global, told: &mut Told, plan: &Plan, ran: &Ran) -> Result<(), Memory> {
     let mut names = Vec::new(alloc);
     for stands in &plan.stands {
@@ -145,7 +72,13 @@ fn push_files(alloc: Global, told: &mut Told, plan: &Plan, ran: &Ran) -> Result<
         match &logged.call {
             Call::Create { name } => push_new(alloc, &mut names, name.as_slice())?,
             Call::Append { name, .. } => push_new(alloc, &mut names, name.as_slice())?,
+            Call::Rename { to, .. } => push_new(alloc, &mut names, to.as_slice())?,
             _ => {}
+        }
+    }
+    for batch in &plan.batches {
+        for other in batch {
+            push_new(alloc, &mut names, &other.name)?;
         }
     }
     for name in &names {
@@ -186,6 +119,19 @@ fn push_file(told: &mut Told, plan: &Plan, ran: &Ran, name: &[u8]) -> Result<(),
             told.add(name)?;
         }
         (None, None) => {}
+    }
+    Ok(())
+}
+
+// The folders that the calls made.
+fn push_folders(told: &mut Told, calls: &[Logged]) -> Result<(), Memory> {
+    for logged in calls {
+        if let Call::MakeFolder { name } = &logged.call {
+            if matches!(logged.answer, Answer::MakeFolder(Made::Made)) {
+                told.begin("made")?;
+                told.add(name.as_slice())?;
+            }
+        }
     }
     Ok(())
 }

@@ -4,6 +4,7 @@
 #![tactic(auto)]
 
 mod comparing;
+mod entries;
 mod left;
 mod plan;
 mod running;

@@ -1,6 +1,7 @@
 //! What a run of the program begins with, and what is wanted of it.
 use case_file::{Line, Refused, Told, Words, copy_of, read_i64, read_u64, read_usize, text_of};
 use pm_bytes::Memory;
+use pm_host::Finished;
 use std::alloc::Global;
 
 /// What stands at a name before the run: the bytes of a file, or a folder.
@@ -17,7 +18,15 @@ pub struct Limit {
     pub most: usize,
 }
 
-/// What others do to a file while the run sleeps.
+/// What a program does that the run starts: it ends with the code, takes at most so many bytes, and gives the output.
+#[derive(Drop)]
+pub struct Program {
+    pub code: Finished,
+    pub output: Vec<u8>,
+    pub closes_after: Option<u64>,
+}
+
+/// What others do to a file while the run sleeps or waits for a program.
 #[derive(Clone, Copy)]
 pub enum Deed {
     Append,
@@ -72,6 +81,8 @@ pub struct Plan {
     pub fails: Vec<u64>,
     pub limits: Vec<Limit>,
     pub batches: Vec<Vec<Other>>,
+    pub programs: Vec<Program>,
+    pub out_lost: Option<u64>,
     pub lost: Option<u64>,
     pub failing: Failing,
     /// Each of the first so many writes to `err` is lost, one at a time, and none.
@@ -97,6 +108,8 @@ impl Plan {
             fails: Vec::new(alloc),
             limits: Vec::new(alloc),
             batches: Vec::new(alloc),
+            programs: Vec::new(alloc),
+            out_lost: None,
             lost: None,
             failing: Failing::None,
             each_lost: 0,
@@ -142,6 +155,8 @@ impl Plan {
             },
             "batch" => self.batches.push(Vec::new(self.alloc))?,
             "others" => self.add_other(words)?,
+            "child" => self.add_program(words)?,
+            "lost-out" => self.out_lost = Some(read_u64(only(words)?)?),
             "lost" => self.lost = Some(read_u64(only(words)?)?),
             "failing-each" => self.failing = Failing::Each(read_u64(only(words)?)?),
             "failing-pairs" => self.failing = Failing::Pairs(read_u64(only(words)?)?),
@@ -166,7 +181,16 @@ impl Plan {
                 outcome.wanted.begin("calls")?;
                 outcome.wanted.add(&joined(self.alloc, line.arguments())?)?;
             }
-            "status" | "entry" | "says" | "last" | "err" | "out" | "left" | "gone" | "unread" => {
+            "status"
+            | "entry"
+            | "says"
+            | "last"
+            | "err"
+            | "out"
+            | "left"
+            | "gone"
+            | "made"
+            | "unread" => {
                 outcome.wanted.tell(&line.words)?;
             }
             _ => return Err(Refused::Misread("no run has such a line")),
@@ -213,6 +237,26 @@ impl Plan {
         Ok(())
     }
 
+    // A program behind those that were given before.
+    fn add_program(&mut self, words: &[Vec<u8>]) -> Result<(), Refused> {
+        let (code, output, closes_after) = match words {
+            [code] => (code, Vec::new(self.alloc), None),
+            [code, output] => (code, output.as_slice().to_vec(self.alloc)?, None),
+            [code, output, most] => {
+                let output = output.as_slice().to_vec(self.alloc)?;
+                (code, output, Some(read_u64(most)?))
+            }
+            _ => return Err(TOO_FEW),
+        };
+        let code = finished_of(code)?;
+        self.programs.push(Program {
+            code,
+            output,
+            closes_after,
+        })?;
+        Ok(())
+    }
+
     fn add_outcome(&mut self, words: &[Vec<u8>]) -> Result<(), Refused> {
         let failing = numbers_of(self.alloc, words)?;
         let wanted = Told::new(self.alloc);
@@ -254,6 +298,21 @@ fn deed_of(word: &[u8]) -> Result<Deed, Refused> {
         "create" => Ok(Deed::Create),
         "remove" => Ok(Deed::Remove),
         _ => Err(Refused::Misread("others append, create or remove")),
+    }
+}
+
+// A number is a code, and `signal-9` a signal.
+fn finished_of(word: &[u8]) -> Result<Finished, Refused> {
+    match text_of(word).strip_prefix("signal-") {
+        Some(signal) => Ok(Finished::Signal(read_byte(signal.as_bytes())?)),
+        None => Ok(Finished::Code(read_byte(word)?)),
+    }
+}
+
+fn read_byte(word: &[u8]) -> Result<u8, Refused> {
+    match u8::try_from(read_u64(word)?) {
+        Ok(number) => Ok(number),
+        Err(_) => Err(Refused::Misread("a code or a signal is at most 255")),
     }
 }
 

@@ -3,10 +3,10 @@ ghost use Rattle.std.specs.Prelude.{◌≡◌, IfOk};
 ghost use Rattle.pm_memory.specs.Host.{child_of};
 
 use crate::left::push_left;
-use crate::plan::{Choice, Deed, Limit, Other, Plan, Stands};
+use crate::plan::{Choice, Deed, Limit, Other, Plan, Program, Stands};
 use case_file::{Refused, Told};
 use pm_bytes::{Blob, Environ, Name, Pair, Pairs};
-use pm_host::{Change, Child};
+use pm_host::{Change, Child, Script};
 use pm_journal::Journal;
 use pm_memory::{MemoryHost, MemorySink, MemorySource};
 use pm_top::procmail;
@@ -33,7 +33,7 @@ pub fn run(plan: &Plan, choice: Choice) -> Result<Told, Refused> {
     let mut host = host_of(alloc, plan, choice.failing)?;
     let env = environment(alloc, plan)?;
     let mut source = MemorySource::new(alloc, &plan.mail, plan.mail_fails)?;
-    let mut out = MemorySink::new(alloc, None)?;
+    let mut out = MemorySink::new(alloc, plan.out_lost)?;
     let mut err = MemorySink::new(alloc, choice.lost.or(plan.lost))?;
     let mut journal = Journal::new(alloc);
     let status = procmail(
@@ -69,6 +69,7 @@ fn host_of(alloc: Global, plan: &Plan, failing: [u64; 2]) -> Result<MemoryHost, 
     fail_each(&mut host, &failing)?;
     limit_each(&mut host, &plan.limits)?;
     batch_each(alloc, &mut host, &plan.batches)?;
+    child_each(alloc, &mut host, &plan.programs)?;
     Ok(host)
 }
 
@@ -107,6 +108,19 @@ fn batch_each(alloc: Global, host: &mut MemoryHost, batches: &[Vec<Other>]) -> R
 {
     for batch in batches {
         host.batch(changes_of(alloc, batch)?)?;
+    }
+    Ok(())
+}
+
+fn child_each(alloc: Global, host: &mut MemoryHost, programs: &[Program]) -> Result<(), Refused>
+    ensures { child_of host.new ≡ child_of host.old }
+{
+    for program in programs {
+        host.child(Script {
+            code: program.code,
+            closes_after: program.closes_after,
+            output: Blob::from_slice(alloc, &program.output)?,
+        })?;
     }
     Ok(())
 }
