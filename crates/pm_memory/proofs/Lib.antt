@@ -1,3 +1,5 @@
 mod Updates
 mod Children
+mod Listing
 mod Moves
+mod Parts

@@ -6,14 +6,15 @@ use Rattle.pm_host.specs.declared.answers.Child.{Child}
 use Rattle.pm_host.specs.declared.answers.Child.TheVariants.{NoChild}
 use Rattle.pm_host.specs.declared.answers.Took.TheVariants.{Took as TookSome}
 use Rattle.pm_host.specs.declared.calls.Call.{Call}
-use Rattle.pm_host.specs.declared.calls.Call.TheVariants.{Read, Create, Append, Sync, Cut as CutTo, Remove, Rename, MakeFolder, Age, Sleep, Now, Start, Feed, Finish}
+use Rattle.pm_host.specs.declared.calls.Call.TheVariants.{Read, Create, Append, Sync, Cut as CutTo, Remove, Rename, MakeFolder, Names, Age, Sleep, Now, Start, Feed, Finish}
 use Rattle.pm_host.specs.declared.calls.Answer.{Answer}
-use Rattle.pm_host.specs.declared.calls.Answer.TheVariants.{Read as AnswerRead, Append as AnswerAppend}
+use Rattle.pm_host.specs.declared.calls.Answer.TheVariants.{Read as AnswerRead, Append as AnswerAppend, Memory as AnswerMemory}
 use Rattle.pm_host.specs.declared.calls.Logged.{Logged}
 use Rattle.pm_host.specs.declared.command.Script.{Script}
 use Rattle.pm_host.specs.declared.nodes.Change.{Change}
 use Rattle.pm_host.specs.declared.nodes.Node.{Node}
 use Rattle.pm_memory.specs.Counts.{risen}
+use Rattle.pm_memory.specs.Folders.{CantList}
 use Rattle.pm_memory.specs.Node.{NoFile, IsFolder, part_of}
 use Rattle.pm_memory.specs.Plan.{failing_in, limits_in, is_among, least}
 use Rattle.pm_memory.specs.Tree.{world_in, with_others, no_files, child_at}
@@ -124,7 +125,7 @@ IsToCome changes old new = world_of new ≡ with_batch changes (world_of old)
 abbrev pub IsScripted : Script → MemoryHost → MemoryHost → Type 0
 IsScripted script old new = world_of new ≡ with_script script (world_of old)
 
--- no node of the kind that the call works on stands at its name
+-- no node of the kind that the call works on stands at its name, or a folder whose names can't all be told
 abbrev pub IsWrongKind : Call → World → Type 0
 IsWrongKind (Read name at room) w = NoFile (w.nodes name)
 IsWrongKind (Append name piece) w = NoFile (w.nodes name)
@@ -133,6 +134,7 @@ IsWrongKind (CutTo name len) w = NoFile (w.nodes name)
 IsWrongKind (Remove name) w = IsFolder (w.nodes name)
 IsWrongKind (Rename from to) w = NoFile (w.nodes from)
 IsWrongKind (MakeFolder name) w = IsFile (w.nodes name)
+IsWrongKind (Names folder) w = CantList w.nodes folder
 IsWrongKind (Age name) w = IsFolder (w.nodes name)
 IsWrongKind call w = ⊥
 
@@ -142,12 +144,13 @@ IsMost (Read name at room) (AnswerRead bytes) h = bytes ≡ part_of ((world_of h
 IsMost (Append name piece) (AnswerAppend (TookSome count)) h = count ≡ least (number_of h) (limits_of h) (length piece)
 IsMost call answer h = Unit {0}
 
--- the call takes memory for the node that it makes or adds to, or for what a child takes
+-- the call takes memory for the node that it makes or adds to, for the names that it lists, or for what a child takes
 abbrev pub TakesMemory : Call → Type 0
 TakesMemory (Create name) = Unit {0}
 TakesMemory (Append name piece) = Unit {0}
 TakesMemory (Rename from to) = Unit {0}
 TakesMemory (MakeFolder name) = Unit {0}
+TakesMemory (Names folder) = Unit {0}
 TakesMemory (Start command want) = Unit {0}
 TakesMemory (Feed piece) = Unit {0}
 TakesMemory call = ⊥
@@ -163,6 +166,11 @@ abbrev pub FailsAsTold : Call → Answer → MemoryHost → Type 0
 FailsAsTold (Sleep seconds) answer h = Unit {0}
 FailsAsTold Now answer h = Unit {0}
 FailsAsTold call answer h = is_to_fail h ≡ true → IsFailed answer
+
+-- the call lacked memory for its answer
+abbrev pub IsWanting : Answer → Type 0
+IsWanting AnswerMemory = Unit {0}
+IsWanting other = ⊥
 
 -- the counts after a call
 pub record Counted (answer : Answer) (old new : MemoryHost) : Type 0 where
@@ -184,6 +192,7 @@ pub record Serves (call : Call) (answer : Answer) (old new : MemoryHost) : Type 
   pub most : IsMost call answer old
   pub to_fail : FailsAsTold call answer old
   pub cause : IsFailed answer → MayFail call old new
+  pub wanting : IsWanting answer → Rose (starved_of old) (starved_of new)
   pub counted : Counted answer old new
   pub quiet : is_telling new ≡ false → calls_of new ≡ calls_of old
   pub reserved : reserved_of new ≡ reserved_of old

@@ -1,5 +1,6 @@
 pub mod Calls
 pub mod Counts
+pub mod Folders
 pub mod Host
 pub mod Hosting
 pub mod Node

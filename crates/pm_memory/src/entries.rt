@@ -3,7 +3,7 @@ ghost use Rattle.std.specs.Prelude.{◌≡◌, IfOk, length};
 ghost use Rattle.pm_host.specs.Answers.{read_answer, take_answer, IsWithin};
 ghost use Rattle.pm_host.specs.Runs.{logged};
 
-use pm_bytes::{Blob, Memory};
+use pm_bytes::{Blob, Memory, Names};
 use pm_host::{
     Aged, Answer, Call, Command, Cut, Fed, Finished, Got, Logged, Looked, Made, Moved, Removed,
     Started, Synced, Took,
@@ -134,6 +134,17 @@ pub(crate) fn folder_entry(alloc: Global, name: &str, made: Made) -> Result<Logg
     Ok(Logged {
         call: Call::MakeFolder { name },
         answer: Answer::MakeFolder(made),
+    })
+}
+
+pub(crate) fn listed_entry(alloc: Global, folder: &str, names: &Names) -> Result<Logged, Memory>
+    ensures { IfOk result (λ entry. entry ≡ logged (Call.Names folder.now) (Answer.Names names.now)) }
+{
+    let names = names.copy(alloc)?;
+    let folder = Blob::from_slice(alloc, folder.as_bytes())?;
+    Ok(Logged {
+        call: Call::Names { folder },
+        answer: Answer::Names(names),
     })
 }
 

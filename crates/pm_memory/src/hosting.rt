@@ -1,14 +1,16 @@
 //! The calls of a host in memory before they are counted and listed: each is done in the tree or refused.
-ghost use Rattle.std.specs.Prelude.{◌≡◌, ◌≤◌, ◌<◌, IfOk, IfErr, length};
+ghost use Rattle.std.specs.Prelude.{◌≡◌, ◌≤◌, ◌<◌, IfOk, IfErr, Err, false, length};
 ghost use Rattle.pm_host.specs.World.{FedAtMost};
 ghost use Rattle.pm_memory.specs.Tree.{child_at};
 
 use crate::MemoryHost;
 use crate::tree::Denied;
+use pm_bytes::Names;
 use pm_host::{
     Aged, Answer, Call, Child, Command, Cut, Fed, Finished, Looked, Made, Moved, Removed, Started,
     Synced,
 };
+use std::alloc::Global;
 
 impl MemoryHost {
     ghost use Rattle.pm_memory.specs.Host.{is_to_fail};
@@ -90,6 +92,7 @@ impl MemoryHost {
 }
 
 impl MemoryHost {
+    ghost use Rattle.pm_memory.specs.Host.{is_to_fail};
     ghost use Rattle.pm_memory.specs.Hosting.{Does, Denies, DoesFeed, DoesTake, Ends};
 
     pub(crate) fn make_folder_now(&mut self, name: &str) -> Result<Made, Denied>
@@ -120,6 +123,17 @@ impl MemoryHost {
             return Err(Denied::ToFail);
         }
         self.tree.rename(from, to)
+    }
+
+    pub(crate) fn names_now(&self, alloc: Global, folder: &str) -> Result<Names, Denied>
+        ensures ok { IfOk result (λ names. Does (Call.Names folder.now) (Answer.Names names) self.now self.now) }
+        ensures err { IfErr result (Denies (Call.Names folder.now) self.now self.now) }
+        ensures turn { result ≡ Err Denied.Memory → is_to_fail self.now ≡ false }
+    {
+        if self.fails_now() {
+            return Err(Denied::ToFail);
+        }
+        self.tree.names(alloc, folder)
     }
 
     pub(crate) fn age_now(&self, name: &str) -> Result<Aged, Denied>

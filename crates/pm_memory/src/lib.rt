@@ -4,6 +4,7 @@
 
 mod calls;
 mod entries;
+mod folders;
 pub mod host;
 mod hosting;
 mod others;

@@ -1,14 +1,14 @@
 //! The calls of a host in memory: each is done or refused, and then counted and listed.
 ghost use Rattle.std.specs.Prelude.{◌≡◌, ◌<◌, length};
-ghost use Rattle.pm_host.specs.Answers.{read_answer, take_answer, IsWithin};
+ghost use Rattle.pm_host.specs.Answers.{read_answer, take_answer, names_answer, IsWithin};
 ghost use Rattle.pm_host.specs.World.{IsRunning};
 ghost use Rattle.pm_memory.specs.Tree.{child_at};
 
 use crate::MemoryHost;
 use crate::entries::{
     aged_entry, appended_entry, created_entry, cut_entry, fed_entry, finished_entry, folder_entry,
-    looked_entry, moment_entry, read_entry, removed_entry, renamed_entry, slept_entry,
-    started_entry, synced_entry, taken_entry, unlisted_entry,
+    listed_entry, looked_entry, moment_entry, read_entry, removed_entry, renamed_entry,
+    slept_entry, started_entry, synced_entry, taken_entry, unlisted_entry,
 };
 use crate::tree::Denied;
 use pm_bytes::Memory;
@@ -193,11 +193,25 @@ impl Host for MemoryHost {
         }
     }
 
-    // Not built: it always fails, and says no more of the folder. Its failure is counted and listed.
-    fn names(&mut self, _alloc: Global, folder: &str) -> Listed {
-        let entry = unlisted_entry(self.alloc, folder);
-        self.calls.settle(Some(Denied::ToFail), entry);
-        Listed::Failed
+    fn names(&mut self, alloc: Global, folder: &str) -> Listed
+        ensures { Serves (Call.Names folder.now) (names_answer result) self.old self.new }
+    {
+        match self.names_now(alloc, folder) {
+            Ok(names) => {
+                let entry = listed_entry(self.alloc, folder, &names);
+                self.calls.settle(None, entry);
+                Listed::Names(names)
+            }
+            Err(Denied::Memory) => {
+                self.calls.settle(None, Err(Memory));
+                Listed::Memory
+            }
+            Err(refused) => {
+                let entry = unlisted_entry(self.alloc, folder);
+                self.calls.settle(Some(refused), entry);
+                Listed::Failed
+            }
+        }
     }
 
     fn age(&mut self, name: &str) -> Aged

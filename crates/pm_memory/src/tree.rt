@@ -1,11 +1,13 @@
 //! A tree of files, by the whole name of each node: a name's parents aren't looked at.
 ghost use Rattle.std.specs.Prelude.{◌≡◌, ◌≢◌, ◌≤◌, ◌<◌, IfOk, IfErr, OnOk, OnErr, Some, None, length, take, drop, option_copied, bytes_eq, false};
 ghost use Rattle.pm_host.specs.World.{FedAtMost, IsFile, IsThere, world_with, grown, kept, age_at};
+ghost use Rattle.pm_memory.specs.Folders.{CantList};
 ghost use Rattle.pm_memory.specs.Node.{file_bytes, Explains, NoFile, IsFolder};
 
+use crate::folders::{add_name, part_in};
 use crate::part::copy_part;
 use crate::programs::Programs;
-use pm_bytes::{Blob, Memory};
+use pm_bytes::{Blob, Memory, Names};
 use pm_host::{
     Aged, Answer, Call, Change, Child, Command, Cut, Fed, File, Looked, Made, Moved, Node, Removed,
     Started, Synced, Took,
@@ -262,6 +264,26 @@ impl Tree {
             Ok(()) => Ok(Made::Made),
             Err(Memory) => Err(Denied::Memory),
         }
+    }
+
+    /// The last parts of the names directly in the folder.
+    pub(crate) fn names(&self, alloc: Global, folder: &str) -> Result<Names, Denied>
+        ensures ok { IfOk result (λ names. IsStep (Call.Names folder.now) (Answer.Names names) self.now self.now) }
+        ensures err { IfErr result (Explains ⊥ (CantList (world_in self.now).nodes folder.now) (Unit {0})) }
+    {
+        match self.nodes.get(folder) {
+            Some(Node::Folder) => {}
+            _ => return Err(Denied::WrongKind),
+        }
+        let mut names = Vec::new(alloc);
+        for name in self.nodes.keys() {
+            if let Some(part) = part_in(folder.as_bytes(), name.as_bytes()) {
+                if let Err(refused) = add_name(alloc, &mut names, part) {
+                    return Err(refused);
+                }
+            }
+        }
+        Ok(Names::from_vec(names))
     }
 
     /// Seconds since the file was made.
