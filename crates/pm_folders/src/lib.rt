@@ -11,6 +11,3 @@ mod tries;
 
 pub use folders::place;
 pub use tries::PlaceEnd;
-
-#[cfg(test)]
-mod tests;
