@@ -1,17 +1,17 @@
 -- The parts of plans, and what never ends a process as delivered.
 use Rattle.std.proofs.Common.{◌≡◌, ℕ, Bool, true, false, not, List, [], ◌∷◌, ◌++◌, Option, Some, None, refl, ap}
-use Rattle.std.specs.Prelude.{if◌then◌else◌, codes, bytes_eq, nat_lt}
+use Rattle.std.specs.Prelude.{if◌then◌else◌, codes, bytes_eq, nat_lt, nat_le}
 use Rattle.pm_bytes.specs.Path.{full_name}
 use Rattle.pm_bytes.specs.declared.environment.Environ.{Environ}
 use Rattle.pm_host.specs.declared.answers.Looked.TheVariants.{Folder as LookedFolder}
 use Rattle.pm_message.specs.FromLine.{makes_line, prepared_of}
 use Rattle.pm_message.specs.Split.{split_of}
 use Rattle.pm_recipe.specs.Listed.{rc_of}
-use Rattle.pm_recipe.specs.Tree.{Top}
+use Rattle.pm_recipe.specs.Tree.{Top, Trees}
 use Rattle.pm_subst.specs.Commands.{commands_in}
 use Rattle.pm_subst.specs.declared.kinds.Mode.{Mode}
 use Rattle.pm_subst.specs.declared.kinds.Mode.TheVariants.{One}
-use Rattle.pm_journal.specs.LogText.{couldnt_read_line, no_delivery_line, unusable_name_line, couldnt_chdir_line, couldnt_lock_line, forcing_lock_line, no_lock_line}
+use Rattle.pm_journal.specs.LogText.{couldnt_read_line, too_many_rcfiles_line, host_mismatched_line, no_delivery_line, unusable_name_line, couldnt_chdir_line, couldnt_lock_line, forcing_lock_line, no_lock_line}
 use Rattle.pm_journal.specs.declared.acts.Act.{Act}
 use Rattle.pm_journal.specs.declared.acts.Act.TheVariants.{Probe, Moment, ReadFile}
 use Rattle.pm_journal.specs.declared.acts.Reply.{Reply}
@@ -21,20 +21,20 @@ use Rattle.pm_journal.specs.Held.{holds_name}
 use Rattle.pm_journal.specs.Locking.{lock_act}
 use Rattle.pm_journal.specs.Plan.{Plan, Ends, Asks, and_then, ask, Plays}
 use Rattle.pm_journal.specs.Walking.{Next, Stop, Go}
-use Rattle.pm_meaning.specs.Changes.{with_variable, with_base, without_variable, entered}
+use Rattle.pm_meaning.specs.Changes.{with_variable, with_base, without_variable, opened, entered}
 use Rattle.pm_meaning.specs.Minds.{Mind}
 use Rattle.pm_meaning.specs.Outputs.{Outputs, outputs_of}
-use Rattle.pm_meaning.specs.Turns.{Turn, GoesOn, Halts, Enters, not_built, say_then, refuse_name, is_too_long, skip_value}
-use Rattle.pm_meaning.specs.Assigning.{is_later, leads_elsewhere, value_in, probed, change_folder, assigned, assign_with, assign, unset}
+use Rattle.pm_meaning.specs.Turns.{Turn, GoesOn, Halts, Enters, Includes, Switches, EndsFile, not_built, say_then, refuse_name, is_too_long, skip_value}
+use Rattle.pm_meaning.specs.Assigning.{is_later, value_in, probed, change_folder, include_rcfile, switch_rcfile, change_host, change_rcfile, assigned, assign_with, assign, unset}
 use Rattle.pm_meaning.specs.FirstValues.{login_name}
 use Rattle.pm_meaning.specs.GlobalLock.{with_global, give_named, drop_lock, got_lock, take_lock, change_lock}
 use Rattle.pm_meaning.specs.Locks.{rule_of, with_lock}
 use Rattle.pm_meaning.specs.Blocks.{got_block_lock, lock_block, enter_with, enter_under, enter, enter_block}
 use Rattle.pm_meaning.specs.Texts.{is_empty, is_file_text}
-use Rattle.pm_meaning.specs.Running.{State, Running, Leaving, Over, Closing, Item, renewal, begun, dated, prepare, unread, ahead, after_read}
+use Rattle.pm_meaning.specs.Running.{State, Running, Leaving, Over, Closing, Item, begun, dated, prepare, unread, ahead, after_read, Reading, with_statements, open_rcfile}
 use Rattle.pm_meaning.specs.declared.command_line.CommandLine.{CommandLine}
 use Rattle.pm_meaning.specs.declared.process.End.{End}
-use Rattle.pm_meaning.specs.declared.process.End.TheVariants.{Delivered, FellOff, NoRc, NotBuilt}
+use Rattle.pm_meaning.specs.declared.process.End.TheVariants.{Delivered, FellOff, NoRc, HostOff, NotBuilt}
 use Rattle.pm_meaning.specs.declared.process.Ending.{Ending}
 
 -- what a plan of two parts did in each
@@ -85,7 +85,7 @@ is_delivered other = false
 abbrev pub delivers : Turn → Bool
 delivers (GoesOn p) = false
 delivers (Halts end p) = is_delivered end
-delivers (Enters lock p) = false
+delivers other = false
 
 pub never_goes : (p : Mind) → Never delivers (Ends (GoesOn p))
 never_goes p = never_ends delivers (GoesOn p) refl
@@ -173,14 +173,40 @@ never_changed_lock value p =
     (never_if delivers (is_file_text value) taken (refuse_name value p)
     (λ es end h passes. let k = parts_of (give_named p.global p) (take_lock value) es end h in never_locked value k.middle k.rest end k.plays_rest passes) (never_told p (unusable_name_line value)))
 
+-- asking for another rcfile is no delivery
+never_included : (value : List ℕ) (p : Mind) → Never delivers (include_rcfile value p)
+never_included value p =
+    let name = full_name p.base value in
+    let named : Plan Turn = if is_file_text value then Ends (Includes name p) else refuse_name value p in
+    never_if delivers (is_empty value) (Ends (GoesOn p)) named (never_goes p)
+    (never_if delivers (is_file_text value) (Ends (Includes name p)) (refuse_name value p) (never_ends delivers (Includes name p) refl) (never_told p (unusable_name_line value)))
+
+never_switched : (value : List ℕ) (p : Mind) → Never delivers (switch_rcfile value p)
+never_switched value p =
+    let name = full_name p.base value in
+    let named : Plan Turn = if is_file_text value then Ends (Switches name p) else refuse_name value p in
+    never_if delivers (is_empty value) (Ends (EndsFile p)) named (never_ends delivers (EndsFile p) refl)
+    (never_if delivers (is_file_text value) (Ends (Switches name p)) (refuse_name value p) (never_ends delivers (Switches name p) refl) (never_told p (unusable_name_line value)))
+
+never_mismatched : (value : List ℕ) (p : Mind) → Never delivers (change_host value p)
+never_mismatched value p =
+    never_if delivers (bytes_eq value p.host_name) (Ends (GoesOn p)) (say_then p (host_mismatched_line value) (Halts HostOff p)) (never_goes p)
+    (never_said delivers p (host_mismatched_line value) (Halts HostOff p) refl)
+
+never_changed_rcfile : (name value : List ℕ) (p : Mind) → Never delivers (change_rcfile name value p)
+never_changed_rcfile name value p =
+    let host : Plan Turn = if bytes_eq name (codes "HOST") then change_host value p else Ends (GoesOn p) in
+    let other : Plan Turn = if bytes_eq name (codes "SWITCHRC") then switch_rcfile value p else host in
+    never_if delivers (bytes_eq name (codes "INCLUDERC")) (include_rcfile value p) other (never_included value p)
+    (never_if delivers (bytes_eq name (codes "SWITCHRC")) (switch_rcfile value p) host (never_switched value p)
+    (never_if delivers (bytes_eq name (codes "HOST")) (change_host value p) (Ends (GoesOn p)) (never_mismatched value p) (never_goes p)))
+
 never_set : (name value : List ℕ) (p : Mind) → Never delivers (assigned name value p)
 never_set name value p =
     let q = with_variable name value p in
-    let lock : Plan Turn = if bytes_eq name (codes "LOCKFILE") then change_lock value q else Ends (GoesOn q) in
-    let folder : Plan Turn = if bytes_eq name (codes "MAILDIR") then change_folder value q else lock in
-    never_if delivers (leads_elsewhere name value p) (not_built p) folder
-    (never_built p) (never_if delivers (bytes_eq name (codes "MAILDIR")) (change_folder value q) lock (never_changed value q)
-    (never_if delivers (bytes_eq name (codes "LOCKFILE")) (change_lock value q) (Ends (GoesOn q)) (never_changed_lock value q) (never_goes q)))
+    let lock : Plan Turn = if bytes_eq name (codes "LOCKFILE") then change_lock value q else change_rcfile name value q in
+    never_if delivers (bytes_eq name (codes "MAILDIR")) (change_folder value q) lock (never_changed value q)
+    (never_if delivers (bytes_eq name (codes "LOCKFILE")) (change_lock value q) (change_rcfile name value q) (never_changed_lock value q) (never_changed_rcfile name value q))
 
 never_assigned_with : (name text : List ℕ) (outputs : List (List ℕ)) (p : Mind) → Never delivers (assign_with name text outputs p)
 never_assigned_with name text outputs p =
@@ -197,7 +223,7 @@ pub never_unset : (name : List ℕ) (p : Mind) → Never delivers (unset name p)
 never_unset name p =
     let q = without_variable name p in
     let lock : Plan Turn = if bytes_eq name (codes "LOCKFILE") then drop_lock q else Ends (GoesOn q) in
-    never_if delivers (bytes_eq name (codes "SWITCHRC")) (not_built p) lock (never_built p)
+    never_if delivers (bytes_eq name (codes "SWITCHRC")) (Ends (EndsFile q)) lock (never_ends delivers (EndsFile q) refl)
     (never_if delivers (bytes_eq name (codes "LOCKFILE")) (drop_lock q) (Ends (GoesOn q)) (never_dropped q) (never_goes q))
 
 -- the run ends, or the process is over as delivered
@@ -209,12 +235,12 @@ is_last (Go (Closing end p)) = is_delivered end
 is_last (Go other) = false
 
 never_dated : (line : CommandLine) (env : Environ) (bytes : List ℕ) (reply : Reply) → Never is_last (dated line env bytes reply)
-never_dated line env bytes (Now moment) = never_ends is_last (begun line env (prepared_of bytes (renewal line.filter) (login_name env) moment)) refl
+never_dated line env bytes (Now moment) = never_ends is_last (begun line env (prepared_of bytes line.renew (login_name env) moment)) refl
 never_dated line env bytes other = never_ends is_last (begun line env (split_of bytes)) refl
 
 pub never_prepared : (line : CommandLine) (env : Environ) (bytes : List ℕ) → Never is_last (prepare line env bytes)
 never_prepared line env bytes =
-    never_if is_last (makes_line bytes (renewal line.filter)) (and_then (ask Moment) (dated line env bytes)) (Ends (begun line env (split_of bytes)))
+    never_if is_last (makes_line bytes line.renew) (and_then (ask Moment) (dated line env bytes)) (Ends (begun line env (split_of bytes)))
     (never_asked is_last Moment (dated line env bytes) (never_dated line env bytes)) (never_ends is_last (begun line env (split_of bytes)) refl)
 
 never_unread : (name : List ℕ) (rest : List Item) (p : Mind) → Never is_last (unread name rest p)
@@ -228,6 +254,18 @@ never_after name rest p other = never_unread name rest p
 
 pub never_read : (name : List ℕ) (rest : List Item) (p : Mind) → Never is_last (and_then (ask (ReadFile name)) (after_read name rest p))
 never_read name rest p = never_asked is_last (ReadFile name) (after_read name rest p) (never_after name rest p)
+
+-- an rcfile that is opened, whatever it has, when what comes then isn't the end
+never_with : (name : List ℕ) (rest : List Item) (p : Mind) (go : Reading) (reply : Reply) → ((trees : Trees) (q : Mind) → is_last (go trees q) ≡ false) → Never is_last (with_statements name rest p go reply)
+never_with name rest p go (Content bytes) goes = never_ends is_last (go (rc_of bytes) p) (goes (rc_of bytes) p)
+never_with name rest p go other goes = never_said is_last p (couldnt_read_line name) (Go (Running rest p)) refl
+
+pub never_opened : (name : List ℕ) (rest : List Item) (p : Mind) (go : Reading) → ((trees : Trees) (q : Mind) → is_last (go trees q) ≡ false) → Never is_last (open_rcfile name rest p go)
+never_opened name rest p go goes =
+    let read = and_then (ask (ReadFile name)) (with_statements name rest (opened p) go) in
+    never_if is_last (nat_le 256 p.openings) (say_then p (too_many_rcfiles_line name) (Go (Running rest p))) read
+    (never_said is_last p (too_many_rcfiles_line name) (Go (Running rest p)) refl)
+    (never_asked is_last (ReadFile name) (with_statements name rest (opened p) go) (λ reply. never_with name rest (opened p) go reply goes))
 
 pub never_lost : (p : Mind) → Never is_last (say_then p no_delivery_line (Go (Over FellOff p)))
 never_lost p = never_said is_last p no_delivery_line (Go (Over FellOff p)) refl

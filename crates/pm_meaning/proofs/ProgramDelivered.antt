@@ -15,20 +15,22 @@ use Rattle.pm_journal.specs.declared.acts.Reply.TheVariants.{Held, Wrote}
 use Rattle.pm_journal.specs.declared.locking.LockRule.{LockRule}
 use Rattle.pm_meaning.specs.Assigning.{first_word}
 use Rattle.pm_meaning.specs.Changes.{overflowed}
-use Rattle.pm_meaning.specs.Delivering.{say_each}
+use Rattle.pm_meaning.specs.Delivering.{Ready, make_ready, say_each}
 use Rattle.pm_meaning.specs.Laws.{IsGot, IsGiven, AreLines, IsOneAct, IsFed, IsWritten}
 use Rattle.pm_meaning.specs.Locks.{rule_of, blamed_text, is_lock_word, full_lock, is_taken, with_lock}
 use Rattle.pm_meaning.specs.Minds.{Mind}
-use Rattle.pm_meaning.specs.ProgramActions.{Task, Tried, Trying, is_fine, feed_outcome, feed, write_outcome, write, unlock_behind, try_locked, try_under, trial_lines, is_fine_trial, settled_by, trial_turn, after_trial, try_and_say, lacks_lock, lock_source, lock_mode, named_lock, told_first, do_under, do_named, unusable_text, do_line, runs_first, lock_first, fed_piece, pipe_task, pipe, write_task, write_out}
-use Rattle.pm_meaning.specs.Programs.{line_of}
-use Rattle.pm_meaning.specs.Turns.{Turn, GoesOn, Halts, not_built, refuse_name, has_command, is_too_long, skip_value}
+use Rattle.pm_meaning.specs.Forwards.{forward_reading}
+use Rattle.pm_meaning.specs.ProgramActions.{Purpose, Delivers, Filters, Captures, Task, is_final, Tried, Trying, is_fine, feed_outcome, feed, work_of, write_outcome, write, unlock_behind, try_locked, try_under, trial_lines, is_fine_trial, settled_by, trial_turn, after_trial, try_and_say, lacks_lock, lock_source, lock_mode, lock_commands, named_lock, told_first, do_under, do_named, unusable_text, do_line, lock_first, fed_piece, program_with, do_program, pipe_task, pipe, capture_task, capture_line, forward_task, forward, write_task, write_with, write_out}
+use Rattle.pm_meaning.specs.Programs.{Reading, line_reading}
+use Rattle.pm_meaning.specs.Turns.{Turn, GoesOn, Halts, refuse_name, is_too_long, skip_value}
 use Rattle.pm_meaning.specs.declared.process.End.TheVariants.{Delivered}
 use Rattle.pm_meaning.specs.declared.process.Outcome.{Outcome}
 use Rattle.pm_meaning.specs.declared.process.Outcome.TheVariants.{Done}
 use Rattle.pm_meaning.specs.declared.process.ProgramLine.{ProgramLine}
 use Rattle.pm_meaning.specs.declared.process.ProgramLine.TheVariants.{Runs, NoWords, Unusable, TooLong}
 use Rattle.pm_meaning.specs.declared.process.Trial.TheVariants.{Unlocked}
-use Rattle.pm_meaning.proofs.NoDelivery.{parts_of, delivers, never_built, never_said, never_told, never_skipped}
+use Rattle.pm_meaning.proofs.MailboxDelivered.{IsSaid, all_said, if_last}
+use Rattle.pm_meaning.proofs.NoDelivery.{parts_of, delivers, never_said, never_told, never_skipped}
 
 fine_is : (outcome : Outcome) → is_fine outcome ≡ true → outcome ≡ Done
 fine_is Done h = refl
@@ -56,6 +58,20 @@ one_fed flags folder command input p (e ∷ []) t h fine = record {
   passes = record { act_is = h.0; done = fine_is (feed_outcome flags (length input) (run_end e.reply)) (sym (ap (λ (u : Tried). is_fine u.outcome) h.2) ∙ fine) };
 }
 one_fed flags folder command input p (e ∷ f ∷ es) t h fine = absurd h.2
+
+-- what is known of the one act of work for this purpose: where the mail is delivered, that it was fed and didn't fail
+abbrev pub PassesFor : Purpose → Flags → List ℕ → Command → Entry → Type 0
+PassesFor (Delivers destination) flags input command e = IsFed flags command input e
+PassesFor other flags input command e = Unit {0}
+
+one_worked : (purpose : Purpose) (flags : Flags) (input : List ℕ) (command : Command) → OneOf (PassesFor purpose flags input command) (work_of purpose flags input command)
+one_worked (Delivers destination) flags input command p es t h fine = one_fed flags destination command input p es t h fine
+one_worked Filters flags input command p [] t h fine = absurd h
+one_worked Filters flags input command p (e ∷ []) t h fine = record { act = e; only = refl; passes = tt }
+one_worked Filters flags input command p (e ∷ f ∷ es) t h fine = absurd h.2
+one_worked (Captures name) flags input command p [] t h fine = absurd h
+one_worked (Captures name) flags input command p (e ∷ []) t h fine = record { act = e; only = refl; passes = tt }
+one_worked (Captures name) flags input command p (e ∷ f ∷ es) t h fine = absurd h.2
 
 one_written : (piece : List ℕ) → OneOf (IsWritten piece) (write piece)
 one_written piece p [] t h fine = absurd h
@@ -112,19 +128,6 @@ under_end Passes None work p es done one h fine =
 under_end Passes (Some name) work p [] done one h fine = absurd h
 under_end Passes (Some name) work p (e ∷ es) done one h fine = locked_end Passes work p name (rule_of p.vars) e es done e.reply one h.0 refl h.2 fine
 
--- lines are told, and nothing else is done
-record IsSaid (turn last : Turn) (es : List Entry) : Type 0 where
-  lines : AreLines es
-  same : last ≡ turn
-
-all_said : (p : Mind) (lines : List (List ℕ)) (turn last : Turn) (es : List Entry) → Plays (say_each p lines turn) es last → IsSaid turn last es
-all_said p [] turn last [] h = record { lines = tt; same = h }
-all_said p [] turn last (e ∷ es) h = absurd h
-all_said p (line ∷ lines) turn last [] h = absurd h
-all_said p (line ∷ lines) turn last (e ∷ es) h =
-    let k = all_said p lines turn last es h.2 in
-    record { lines = (line, h.0, k.lines); same = k.same }
-
 -- where the turn delivers, all was done for good
 last_is : (last fine : Bool) (p : Mind) → delivers (if last && fine then Halts Delivered p else GoesOn p) ≡ true → (last ≡ true) × (fine ≡ true)
 last_is true true p h = (refl, refl)
@@ -133,7 +136,7 @@ last_is false fine p h = let e : false ≡ true = h in absurd (cc)
 
 -- the work of a task was done for good
 record IsDone (t : Task) (Passes : Entry → Type 0) (es : List Entry) : Type 0 where
-  last_is : t.last ≡ true
+  last_is : is_final t.purpose t.flags ≡ true
   one : IsOneAct Passes es
 
 tried_end : (t : Task) (Passes : Entry → Type 0) (lock : Option (List ℕ)) (work : Mind → Plan Tried) (p : Mind) (told es all : List Entry) (turn : Turn) → OneOf Passes work → AreLines told → all ≡ told ++ es
@@ -141,8 +144,8 @@ tried_end : (t : Task) (Passes : Entry → Type 0) (lock : Option (List ℕ)) (w
 tried_end t Passes lock work p told es all turn one are_told joined h passes =
     let k = parts_of (try_under lock work p) (after_trial t) es turn h in
     let q = settled_by k.middle.trial k.middle.mind in
-    let said = all_said q (trial_lines t.flags t.text k.middle.trial) (trial_turn t.last k.middle.trial q) turn k.rest k.plays_rest in
-    let last = last_is t.last (is_fine_trial k.middle.trial) q (ap delivers (sym said.same) ∙ passes) in
+    let said = all_said q (trial_lines t.flags t.text k.middle.trial) (trial_turn (is_final t.purpose t.flags) k.middle.trial q) turn k.rest k.plays_rest in
+    let last = last_is (is_final t.purpose t.flags) (is_fine_trial k.middle.trial) q (ap delivers (sym said.same) ∙ passes) in
     let under = under_end Passes lock work p k.front k.middle one k.plays_front last.1 in
     record {
       last_is = last.0;
@@ -168,11 +171,6 @@ told_end t Passes lock work p true [] turn one h passes = absurd h
 told_end t Passes lock work p true (e ∷ es) turn one h passes = tried_end t Passes lock work p (e ∷ []) es (e ∷ es) turn one (no_lock_line t.text, h.0, tt) refl h.2 passes
 told_end t Passes lock work p false es turn one h passes = tried_end t Passes lock work p [] es es turn one tt refl h passes
 
--- a choice that came to an end
-if_last : {R : Type 0} (P : Type 0) (b : Bool) (p q : Plan R) (es : List Entry) (end : R) → (Plays p es end → P) → (Plays q es end → P) → Plays (if b then p else q) es end → P
-if_last P true p q es end h k l = h l
-if_last P false p q es end h k l = k l
-
 named_end : (t : Task) (Passes : Entry → Type 0) (word : Option (List ℕ)) (work : Mind → Plan Tried) (p : Mind) (es : List Entry) (turn : Turn) → OneOf Passes work
     → Plays (do_named t word work p) es turn → delivers turn ≡ true → IsDone t Passes es
 named_end t Passes word work p es turn one h passes =
@@ -185,15 +183,13 @@ named_end t Passes word work p es turn one h passes =
     (λ l. told_end t Passes lock work p (lacks_lock t) es turn one l passes)) h
 
 -- the lock file's text was expanded, and then this came
-first_end : (P : Type 0) (t : Task) (runs : Bool) (next : Option (List ℕ) → Plan Turn) (p : Mind) (es : List Entry) (turn : Turn) → ((word : Option (List ℕ)) → Plays (next word) es turn → P)
-    → Plays (lock_first t runs next p) es turn → delivers turn ≡ true → P
-first_end P t runs next p es turn ends h passes =
+first_end : (P : Type 0) (t : Task) (outputs : List (List ℕ)) (next : Option (List ℕ) → Plan Turn) (p : Mind) (es : List Entry) (turn : Turn) → ((word : Option (List ℕ)) → Plays (next word) es turn → P)
+    → Plays (lock_first t outputs next p) es turn → delivers turn ≡ true → P
+first_end P t outputs next p es turn ends h passes =
     let mode = lock_mode t in
     let source = lock_source t in
-    let word = named_lock t (first_word (words_in mode p.vars [] source)) p in
-    let sized : Plan Turn = if is_too_long mode source p.vars [] then skip_value mode source [] p else next word in
-    if_last P (has_command mode source || runs) (not_built p) sized es turn (λ l. absurd (never_built p es turn l passes))
-    (if_last P (is_too_long mode source p.vars []) (skip_value mode source [] p) (next word) es turn (λ l. absurd (never_skipped mode source [] p es turn l passes)) (ends word)) h
+    let word = named_lock t (first_word (words_in mode p.vars outputs source)) p in
+    if_last P (is_too_long mode source p.vars outputs) (skip_value mode source outputs p) (next word) es turn (λ l. absurd (never_skipped mode source outputs p es turn l passes)) (ends word) h
 
 -- the program of a line did its work for good
 record IsRun (t : Task) (Passes : Command → Entry → Type 0) (line : ProgramLine) (es : List Entry) : Type 0 where
@@ -212,35 +208,98 @@ final_is : (copy : Bool) → not copy ≡ true → copy ≡ false
 final_is true h = let e : false ≡ true = h in absurd (cc)
 final_is false h = refl
 
--- a pipe delivers for good by its program alone
-pub record PipeMade (flags : Flags) (line : List ℕ) (p : Mind) (es : List Entry) : Type 0 where
-  pub final : flags.copy ≡ false
+-- A program did its work for good: behind the commands of the texts, by one act alone.
+pub record ProgramMade (t : Task) (reading : Reading) (p : Mind) (es : List Entry) : Type 0 where
+  pub ran : List Entry
+  pub last : List Entry
+  pub whole : es ≡ ran ++ last
+  pub ready : Ready
+  pub runs : Plays (make_ready (lock_commands t) reading.commands p) ran ready
+  pub final : is_final t.purpose t.flags ≡ true
   pub command : Command
-  pub runs : line_of [] line p ≡ Runs command
-  pub one : IsOneAct (IsFed flags command (fed_piece flags p)) es
+  pub read : reading.read ready.outputs ready.mind ≡ Runs command
+  pub one : IsOneAct (PassesFor t.purpose t.flags (fed_piece t.flags ready.mind) command) last
 
-pub pipe_made : (flags : Flags) (lock : Option (List ℕ)) (line : List ℕ) (p : Mind) (es : List Entry) (turn : Turn) → Plays (pipe flags lock line p) es turn → delivers turn ≡ true → PipeMade flags line p es
+program_made : (t : Task) (reading : Reading) (p : Mind) (es : List Entry) (turn : Turn) → Plays (do_program t reading p) es turn → delivers turn ≡ true → ProgramMade t reading p es
+program_made t reading p es turn h passes =
+    let k = parts_of (make_ready (lock_commands t) reading.commands p) (λ ready. program_with t reading ready) es turn h in
+    let q = k.middle.mind in
+    let piece = fed_piece t.flags q in
+    let line = reading.read k.middle.outputs q in
+    let Passes : Command → Entry → Type 0 = λ command. PassesFor t.purpose t.flags piece command in
+    let work : Command → Mind → Plan Tried = λ command. work_of t.purpose t.flags piece command in
+    let run : IsRun t Passes line k.rest =
+    first_end (IsRun t Passes line k.rest) t k.middle.lock_outputs (λ word. do_line t word work line q) q k.rest turn
+    (λ word l. line_end t Passes word work line q k.rest turn (λ command. one_worked t.purpose t.flags piece command) l passes) k.plays_rest passes in
+    record {
+      ran = k.front;
+      last = k.rest;
+      whole = k.whole;
+      ready = k.middle;
+      runs = k.plays_front;
+      final = run.done.last_is;
+      command = run.command;
+      read = run.runs;
+      one = run.done.one;
+    }
+
+-- A pipe delivers for good by its program alone, and is no filter.
+pub record PipeMade (flags : Flags) (lock : Option (List ℕ)) (line : List ℕ) (p : Mind) (es : List Entry) : Type 0 where
+  pub made : ProgramMade (pipe_task flags lock line) (line_reading line p) p es
+  pub piped : flags.filter ≡ false
+  pub final : flags.copy ≡ false
+  pub one : IsOneAct (IsFed flags made.command (fed_piece flags made.ready.mind)) made.last
+
+-- what is known of a pipe that is no filter
+record NoFilter (b : Bool) (flags : Flags) (line input : List ℕ) (command : Command) (es : List Entry) : Type 0 where
+  piped : b ≡ false
+  final : flags.copy ≡ false
+  one : IsOneAct (IsFed flags command input) es
+
+no_filter : (b : Bool) (flags : Flags) (line input : List ℕ) (command : Command) (es : List Entry) → is_final (if b then Filters else Delivers line) flags ≡ true
+    → IsOneAct (PassesFor (if b then Filters else Delivers line) flags input command) es → NoFilter b flags line input command es
+no_filter true flags line input command es final one = let e : false ≡ true = final in absurd (cc)
+no_filter false flags line input command es final one = record { piped = refl; final = final_is flags.copy final; one = one }
+
+pub pipe_made : (flags : Flags) (lock : Option (List ℕ)) (line : List ℕ) (p : Mind) (es : List Entry) (turn : Turn) → Plays (pipe flags lock line p) es turn → delivers turn ≡ true → PipeMade flags lock line p es
 pipe_made flags lock line p es turn h passes =
-    let t = pipe_task flags lock line in
-    let piece = fed_piece flags p in
-    let read = line_of [] line p in
-    let Passes : Command → Entry → Type 0 = λ command. IsFed flags command piece in
-    let work : Command → Mind → Plan Tried = λ command. feed flags line command piece in
-    let run : IsRun t Passes read es =
-    first_end (IsRun t Passes read es) t (runs_first line p) (λ word. do_line t word work read p) p es turn
-    (λ word l. line_end t Passes word work read p es turn (λ command. one_fed flags line command piece) l passes) h passes in
-    record { final = final_is flags.copy run.done.last_is; command = run.command; runs = run.runs; one = run.done.one }
+    let k = program_made (pipe_task flags lock line) (line_reading line p) p es turn h passes in
+    let n = no_filter flags.filter flags line (fed_piece flags k.ready.mind) k.command k.last k.final k.one in
+    record { made = k; piped = n.piped; final = n.final; one = n.one }
+
+-- a capture never delivers
+pub never_captured : (flags : Flags) (lock : Option (List ℕ)) (name line : List ℕ) (p : Mind) (es : List Entry) (turn : Turn) → Plays (capture_line flags lock name line p) es turn → delivers turn ≡ true → ⊥
+never_captured flags lock name line p es turn h passes =
+    let k = program_made (capture_task flags lock name line) (line_reading line p) p es turn h passes in
+    let e : false ≡ true = k.final in absurd (cc)
+
+-- a forward delivers for good by its program alone
+pub record ForwardMade (flags : Flags) (lock : Option (List ℕ)) (text : List ℕ) (p : Mind) (es : List Entry) : Type 0 where
+  pub made : ProgramMade (forward_task flags lock text) (forward_reading text) p es
+  pub final : flags.copy ≡ false
+
+pub forward_made : (flags : Flags) (lock : Option (List ℕ)) (text : List ℕ) (p : Mind) (es : List Entry) (turn : Turn) → Plays (forward flags lock text p) es turn → delivers turn ≡ true → ForwardMade flags lock text p es
+forward_made flags lock text p es turn h passes =
+    let k = program_made (forward_task flags lock text) (forward_reading text) p es turn h passes in
+    record { made = k; final = final_is flags.copy k.final }
 
 -- and so does standard output
-pub record OutputMade (flags : Flags) (p : Mind) (es : List Entry) : Type 0 where
+pub record OutputMade (flags : Flags) (lock : Option (List ℕ)) (p : Mind) (es : List Entry) : Type 0 where
+  pub ran : List Entry
+  pub last : List Entry
+  pub whole : es ≡ ran ++ last
+  pub ready : Ready
+  pub runs : Plays (make_ready (lock_commands (write_task flags lock)) [] p) ran ready
   pub final : flags.copy ≡ false
-  pub one : IsOneAct (IsWritten (fed_piece flags p)) es
+  pub one : IsOneAct (IsWritten (fed_piece flags ready.mind)) last
 
-pub output_made : (flags : Flags) (lock : Option (List ℕ)) (p : Mind) (es : List Entry) (turn : Turn) → Plays (write_out flags lock p) es turn → delivers turn ≡ true → OutputMade flags p es
+pub output_made : (flags : Flags) (lock : Option (List ℕ)) (p : Mind) (es : List Entry) (turn : Turn) → Plays (write_out flags lock p) es turn → delivers turn ≡ true → OutputMade flags lock p es
 output_made flags lock p es turn h passes =
     let t = write_task flags lock in
-    let piece = fed_piece flags p in
-    let done : IsDone t (IsWritten piece) es =
-    first_end (IsDone t (IsWritten piece) es) t false (λ word. do_named t word (write piece) p) p es turn
-    (λ word l. named_end t (IsWritten piece) word (write piece) p es turn (one_written piece) l passes) h passes in
-    record { final = final_is flags.copy done.last_is; one = done.one }
+    let k = parts_of (make_ready (lock_commands t) [] p) (λ ready. write_with t ready) es turn h in
+    let q = k.middle.mind in
+    let piece = fed_piece flags q in
+    let done : IsDone t (IsWritten piece) k.rest =
+    first_end (IsDone t (IsWritten piece) k.rest) t k.middle.lock_outputs (λ word. do_named t word (write piece) q) q k.rest turn
+    (λ word l. named_end t (IsWritten piece) word (write piece) q k.rest turn (one_written piece) l passes) k.plays_rest passes in
+    record { ran = k.front; last = k.rest; whole = k.whole; ready = k.middle; runs = k.plays_front; final = final_is flags.copy done.last_is; one = done.one }

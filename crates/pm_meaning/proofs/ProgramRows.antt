@@ -1,6 +1,7 @@
 -- Program lines that are read, as examples.
 use Rattle.std.proofs.Common.{◌≡◌, List, ℕ, [], ◌∷◌, refl}
 use Rattle.std.specs.Prelude.{codes}
+use Rattle.pm_meaning.specs.Forwards.{blank_words, forward_line}
 use Rattle.pm_meaning.specs.Minds.{Mind}
 use Rattle.pm_meaning.specs.Programs.{line_of_words, line_of, line_commands, command_line_of}
 use Rattle.pm_meaning.specs.declared.process.ProgramLine.TheVariants.{NoWords}
@@ -39,3 +40,23 @@ inside_row p = refl
 -- an unset variable is no word, so there is no program
 empty_row : (p : Mind) → line_of [] (codes "$B") (only (codes "A") (codes "b") p) ≡ NoWords
 empty_row p = refl
+
+-- blanks at the ends and one behind another make no words, and quotes mean nothing
+blanks_row : blank_words (codes "  -oi\t -f 'a b' ") ≡ codes "-oi" ∷ codes "-f" ∷ codes "'a" ∷ codes "b'" ∷ []
+blanks_row = refl
+
+no_blanks_row : blank_words (codes "") ≡ []
+no_blanks_row = refl
+
+-- without SENDMAILFLAGS the addresses come directly behind SENDMAIL
+forward_row : (p : Mind) → let q = only (codes "SENDMAIL") (codes "/bin/mail") p in
+    forward_line [] (codes " a@x  b@x") q ≡ line_of_words (codes "/bin/mail" ∷ codes "a@x" ∷ codes "b@x" ∷ []) q
+forward_row p = refl
+
+flags_row : (p : Mind) → let q = only (codes "SENDMAILFLAGS") (codes "-oi -t") p in
+    forward_line [] (codes " a@x") q ≡ line_of_words (codes "/usr/sbin/sendmail" ∷ codes "-oi" ∷ codes "-t" ∷ codes "a@x" ∷ []) q
+flags_row p = refl
+
+-- an address is wanted
+no_address_row : (p : Mind) → forward_line [] (codes " $B") (only (codes "A") (codes "b") p) ≡ NoWords
+no_address_row p = refl

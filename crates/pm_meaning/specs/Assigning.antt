@@ -1,5 +1,5 @@
 -- What assignments, unsettings and defects do.
-use Rattle.std.specs.Prelude.{ℕ, Bool, not, ◌&&◌, ◌||◌, List, [], ◌∷◌, codes, bytes_eq, if◌then◌else◌}
+use Rattle.std.specs.Prelude.{ℕ, Bool, List, [], ◌∷◌, codes, bytes_eq, if◌then◌else◌}
 use Rattle.std.specs.List.{list_any}
 use Rattle.pm_bytes.specs.Path.{full_name}
 use Rattle.pm_host.specs.declared.answers.Looked.TheVariants.{Folder}
@@ -8,7 +8,7 @@ use Rattle.pm_meaning.specs.Texts.{is_empty, is_file_text}
 use Rattle.pm_subst.specs.Commands.{commands_in}
 use Rattle.pm_subst.specs.Words.{words_in}
 use Rattle.pm_subst.specs.declared.kinds.Mode.TheVariants.{One}
-use Rattle.pm_journal.specs.LogText.{skipped_line, unusable_name_line, couldnt_chdir_line}
+use Rattle.pm_journal.specs.LogText.{skipped_line, unusable_name_line, couldnt_chdir_line, host_mismatched_line}
 use Rattle.pm_journal.specs.declared.acts.Act.TheVariants.{Probe}
 use Rattle.pm_journal.specs.declared.acts.Reply.{Reply}
 use Rattle.pm_journal.specs.declared.acts.Reply.TheVariants.{Found}
@@ -16,8 +16,9 @@ use Rattle.pm_journal.specs.Plan.{Plan, Ends, and_then, ask}
 use Rattle.pm_meaning.specs.Changes.{with_variable, without_variable, with_base}
 use Rattle.pm_meaning.specs.GlobalLock.{drop_lock, change_lock}
 use Rattle.pm_meaning.specs.Outputs.{outputs_of}
-use Rattle.pm_meaning.specs.Turns.{Turn, GoesOn, not_built, say_then, is_too_long, skip_value}
+use Rattle.pm_meaning.specs.Turns.{Turn, GoesOn, Halts, Includes, Switches, EndsFile, not_built, say_then, refuse_name, is_too_long, skip_value}
 use Rattle.pm_meaning.specs.Minds.{Mind}
+use Rattle.pm_meaning.specs.declared.process.End.TheVariants.{HostOff}
 
 -- the name is among these
 abbrev pub is_one_of : List ℕ → List (List ℕ) → Bool
@@ -28,12 +29,6 @@ abbrev pub is_later : List ℕ → Bool
 is_later name =
     is_one_of name
     (codes "LOGFILE" ∷ codes "LOGABSTRACT" ∷ codes "TRAP" ∷ codes "EXITCODE" ∷ codes "DELIVERED" ∷ codes "LOG" ∷ codes "SHIFT" ∷ [])
-
--- another rcfile, or another host's rcfiles: values that ask for what isn't built yet
-abbrev pub leads_elsewhere : List ℕ → List ℕ → Mind → Bool
-leads_elsewhere name value p =
-    (bytes_eq name (codes "INCLUDERC") && not (is_empty value)) || bytes_eq name (codes "SWITCHRC")
-    || (bytes_eq name (codes "HOST") && not (bytes_eq value p.host_name))
 
 -- a text as one word
 abbrev pub first_word : List (List ℕ) → List ℕ
@@ -55,13 +50,39 @@ change_folder value p =
     if is_file_text value then and_then (ask (Probe (full_name p.base value))) (probed (full_name p.base value) p)
     else say_then p (unusable_name_line value) (GoesOn p)
 
+-- INCLUDERC got this value: the rcfile of this name is read before the next statement
+abbrev pub include_rcfile : List ℕ → Mind → Plan Turn
+include_rcfile value p =
+    if is_empty value then Ends (GoesOn p)
+    else if is_file_text value then Ends (Includes (full_name p.base value) p)
+    else refuse_name value p
+
+-- SWITCHRC got this value: the rcfile of this name takes the place of the one that is being read; without a name that one is over
+abbrev pub switch_rcfile : List ℕ → Mind → Plan Turn
+switch_rcfile value p =
+    if is_empty value then Ends (EndsFile p)
+    else if is_file_text value then Ends (Switches (full_name p.base value) p)
+    else refuse_name value p
+
+-- HOST got this value: a name that isn't the host's is told, and the process ends without a delivery
+abbrev pub change_host : List ℕ → Mind → Plan Turn
+change_host value p =
+    if bytes_eq value p.host_name then Ends (GoesOn p) else say_then p (host_mismatched_line value) (Halts HostOff p)
+
+-- three variables say which rcfiles are read; the rest have no effect beyond their value
+abbrev pub change_rcfile : List ℕ → List ℕ → Mind → Plan Turn
+change_rcfile name value p =
+    if bytes_eq name (codes "INCLUDERC") then include_rcfile value p
+    else if bytes_eq name (codes "SWITCHRC") then switch_rcfile value p
+    else if bytes_eq name (codes "HOST") then change_host value p
+    else Ends (GoesOn p)
+
 -- the variable is set, and then its effect comes
 abbrev pub assigned : List ℕ → List ℕ → Mind → Plan Turn
 assigned name value p =
-    if leads_elsewhere name value p then not_built p
-    else if bytes_eq name (codes "MAILDIR") then change_folder value (with_variable name value p)
+    if bytes_eq name (codes "MAILDIR") then change_folder value (with_variable name value p)
     else if bytes_eq name (codes "LOCKFILE") then change_lock value (with_variable name value p)
-    else Ends (GoesOn (with_variable name value p))
+    else change_rcfile name value (with_variable name value p)
 
 -- the value is expanded with these outputs of its commands, by the variables as they stand
 abbrev pub assign_with : List ℕ → List ℕ → List (List ℕ) → Mind → Plan Turn
@@ -75,10 +96,10 @@ assign name text p =
     if is_later name then not_built p
     else and_then (outputs_of (commands_in One text) p) (λ ran. assign_with name text ran.outputs ran.mind)
 
--- LOCKFILE's lock is given back; leaving an rcfile isn't built yet
+-- the rcfile that is being read is over without SWITCHRC; LOCKFILE's lock is given back
 abbrev pub unset : List ℕ → Mind → Plan Turn
 unset name p =
-    if bytes_eq name (codes "SWITCHRC") then not_built p
+    if bytes_eq name (codes "SWITCHRC") then Ends (EndsFile (without_variable name p))
     else if bytes_eq name (codes "LOCKFILE") then drop_lock (without_variable name p)
     else Ends (GoesOn (without_variable name p))
 

@@ -95,24 +95,26 @@ abbrev pub all_set : List Variable → List Variable → List Variable
 all_set [] variables = variables
 all_set (v ∷ more) variables = all_set more (with_value v.name v.value variables)
 
--- the first variables, without arguments
-abbrev pub first_table : Bool → Environ → Table
-first_table filter env = record {
+-- the first variables, with these arguments
+abbrev pub first_table : Bool → List (List ℕ) → Environ → Table
+first_table filter arguments env = record {
   variables = all_set (first_values filter env) [];
-  arguments = [];
+  arguments = arguments;
   marks = record { pid = env.pid; code = 0; score = pos 0; rcfile = [] };
 }
 
--- a process that begins with this message
-abbrev pub first_process : Bool → Environ → Message → Mind
-first_process filter env message = record {
+-- a process that begins with these arguments and this message
+abbrev pub first_process : Bool → List (List ℕ) → Environ → Message → Mind
+first_process filter arguments env message = record {
   filter = filter;
   message = message;
-  vars = first_table filter env;
+  vars = first_table filter arguments env;
   base = first_folder filter env;
   host_name = env.host_name;
   locks = [];
   global = None;
   chain = new_chain;
   placed = 0;
+  rcfile = [];
+  openings = 0;
 }

@@ -2,7 +2,7 @@
 use Rattle.std.specs.Prelude.{◌≡◌, ◌⊎◌, ℕ, true, false, List, [], ◌∷◌, ◌++◌, map, Option, Some, None, length, cond}
 use Rattle.pm_bytes.specs.declared.environment.Environ.{Environ}
 use Rattle.pm_host.specs.declared.command.Command.{Command}
-use Rattle.pm_recipe.specs.Tree.{Top, Act as Action, Mailbox, Pipe, WriteOut as WriteOutAction, Recipe}
+use Rattle.pm_recipe.specs.Tree.{Top, Mailbox, Pipe, Forward, WriteOut as WriteOutAction, Recipe}
 use Rattle.pm_recipe.specs.declared.tree.Flags.{Flags}
 use Rattle.pm_subst.specs.Commands.{commands_in}
 use Rattle.pm_subst.specs.Words.{words_in}
@@ -26,8 +26,9 @@ use Rattle.pm_meaning.specs.Locks.{is_nothing, text_or}
 use Rattle.pm_conds.specs.declared.question.Verdict.TheVariants.{Matched}
 use Rattle.pm_meaning.specs.Judging.{judge, judged_with}
 use Rattle.pm_meaning.specs.Minds.{Mind}
-use Rattle.pm_meaning.specs.ProgramActions.{feed_outcome, fed_piece}
-use Rattle.pm_meaning.specs.Programs.{line_of}
+use Rattle.pm_meaning.specs.ProgramActions.{Task, feed_outcome, fed_piece, lock_commands, pipe_task, forward_task, write_task}
+use Rattle.pm_meaning.specs.Programs.{Reading, line_reading}
+use Rattle.pm_meaning.specs.Forwards.{forward_reading}
 use Rattle.pm_meaning.specs.Running.{State, Arrived, Running, FallingOff, Do, no_flags, step}
 use Rattle.pm_meaning.specs.declared.command_line.CommandLine.{CommandLine}
 use Rattle.pm_meaning.specs.declared.process.Destination.{Destination}
@@ -35,6 +36,7 @@ use Rattle.pm_meaning.specs.declared.process.End.TheVariants.{Delivered}
 use Rattle.pm_meaning.specs.declared.process.Ending.{Ending}
 use Rattle.pm_meaning.specs.declared.process.Filed.TheVariants.{Stored}
 use Rattle.pm_meaning.specs.declared.process.Outcome.TheVariants.{Done}
+use Rattle.pm_meaning.specs.declared.process.ProgramLine.{ProgramLine}
 use Rattle.pm_meaning.specs.declared.process.ProgramLine.TheVariants.{Runs}
 
 -- over the same entries a plan that ends wants no act
@@ -105,23 +107,46 @@ pub record IsFiled (flags : Flags) (destinations : List Destination) (p : Mind) 
   pub is_given : IsGiven lock given
   pub are_lines : AreLines lines
 
--- The recipe is admitted, over the first of these entries its conditions hold, and over the others the commands of its texts are run.
-pub record IsReady (top : Top) (text : List ℕ) (p : Mind) (entries : List Entry) (ready : Ready) : Type 0 where
+-- The recipe is admitted, over the first of these entries its conditions hold, and over the others the commands of its lock file's
+-- text are run, and then those of its action, which may depend on the process.
+pub record IsReady (top : Top) (lock_commands : List (List ℕ)) (commands : Mind → List (List ℕ)) (p : Mind) (entries : List Entry) (ready : Ready) : Type 0 where
   pub admitted : is_admitted top.flags p.chain ≡ true
   pub judged : List Entry
   pub ran : List Entry
   pub whole : entries ≡ judged ++ ran
   pub mind : Mind
   pub holds : Plays (judge top.conditions top.flags p) judged (judged_with Matched mind)
-  pub runs : Plays (make_ready (commands_in One (text_or [] top.lock)) (commands_in Many text) (executed top.flags mind)) ran ready
+  pub runs : Plays (make_ready lock_commands (commands (executed top.flags mind)) (executed top.flags mind)) ran ready
+
+-- such a recipe's program is read so
+pub record IsRead (top : Top) (task : Task) (reading : Mind → Reading) (p : Mind) (entries : List Entry) (ready : Ready) (line : ProgramLine) : Type 0 where
+  pub is_ready : IsReady top (lock_commands task) (λ q. (reading q).commands) p entries ready
+  pub read : (reading (executed top.flags is_ready.mind)).read ready.outputs ready.mind ≡ line
 
 -- where a process stands so, it delivers behind these entries by these flags to these destinations: a recipe whose conditions hold to those
 -- of its text, with the outputs of its commands, and one that falls off to a default mailbox
 abbrev pub DeliversAt : State → List Entry → Flags → List (List ℕ) → Mind → Type 0
 DeliversAt (Running (Do (Recipe top (Mailbox text)) ∷ rest) p) asked flags words mind =
-    (ready : Ready) × IsReady top text p asked ready × (flags ≡ top.flags) × (words ≡ words_in Many ready.mind.vars ready.outputs text) × (mind ≡ ready.mind)
+    (ready : Ready) × IsReady top (commands_in One (text_or [] top.lock)) (λ q. commands_in Many text) p asked ready × (flags ≡ top.flags)
+    × (words ≡ words_in Many ready.mind.vars ready.outputs text) × (mind ≡ ready.mind)
 DeliversAt (FallingOff (mailbox ∷ rest) p) asked flags words mind = (asked ≡ []) × (flags ≡ no_flags) × (words ≡ mailbox ∷ []) × (mind ≡ p)
 DeliversAt other asked flags words mind = ⊥
+
+-- where a process stands so, a recipe hands the mail behind these entries to the program of its action, a pipe without the flag f or a
+-- forward, or writes it to standard output
+abbrev pub PipesAt : State → List Entry → Flags → Command → Mind → Type 0
+PipesAt (Running (Do (Recipe top (Pipe line)) ∷ rest) p) asked flags command mind =
+    (ready : Ready) × IsRead top (pipe_task top.flags top.lock line) (line_reading line) p asked ready (Runs command) × (top.flags.filter ≡ false)
+    × (flags ≡ top.flags) × (mind ≡ ready.mind)
+PipesAt (Running (Do (Recipe top (Forward text)) ∷ rest) p) asked flags command mind =
+    (ready : Ready) × IsRead top (forward_task top.flags top.lock text) (λ q. forward_reading text) p asked ready (Runs command)
+    × (flags ≡ top.flags) × (mind ≡ ready.mind)
+PipesAt other asked flags command mind = ⊥
+
+abbrev pub WritesAt : State → List Entry → Flags → Mind → Type 0
+WritesAt (Running (Do (Recipe top WriteOutAction) ∷ rest) p) asked flags mind =
+    (ready : Ready) × IsReady top (lock_commands (write_task top.flags top.lock)) (λ q. []) p asked ready × (flags ≡ top.flags) × (mind ≡ ready.mind)
+WritesAt other asked flags mind = ⊥
 
 -- it removes a lock file, or says a line on `err`
 abbrev pub IsClosing : Act → Type 0
@@ -133,18 +158,6 @@ IsClosing other = ⊥
 abbrev pub AreClosing : List Entry → Type 0
 AreClosing [] = Unit {0}
 AreClosing (e ∷ es) = IsClosing e.act × AreClosing es
-
--- the recipe is admitted, and over these entries its conditions hold
-pub record IsExecuted (top : Top) (p : Mind) (entries : List Entry) (mind : Mind) : Type 0 where
-  pub admitted : is_admitted top.flags p.chain ≡ true
-  pub judged : Mind
-  pub holds : Plays (judge top.conditions top.flags p) entries (judged_with Matched judged)
-  pub mind_is : mind ≡ executed top.flags judged
-
--- where a process stands so, it comes over these entries to this action of a recipe that is executed
-abbrev pub ComesTo : State → List Entry → Action → Flags → Mind → Type 0
-ComesTo (Running (Do (Recipe top act) ∷ rest) p) asked action flags mind = (act ≡ action) × IsExecuted top p asked mind × (flags ≡ top.flags)
-ComesTo other asked action flags mind = ⊥
 
 -- One act alone that passes: a lock, if any was wanted, was got before and its removal asked for once behind, and lines were told
 -- before and then.
@@ -175,8 +188,8 @@ pub record IsWritten (piece : List ℕ) (e : Entry) : Type 0 where
 -- how the mail is delivered for good: to mailboxes, to the program of the line, or to standard output
 pub data IsMade (at : State) (asked : List Entry) (flags : Flags) (mind : Mind) (entries : List Entry) : Type 0 where
   in_files : (words : List (List ℕ)) → DeliversAt at asked flags words mind → are_file_texts words ≡ true → IsFiled flags (map destination_of words) mind entries → IsMade at asked flags mind entries
-  by_program : (line : List ℕ) (command : Command) → ComesTo at asked (Pipe line) flags mind → line_of [] line mind ≡ Runs command → IsOneAct (IsFed flags command (fed_piece flags mind)) entries → IsMade at asked flags mind entries
-  by_output : ComesTo at asked WriteOutAction flags mind → IsOneAct (IsWritten (fed_piece flags mind)) entries → IsMade at asked flags mind entries
+  by_program : (command : Command) → PipesAt at asked flags command mind → IsOneAct (IsFed flags command (fed_piece flags mind)) entries → IsMade at asked flags mind entries
+  by_output : WritesAt at asked flags mind → IsOneAct (IsWritten (fed_piece flags mind)) entries → IsMade at asked flags mind entries
 
 -- Over the entries before, the process comes to where it delivers for good; over the next it becomes ready to; the last deliver the
 -- mail there, and behind them locks are given back, lines are told, and nothing else is done.

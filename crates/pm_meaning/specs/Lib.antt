@@ -1,13 +1,13 @@
 pub mod Texts
 pub mod Minds
 pub mod Chains
-pub mod CommandLine
 pub mod FirstValues
 pub mod Changes
 pub mod Turns
 pub mod Destinations
 pub mod Locks
 pub mod Programs
+pub mod Forwards
 pub mod Outputs
 pub mod GlobalLock
 pub mod Assigning

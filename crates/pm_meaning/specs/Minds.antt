@@ -7,7 +7,8 @@ use Rattle.pm_meaning.specs.declared.process.Process.{Process}
 
 -- The state of a process: the message that it delivers, its variables, the folder from which names are seen, the host's
 -- name, whether it is a mail filter, the locks that it holds, the last taken first, which of them is LOCKFILE's, what came of
--- the recipes before, and how many times the run has filed mail in a folder, or tried to.
+-- the recipes before, how many times the run has filed mail in a folder, or tried to, the rcfile that is being read, and how
+-- many rcfiles the run has opened, or tried to.
 pub record Mind : Type 0 where
   pub filter : Bool
   pub message : Message
@@ -18,6 +19,8 @@ pub record Mind : Type 0 where
   pub global : Option (List ℕ)
   pub chain : Chain
   pub placed : ℕ
+  pub rcfile : List ℕ
+  pub openings : ℕ
 
 -- how much room there is for more locks isn't spoken of
 abbrev pub mind_of : Process → Mind
@@ -31,4 +34,6 @@ mind_of p = record {
   global = p.global;
   chain = p.chain;
   placed = p.placed;
+  rcfile = p.rcfile;
+  openings = p.openings;
 }

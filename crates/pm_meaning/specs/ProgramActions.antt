@@ -5,8 +5,14 @@ use Rattle.pm_bytes.specs.Letter.{is_space_byte}
 use Rattle.pm_conds.specs.Leads.{behind_blanks}
 use Rattle.pm_host.specs.declared.command.Command.{Command}
 use Rattle.pm_message.specs.Piece.{piece_of}
+use Rattle.pm_message.specs.Split.{split_of}
+use Rattle.pm_message.specs.declared.head.Message.{Message}
+use Rattle.pm_message.specs.declared.pieces.Feed.{Feed}
+use Rattle.pm_message.specs.declared.pieces.Feed.TheVariants.{Both, Head, Body}
 use Rattle.pm_message.specs.declared.pieces.Kind.TheVariants.{Other}
 use Rattle.pm_recipe.specs.declared.tree.Flags.{Flags}
+use Rattle.pm_subst.specs.Commands.{commands_in}
+use Rattle.pm_subst.specs.Values.{trimmed}
 use Rattle.pm_subst.specs.Words.{words_in}
 use Rattle.pm_subst.specs.declared.kinds.Mode.{Mode}
 use Rattle.pm_subst.specs.declared.kinds.Mode.TheVariants.{One, Quoted}
@@ -14,7 +20,7 @@ use Rattle.pm_journal.specs.Held.{without}
 use Rattle.pm_journal.specs.Locking.{lock_act}
 use Rattle.pm_journal.specs.LogText.{couldnt_lock_line, forcing_lock_line, couldnt_unlock_line, no_lock_line, value_too_long_line}
 use Rattle.pm_journal.specs.LogText.{program_failure_line, couldnt_start_line, lost_contact_line, input_closed_line, output_too_long_line, couldnt_write_out_line}
-use Rattle.pm_journal.specs.Outcomes.{run_end}
+use Rattle.pm_journal.specs.Outcomes.{run_end, output_in}
 use Rattle.pm_journal.specs.Plan.{Plan, Ends, and_then, ask}
 use Rattle.pm_journal.specs.declared.acts.Act.TheVariants.{Run, Unlock, WriteOut}
 use Rattle.pm_journal.specs.declared.acts.Reply.{Reply}
@@ -23,29 +29,42 @@ use Rattle.pm_journal.specs.declared.children.RunEnd.{RunEnd}
 use Rattle.pm_journal.specs.declared.children.RunEnd.TheVariants.{Ended, NotStarted as RunNotStarted, Broken as RunBroken, TooLong as RunTooLong}
 use Rattle.pm_meaning.specs.Assigning.{first_word}
 use Rattle.pm_meaning.specs.Chains.{succeeded}
-use Rattle.pm_meaning.specs.Changes.{stored_in, overflowed}
-use Rattle.pm_meaning.specs.Delivering.{feed_of, line_if, say_each}
+use Rattle.pm_meaning.specs.Changes.{with_variable, with_message, stored_in, overflowed}
+use Rattle.pm_meaning.specs.Delivering.{Ready, make_ready, feed_of, line_if, say_each}
 use Rattle.pm_meaning.specs.Locks.{is_fault, text_or, value_or, rule_of, blamed_text, is_lock_word, full_lock, is_taken, with_lock}
 use Rattle.pm_meaning.specs.Minds.{Mind}
-use Rattle.pm_meaning.specs.Programs.{line_commands, line_of, code_of, with_exit_code}
+use Rattle.pm_meaning.specs.Programs.{Reading, line_reading, code_of, with_exit_code}
+use Rattle.pm_meaning.specs.Forwards.{forward_reading}
 use Rattle.pm_meaning.specs.Texts.{is_empty}
-use Rattle.pm_meaning.specs.Turns.{Turn, GoesOn, Halts, not_built, log_act, say_then, refuse_name, has_command, is_too_long, skip_value}
+use Rattle.pm_meaning.specs.Turns.{Turn, GoesOn, Halts, log_act, say_then, refuse_name, is_too_long, skip_value}
 use Rattle.pm_meaning.specs.declared.process.End.TheVariants.{Delivered}
 use Rattle.pm_meaning.specs.declared.process.Outcome.{Outcome}
-use Rattle.pm_meaning.specs.declared.process.Outcome.TheVariants.{Done, NotStarted, Lost, Closed, Code, TooLong, Unwritten}
+use Rattle.pm_meaning.specs.declared.process.Outcome.TheVariants.{Done, NotStarted, Lost, Closed, Code, TooLong, Overflow, Unwritten}
 use Rattle.pm_meaning.specs.declared.process.ProgramLine.{ProgramLine}
 use Rattle.pm_meaning.specs.declared.process.ProgramLine.TheVariants.{Runs, NoWords, Unusable, TooLong as LineTooLong}
 use Rattle.pm_meaning.specs.declared.process.Trial.{Trial}
 use Rattle.pm_meaning.specs.declared.process.Trial.TheVariants.{Unlocked, NotLocked, Locked}
 
--- The flags of a recipe, the text of its lock file, the text that names the automatic one, the text of its action, and whether
--- the process ends once that is done.
+-- What a recipe hands the mail on for: it is delivered to this destination, its place is taken by what comes out, or this
+-- variable gets that.
+pub data Purpose : Type 0 where
+  Delivers : List ℕ → Purpose
+  Filters : Purpose
+  Captures : List ℕ → Purpose
+
+-- The flags of a recipe, the text of its lock file, the text that names the automatic one, the text of its action, and what for
+-- it hands the mail on.
 pub record Task : Type 0 where
   pub flags : Flags
   pub lock : Option (List ℕ)
   pub automatic : List ℕ
   pub text : List ℕ
-  pub last : Bool
+  pub purpose : Purpose
+
+-- the process ends once such a task is done: the mail was delivered, and no copy of it
+abbrev pub is_final : Purpose → Flags → Bool
+is_final (Delivers destination) flags = not flags.copy
+is_final other flags = false
 
 -- what was tried came out so, and the process then
 pub record Tried : Type 0 where
@@ -85,6 +104,69 @@ fed flags folder count end p = record { outcome = feed_outcome flags count end; 
 abbrev pub feed : Flags → List ℕ → Command → List ℕ → Mind → Plan Tried
 feed flags folder command input p = and_then (ask (Run command input false)) (λ reply. Ends (fed flags folder (length input) (run_end reply) p))
 
+-- without a fault before, a mail of more than 67,108,864 bytes is one
+abbrev pub unless_too_long : Outcome → ℕ → Outcome
+unless_too_long outcome size = if is_fine outcome && nat_lt 67108864 size then TooLong else outcome
+
+-- the mail with this output in the place of the parts that the program got
+abbrev pub refilled : Feed → List ℕ → Message → List ℕ
+refilled Both output message = output
+refilled Head output message = output ++ message.body
+refilled Body output message = message.head ++ output
+
+-- a filter came to such an end: where it was done this is the mail, and otherwise the mail stays
+abbrev pub mail_if : Outcome → List ℕ → Mind → Mind
+mail_if outcome mail p = if is_fine outcome then with_message (split_of mail) p else p
+
+abbrev pub filtered_to : Flags → ℕ → RunEnd → List ℕ → Mind → Tried
+filtered_to flags count end mail p =
+    let outcome = unless_too_long (feed_outcome flags count end) (length mail) in
+    record { outcome = outcome; mind = mail_if outcome mail (with_exit_code (code_of end) p) }
+
+-- a filter was run that got so many bytes of the mail
+abbrev pub filtered : Flags → ℕ → Reply → Mind → Tried
+filtered flags count reply p = filtered_to flags count (run_end reply) (refilled (feed_of flags) (text_or [] (output_in reply)) p.message) p
+
+-- the program gets these bytes of the mail, and its output takes their place
+abbrev pub filter_mail : Flags → Command → List ℕ → Mind → Plan Tried
+filter_mail flags command input p = and_then (ask (Run command input true)) (λ reply. Ends (filtered flags (length input) reply p))
+
+-- a program may leave input where only its output is wanted
+abbrev pub end_outcome : Flags → RunEnd → Outcome
+end_outcome flags (Ended code took) = code_outcome flags code
+end_outcome flags RunNotStarted = NotStarted
+end_outcome flags RunBroken = Lost
+end_outcome flags RunTooLong = TooLong
+
+-- without a fault before, an output of more than 1,048,576 bytes is one
+abbrev pub unless_overflow : Outcome → ℕ → Outcome
+unless_overflow outcome size = if is_fine outcome && nat_lt 1048576 size then Overflow size else outcome
+
+-- the variable gets the output without the newlines at its end; that an output is too long for it is remembered
+abbrev pub captured_in : List ℕ → List ℕ → Outcome → Mind → Mind
+captured_in name output Done p = with_variable name (trimmed output) p
+captured_in name output (Overflow size) p = overflowed p
+captured_in name output other p = p
+
+abbrev pub captured_as : Flags → List ℕ → RunEnd → List ℕ → Mind → Tried
+captured_as flags name end output p =
+    let outcome = unless_overflow (end_outcome flags end) (length output) in
+    record { outcome = outcome; mind = captured_in name output outcome (with_exit_code (code_of end) p) }
+
+-- a program was run whose output is for this variable
+abbrev pub captured : Flags → List ℕ → Reply → Mind → Tried
+captured flags name reply p = captured_as flags name (run_end reply) (text_or [] (output_in reply)) p
+
+-- the program gets these bytes of the mail, and the variable what comes out
+abbrev pub capture : Flags → List ℕ → Command → List ℕ → Mind → Plan Tried
+capture flags name command input p = and_then (ask (Run command input true)) (λ reply. Ends (captured flags name reply p))
+
+-- what is done with a program that gets these bytes of the mail
+abbrev pub work_of : Purpose → Flags → List ℕ → Command → Mind → Plan Tried
+work_of (Delivers destination) flags input command p = feed flags destination command input p
+work_of Filters flags input command p = filter_mail flags command input p
+work_of (Captures name) flags input command p = capture flags name command input p
+
 -- a text was written to standard output, or a part of it
 abbrev pub write_outcome : Reply → Outcome
 write_outcome Wrote = Done
@@ -117,6 +199,7 @@ outcome_lines flags line Lost = lost_contact_line line ∷ []
 outcome_lines flags line Closed = input_closed_line line ∷ []
 outcome_lines flags line (Code code) = line_if (not flags.wait_quiet) (program_failure_line code line)
 outcome_lines flags line TooLong = output_too_long_line line ∷ []
+outcome_lines flags line (Overflow size) = value_too_long_line size ∷ []
 outcome_lines flags line Unwritten = couldnt_write_out_line ∷ []
 
 -- and this of the lock file, of what was tried under it, and of the lock file's removal
@@ -142,7 +225,7 @@ trial_turn last trial p = if last && is_fine_trial trial then Halts Delivered p 
 
 -- what is told, and what comes behind it, once it is known whether the recipe succeeded
 abbrev pub after_trial : Task → Trying → Plan Turn
-after_trial t done = let q = settled_by done.trial done.mind in say_each q (trial_lines t.flags t.text done.trial) (trial_turn t.last done.trial q)
+after_trial t done = let q = settled_by done.trial done.mind in say_each q (trial_lines t.flags t.text done.trial) (trial_turn (is_final t.purpose t.flags) done.trial q)
 
 -- this is tried, and what came of it is told
 abbrev pub try_and_say : Task → Option (List ℕ) → (Mind → Plan Tried) → Mind → Plan Turn
@@ -216,37 +299,62 @@ do_line t word work NoWords p = refuse_name t.text p
 do_line t word work Unusable p = refuse_name (unusable_text t word) p
 do_line t word work (LineTooLong count) p = say_then p (value_too_long_line count) (GoesOn (overflowed p))
 
--- the line has backquoted commands of its own
-abbrev pub runs_first : List ℕ → Mind → Bool
-runs_first line p = not (nat_eq (length (line_commands line p)) 0)
+-- the commands of the lock file's text
+abbrev pub lock_commands : Task → List (List ℕ)
+lock_commands t = commands_in (lock_mode t) (lock_source t)
 
--- the lock file's text is expanded first; running commands isn't built yet
-abbrev pub lock_first : Task → Bool → (Option (List ℕ) → Plan Turn) → Mind → Plan Turn
-lock_first t runs next p =
-    if has_command (lock_mode t) (lock_source t) || runs then not_built p
-    else if is_too_long (lock_mode t) (lock_source t) p.vars [] then skip_value (lock_mode t) (lock_source t) [] p
-    else next (named_lock t (first_word (words_in (lock_mode t) p.vars [] (lock_source t))) p)
-
--- the task's text is a program line
-abbrev pub do_program : Task → (Command → Mind → Plan Tried) → Mind → Plan Turn
-do_program t work p = lock_first t (runs_first t.text p) (λ word. do_line t word work (line_of [] t.text p) p) p
+-- the lock file's text is expanded with these outputs of its commands, and then this comes with its name
+abbrev pub lock_first : Task → List (List ℕ) → (Option (List ℕ) → Plan Turn) → Mind → Plan Turn
+lock_first t outputs next p =
+    if is_too_long (lock_mode t) (lock_source t) p.vars outputs then skip_value (lock_mode t) (lock_source t) outputs p
+    else next (named_lock t (first_word (words_in (lock_mode t) p.vars outputs (lock_source t))) p)
 
 -- the parts of the mail that the flags h and b feed, as they are
 abbrev pub fed_piece : Flags → Mind → List ℕ
 fed_piece flags p = piece_of p.message (feed_of flags) Other flags.raw
 
+-- the lock file's text is expanded before the line, with the outputs of their commands
+abbrev pub program_with : Task → Reading → Ready → Plan Turn
+program_with t reading ready =
+    let p = ready.mind in
+    lock_first t ready.lock_outputs (λ word. do_line t word (work_of t.purpose t.flags (fed_piece t.flags p)) (reading.read ready.outputs p) p) p
+
+-- a program is run; all commands are run before a text is expanded
+abbrev pub do_program : Task → Reading → Mind → Plan Turn
+do_program t reading p = and_then (make_ready (lock_commands t) reading.commands p) (λ ready. program_with t reading ready)
+
+-- a pipe's program filters the mail under the flag f, and otherwise the mail is delivered to it
+abbrev pub pipe_purpose : Flags → List ℕ → Purpose
+pipe_purpose flags line = if flags.filter then Filters else Delivers line
+
 -- a pipe, whose lock file is named by the file to which it appends
 abbrev pub pipe_task : Flags → Option (List ℕ) → List ℕ → Task
-pipe_task flags lock line = record { flags = flags; lock = lock; automatic = appended_name line; text = line; last = not flags.copy }
+pipe_task flags lock line = record { flags = flags; lock = lock; automatic = appended_name line; text = line; purpose = pipe_purpose flags line }
 
--- the mail goes to a program
 abbrev pub pipe : Flags → Option (List ℕ) → List ℕ → Mind → Plan Turn
-pipe flags lock line p = do_program (pipe_task flags lock line) (λ command. feed flags line command (fed_piece flags p)) p
+pipe flags lock line p = do_program (pipe_task flags lock line) (line_reading line p) p
+
+-- a capture is a pipe whose output is for this variable
+abbrev pub capture_task : Flags → Option (List ℕ) → List ℕ → List ℕ → Task
+capture_task flags lock name line = record { flags = flags; lock = lock; automatic = appended_name line; text = line; purpose = Captures name }
+
+abbrev pub capture_line : Flags → Option (List ℕ) → List ℕ → List ℕ → Mind → Plan Turn
+capture_line flags lock name line p = do_program (capture_task flags lock name line) (line_reading line p) p
+
+-- mail that is forwarded goes to `!` and the addresses as they are written; there is no automatic lock file
+abbrev pub forward_task : Flags → Option (List ℕ) → List ℕ → Task
+forward_task flags lock text = record { flags = flags; lock = lock; automatic = []; text = text; purpose = Delivers (codes "!" ++ text) }
+
+abbrev pub forward : Flags → Option (List ℕ) → List ℕ → Mind → Plan Turn
+forward flags lock text p = do_program (forward_task flags lock text) (forward_reading text) p
 
 -- standard output has no automatic lock file
 abbrev pub write_task : Flags → Option (List ℕ) → Task
-write_task flags lock = record { flags = flags; lock = lock; automatic = []; text = codes "|"; last = not flags.copy }
+write_task flags lock = record { flags = flags; lock = lock; automatic = []; text = codes "|"; purpose = Delivers (codes "|") }
 
--- the mail goes to standard output
+-- the mail is written to standard output, under its lock file
+abbrev pub write_with : Task → Ready → Plan Turn
+write_with t ready = lock_first t ready.lock_outputs (λ word. do_named t word (write (fed_piece t.flags ready.mind)) ready.mind) ready.mind
+
 abbrev pub write_out : Flags → Option (List ℕ) → Mind → Plan Turn
-write_out flags lock p = let t = write_task flags lock in lock_first t false (λ word. do_named t word (write (fed_piece flags p)) p) p
+write_out flags lock p = let t = write_task flags lock in and_then (make_ready (lock_commands t) [] p) (λ ready. write_with t ready)

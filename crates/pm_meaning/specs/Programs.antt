@@ -62,6 +62,22 @@ expanded_line outputs line p =
 abbrev pub line_of : List (List ℕ) → List ℕ → Mind → ProgramLine
 line_of outputs line p = if needs_shell line p then line_of_words (shell_words line p.vars) p else expanded_line outputs line p
 
+-- How the line of a program is read: the commands that are run before it, and the line by their outputs.
+pub record Reading : Type 0 where
+  pub commands : List (List ℕ)
+  pub read : List (List ℕ) → Mind → ProgramLine
+
+-- the shell gets the line as it is, and runs its commands itself
+abbrev pub shell_reading : List ℕ → Reading
+shell_reading line = record { commands = []; read = λ outputs p. line_of_words (shell_words line p.vars) p }
+
+-- the commands of any other line are run before it
+abbrev pub plain_reading : List ℕ → Reading
+plain_reading line = record { commands = commands_in Many line; read = λ outputs p. expanded_line outputs line p }
+
+abbrev pub line_reading : List ℕ → Mind → Reading
+line_reading line p = if needs_shell line p then shell_reading line else plain_reading line
+
 -- a backquote stands in the text
 abbrev pub has_backquote : List ℕ → Bool
 has_backquote text = list_any (λ byte. byte == BACKQUOTE) text

@@ -13,11 +13,15 @@ use Rattle.pm_meaning.specs.Minds.{Mind}
 use Rattle.pm_meaning.specs.declared.process.End.{End}
 use Rattle.pm_meaning.specs.declared.process.End.TheVariants.{NotBuilt}
 
--- the next statement comes, the process ends, or a block is entered under this lock
+-- the next statement comes, the process ends, a block is entered under this lock, this rcfile is asked for before the next
+-- statement, or in the place of the one that is being read, or that one is over
 pub data Turn : Type 0 where
   GoesOn : Mind → Turn
   Halts : End → Mind → Turn
   Enters : Option (List ℕ) → Mind → Turn
+  Includes : List ℕ → Mind → Turn
+  Switches : List ℕ → Mind → Turn
+  EndsFile : Mind → Turn
 
 -- the statement has a form that isn't built yet
 abbrev pub not_built : Mind → Plan Turn

@@ -8,8 +8,9 @@ use pm_vars::Vars;
 
 /// The state of a process: the message that it delivers, its variables, the folder `base` from which names are seen
 /// (MAILDIR, procmailrc(5)), the host's name, whether the program is a mail filter (`-m`, procmail(1)), the locks that
-/// it holds, which of them LOCKFILE names, what came of the recipes before, and how many times the run has filed mail in a
-/// folder, or tried to.
+/// it holds, which of them LOCKFILE names, what came of the recipes before, how many times the run has filed mail in a
+/// folder, or tried to, the name of the rcfile that is being read, empty before the first one, and how many rcfiles the
+/// run has opened, or tried to.
 #[derive(Drop)]
 pub struct Process {
     pub filter: bool,
@@ -21,6 +22,8 @@ pub struct Process {
     pub global: Option<Name>,
     pub chain: Chain,
     pub placed: u64,
+    pub rcfile: Name,
+    pub openings: u64,
 }
 
 /// How a process ended.
@@ -32,6 +35,8 @@ pub enum End {
     FellOff,
     /// The rcfile of a mail filter wasn't read.
     NoRc,
+    /// HOST got another name than the host's.
+    HostOff,
     /// The next step has a form that isn't built yet.
     NotBuilt,
 }
@@ -106,8 +111,10 @@ pub enum Outcome {
     Closed,
     /// It ended with this code.
     Code(u8),
-    /// Its output is too long.
+    /// Its output is too long, or the mail that it was to take a place in.
     TooLong,
+    /// Its output has so many bytes, which are too many for a variable.
+    Overflow(u64),
     /// The mail couldn't be written to standard output.
     Unwritten,
 }

@@ -20,6 +20,8 @@ pub enum Status {
     CannotCreate,
     /// The message couldn't be read.
     InputOutput,
+    /// No delivery was made, and the mail shall be tried again later.
+    TemporaryFailure,
     /// The rcfile or the message asks for what isn't built yet.
     NotBuilt,
 }
@@ -37,19 +39,22 @@ impl Status {
             Status::SystemError => 71,
             Status::CannotCreate => 73,
             Status::InputOutput => 74,
+            Status::TemporaryFailure => 75,
             Status::NotBuilt => 78,
         }
     }
 }
 
-/// The exit status of a run whose process ended so.
-pub fn status_of(end: End) -> Status
-    ensures { result ≡ end_status end }
+/// The exit status of a run whose process ended so, softly or not (`-t`).
+pub fn status_of(softly: bool, end: End) -> Status
+    ensures { result ≡ end_status softly end }
 {
     match end {
         End::Delivered => Status::Success,
+        End::FellOff if softly => Status::TemporaryFailure,
         End::FellOff => Status::CannotCreate,
         End::NoRc => Status::NoInput,
+        End::HostOff => Status::Success,
         End::NotBuilt => Status::NotBuilt,
     }
 }

@@ -17,3 +17,4 @@ pub use backquotes::commands;
 pub use expansion::{ExpandRefused, expand};
 pub use kinds::Mode;
 pub use laws::{blanks_part, no_command, plain_stands, single_stands};
+pub use values::without_newlines;
