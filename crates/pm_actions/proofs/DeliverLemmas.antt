@@ -13,6 +13,7 @@ use Rattle.pm_recipe.specs.Tree.{Top}
 use Rattle.pm_recipe.specs.View.{act_of}
 use Rattle.pm_recipe.specs.declared.tree.Flags.{Flags}
 use Rattle.pm_recipe.specs.declared.tree.Action.{Action}
+use Rattle.pm_recipe.specs.declared.tree.Statements.{Statements}
 use Rattle.pm_recipe.specs.declared.tree.Action.TheVariants.{Mailbox, Pipe, Capture, Forward, WriteOut, Block}
 use Rattle.pm_subst.specs.Commands.{commands_in}
 use Rattle.pm_subst.specs.Words.{words_in}
@@ -20,8 +21,8 @@ use Rattle.pm_subst.specs.declared.kinds.Mode.TheVariants.{One, Many}
 use Rattle.pm_meaning.specs.Assigning.{value_in}
 use Rattle.pm_meaning.specs.Locks.{text_or, lock_word, blamed_text, is_lock_word, full_lock, is_taken, any_held}
 use Rattle.pm_meaning.specs.Turns.{Turn, Halts, not_built, refuse_name, is_too_long, skip_value}
-use Rattle.pm_meaning.specs.Acting.{run_by, act_on}
-use Rattle.pm_meaning.specs.ProgramActions.{write_out}
+use Rattle.pm_meaning.specs.Acting.{act_on}
+use Rattle.pm_meaning.specs.ProgramActions.{pipe, capture_line, forward, write_out}
 use Rattle.pm_meaning.specs.Delivering.{Attempted, attempt, attempt_lines, attempt_turn, say_each, settled, told, after_attempt, file_and_say, deliver_at, deliver_named, is_without, deliver_to, deliver_text, Ready, deliver_with, make_ready, deliver}
 use Rattle.pm_meaning.specs.Destinations.{destination_of, full_of, are_file_texts}
 use Rattle.pm_meaning.specs.Minds.{Mind}
@@ -54,22 +55,32 @@ carried p q end answer x y a b e h = subst (λ plan. Carries plan end answer x y
 pub ends_unbuilt : (p : Mind) (plan : Plan Turn) (x : JournalState) (s : View) → not_built p ≡ plan → Executes plan (Halts NotBuilt p) x x s s
 ends_unbuilt p plan x s e = subst (λ q. Executes q (Halts NotBuilt p) x x s s) e (executes_nothing (Halts NotBuilt p) x x s refl)
 
-pub acts_otherwise : (top : Top) (action : Action) (p : Mind) → ((text : List ℕ) → action ≢ Mailbox text) → ((line : List ℕ) → action ≢ Pipe line) → action ≢ WriteOut → not_built p ≡ act_on top (act_of action) p
-acts_otherwise top (Mailbox text) p other run write = absurd (other text refl)
-acts_otherwise top (Pipe line) p other run write = absurd (run line refl)
-acts_otherwise top WriteOut p other run write = absurd (write refl)
-acts_otherwise top (Capture name line) p other run write = refl
-acts_otherwise top (Forward text) p other run write = refl
-acts_otherwise top (Block statements) p other run write = refl
-
-pub runs_line : (top : Top) (action : Action) (line shown : List ℕ) (p : Mind) → action ≡ Pipe line → shown ≡ line → run_by top.flags top.lock shown p ≡ act_on top (act_of action) p
-runs_line top action line shown p is same = ap (λ t. run_by top.flags top.lock t p) same ∙ ap (λ act. act_on top (act_of act) p) (sym is)
+-- what the action of a recipe is
+pub acts_block : (top : Top) (action : Action) (statements : Statements) (p : Mind) → action ≡ Block statements → not_built p ≡ act_on top (act_of action) p
+acts_block top action statements p is = ap (λ act. act_on top (act_of act) p) (sym is)
 
 pub writes_out : (top : Top) (action : Action) (p : Mind) → action ≡ WriteOut → write_out top.flags top.lock p ≡ act_on top (act_of action) p
 writes_out top action p is = ap (λ act. act_on top (act_of act) p) (sym is)
 
-pub stores : (top : Top) (action : Action) (text shown : List ℕ) (p : Mind) → action ≡ Mailbox text → shown ≡ text → deliver top.flags top.lock shown p ≡ act_on top (act_of action) p
-stores top action text shown p is same = ap (λ t. deliver top.flags top.lock t p) same ∙ ap (λ act. act_on top (act_of act) p) (sym is)
+-- it goes by these flags, this lock file and this text
+module _ (top : Top) (action : Action) (text shown : List ℕ) (flags : Flags) (lock : Option (List ℕ)) (p : Mind) where
+  abbrev IsOrder : Type 0
+  IsOrder = (flags ≡ top.flags) × (lock ≡ top.lock) × (shown ≡ text)
+
+  same_order : (act : Flags → Option (List ℕ) → List ℕ → Plan Turn) → IsOrder → act flags lock shown ≡ act top.flags top.lock text
+  same_order act is = ap (λ f. act f lock shown) is.0 ∙ (ap (λ l. act top.flags l shown) is.1 ∙ ap (act top.flags top.lock) is.2)
+
+  pub stores : action ≡ Mailbox text → IsOrder → deliver flags lock shown p ≡ act_on top (act_of action) p
+  stores is order = same_order (λ f l t. deliver f l t p) order ∙ ap (λ act. act_on top (act_of act) p) (sym is)
+
+  pub pipes : action ≡ Pipe text → IsOrder → pipe flags lock shown p ≡ act_on top (act_of action) p
+  pipes is order = same_order (λ f l t. pipe f l t p) order ∙ ap (λ act. act_on top (act_of act) p) (sym is)
+
+  pub captures : (name : List ℕ) → action ≡ Capture name text → IsOrder → capture_line flags lock name shown p ≡ act_on top (act_of action) p
+  captures name is order = same_order (λ f l t. capture_line f l name t p) order ∙ ap (λ act. act_on top (act_of act) p) (sym is)
+
+  pub forwards : action ≡ Forward text → IsOrder → forward flags lock shown p ≡ act_on top (act_of action) p
+  forwards is order = same_order (λ f l t. forward f l t p) order ∙ ap (λ act. act_on top (act_of act) p) (sym is)
 
 -- the lock file's text expands to too much, or to this value
 pub lock_too_long : (flags : Flags) (lock : Option (List ℕ)) (text : List ℕ) (r : Ready) → is_too_long One (text_or [] lock) r.mind.vars r.lock_outputs ≡ true

@@ -11,5 +11,8 @@ pub mod Sequences
 pub mod OutputLemmas
 mod ProgramLemmas
 mod ErrandLemmas
+mod FilterLemmas
 mod TryLemmas
 mod TaskLemmas
+mod PipeLemmas
+mod ForwardLemmas

@@ -13,21 +13,19 @@ use Rattle.pm_journal.proofs.ActPlans.{executes_then}
 use Rattle.pm_journal.proofs.PlanLeads.{leads_itself, leads_on}
 use Rattle.pm_journal.proofs.WantsMemory.{out_then, out_front}
 use Rattle.pm_acts.specs.Acts.{Says}
-use Rattle.pm_recipe.specs.declared.tree.Flags.{Flags}
-use Rattle.pm_meaning.specs.Acting.{run_by}
 use Rattle.pm_meaning.specs.Assigning.{first_word}
 use Rattle.pm_meaning.specs.Changes.{overflowed}
 use Rattle.pm_meaning.specs.Delivering.{say_each}
 use Rattle.pm_meaning.specs.Locks.{blamed_text, is_lock_word, full_lock, is_taken}
 use Rattle.pm_meaning.specs.Minds.{Mind}
-use Rattle.pm_meaning.specs.ProgramActions.{Task, Tried, Trying, try_under, trial_lines, settled_by, trial_turn, after_trial, try_and_say, lacks_lock, lock_source, lock_mode, named_lock, told_first, do_under, do_named, unusable_text, do_line, lock_first, pipe}
-use Rattle.pm_meaning.specs.Turns.{Turn, GoesOn, not_built, say_then, refuse_name, has_command, is_too_long, skip_value}
+use Rattle.pm_meaning.specs.ProgramActions.{Task, Tried, Trying, try_under, trial_lines, settled_by, trial_turn, after_trial, try_and_say, lacks_lock, lock_source, lock_mode, named_lock, told_first, do_under, do_named, unusable_text, do_line, lock_first, is_final}
+use Rattle.pm_meaning.specs.Turns.{Turn, GoesOn, say_then, refuse_name, is_too_long, skip_value}
 use Rattle.pm_meaning.specs.declared.process.ProgramLine.{ProgramLine}
 use Rattle.pm_meaning.specs.declared.process.Trial.{Trial}
 use Rattle.pm_actions.specs.Errands.{trying_of, IsLockText, IsLockFile}
 use Rattle.pm_actions.specs.declared.tasks.LockFile.{LockFile}
 use Rattle.pm_actions.specs.declared.tasks.LockFile.TheVariants.{Free, Refused}
-use Rattle.pm_actions.specs.declared.tasks.LockText.TheVariants.{NotBuilt, Word, TooLong}
+use Rattle.pm_actions.specs.declared.lock_texts.LockText.TheVariants.{Word, TooLong}
 
 if_yes : {R : Type 0} (b : Bool) (p q : R) → b ≡ true → p ≡ (if b then p else q)
 if_yes b p q e = ap (λ v. if v then p else q) (sym e)
@@ -52,10 +50,12 @@ pub trial_out : (t : Task) (lock : Option (List ℕ)) (work : Mind → Plan Trie
 trial_out t lock work p x y a b h = out_front (try_under lock work p) (after_trial t) x y a b h
 
 -- what is told behind it, and what comes then
-pub said_after_trial : (t : Task) (trial : Trial) (m q : Mind) (lines : List (List ℕ)) (turn : Turn) → lines ≡ trial_lines t.flags t.text trial → q ≡ settled_by trial m → trial_turn t.last trial q ≡ turn
-    → say_each q lines turn ≡ after_trial t (trying_of trial m)
-said_after_trial t trial m q lines turn e is f =
-    ap (λ l. say_each q l turn) e ∙ (ap (say_each q (trial_lines t.flags t.text trial)) (sym f) ∙ ap (λ r. say_each r (trial_lines t.flags t.text trial) (trial_turn t.last trial r)) is)
+pub said_after_trial : (t : Task) (last : Bool) (trial : Trial) (m q : Mind) (lines : List (List ℕ)) (turn : Turn) → last ≡ is_final t.purpose t.flags → lines ≡ trial_lines t.flags t.text trial → q ≡ settled_by trial m
+    → trial_turn last trial q ≡ turn → say_each q lines turn ≡ after_trial t (trying_of trial m)
+said_after_trial t last trial m q lines turn final e is f =
+    let final_turn = ap (λ b. trial_turn b trial q) (sym final) ∙ f in
+    ap (λ l. say_each q l turn) e
+    ∙ (ap (say_each q (trial_lines t.flags t.text trial)) (sym final_turn) ∙ ap (λ r. say_each r (trial_lines t.flags t.text trial) (trial_turn (is_final t.purpose t.flags) trial r)) is)
 
 -- that there is no automatic lock file was told, or needn't be
 pub was_told : (t : Task) (p : Mind) (next : Plan Turn) (line : List ℕ) (x y : JournalState) (a b : View) → lacks_lock t ≡ true → line ≡ no_lock_line t.text → Says line x y a b → LeadsTo (told_first t p next) next x y a b
@@ -110,47 +110,20 @@ pub line_blamed : (t : Task) (word : Option (List ℕ)) (fits : Bool) (shown : L
 line_blamed t word fits shown p e same = ap (λ l. refuse_name l p) (same ∙ ap (λ b. if b then t.text else blamed_text t.lock t.text) e)
 
 -- the line was read so
-pub read_so : (t : Task) (word : Option (List ℕ)) (work : Command → Mind → Plan Tried) (line shown read : ProgramLine) (p : Mind) → shown ≡ read → shown ≡ line → do_line t word work line p ≡ do_line t word work read p
-read_so t word work line shown read p is same = ap (λ l. do_line t word work l p) (sym same ∙ is)
+pub read_so : (t : Task) (word : Option (List ℕ)) (work : Command → Mind → Plan Tried) (line shown : ProgramLine) (p : Mind) → shown ≡ line → do_line t word work line p ≡ do_line t word work shown p
+read_so t word work line shown p same = ap (λ l. do_line t word work l p) (sym same)
 
 -- the text of the lock file gives so much
-pub lock_not_built : (t : Task) (runs : Bool) (next : Option (List ℕ) → Plan Turn) (p : Mind) → IsLockText t runs p NotBuilt → not_built p ≡ lock_first t runs next p
-lock_not_built t runs next p e =
-    if_yes (has_command (lock_mode t) (lock_source t) || runs) (not_built p)
-    (if is_too_long (lock_mode t) (lock_source t) p.vars [] then skip_value (lock_mode t) (lock_source t) [] p else next (named_lock t (first_word (words_in (lock_mode t) p.vars [] (lock_source t))) p)) e
-
-pub lock_too_long : (t : Task) (runs : Bool) (next : Option (List ℕ) → Plan Turn) (length : ℕ) (p : Mind) → IsLockText t runs p (TooLong length)
-    → say_then p (value_too_long_line length) (GoesOn (overflowed p)) ≡ lock_first t runs next p
-lock_too_long t runs next length p h =
+pub lock_too_long : (t : Task) (outputs : List (List ℕ)) (next : Option (List ℕ) → Plan Turn) (length : ℕ) (p : Mind) → IsLockText t outputs p (TooLong length)
+    → say_then p (value_too_long_line length) (GoesOn (overflowed p)) ≡ lock_first t outputs next p
+lock_too_long t outputs next length p h =
     let mode = lock_mode t in
     let source = lock_source t in
-    let last : Plan Turn = next (named_lock t (first_word (words_in mode p.vars [] source)) p) in
-    let sized : Plan Turn = if is_too_long mode source p.vars [] then skip_value mode source [] p else last in
-    ap (λ n. say_then p (value_too_long_line n) (GoesOn (overflowed p))) h.2
-    ∙ (if_yes (is_too_long mode source p.vars []) (skip_value mode source [] p) last h.1 ∙ if_no (has_command mode source || runs) (not_built p) sized h.0)
+    ap (λ n. say_then p (value_too_long_line n) (GoesOn (overflowed p))) h.1
+    ∙ if_yes (is_too_long mode source p.vars outputs) (skip_value mode source outputs p) (next (named_lock t (first_word (words_in mode p.vars outputs source)) p)) h.0
 
-pub lock_worded : (t : Task) (runs : Bool) (next : Option (List ℕ) → Plan Turn) (word : Option (List ℕ)) (p : Mind) → IsLockText t runs p (Word word) → next word ≡ lock_first t runs next p
-lock_worded t runs next word p h =
+pub lock_worded : (t : Task) (outputs : List (List ℕ)) (next : Option (List ℕ) → Plan Turn) (word : Option (List ℕ)) (p : Mind) → IsLockText t outputs p (Word word) → next word ≡ lock_first t outputs next p
+lock_worded t outputs next word p h =
     let mode = lock_mode t in
     let source = lock_source t in
-    let last : Plan Turn = next (named_lock t (first_word (words_in mode p.vars [] source)) p) in
-    let sized : Plan Turn = if is_too_long mode source p.vars [] then skip_value mode source [] p else last in
-    ap next h.2 ∙ (if_no (is_too_long mode source p.vars []) (skip_value mode source [] p) last h.1 ∙ if_no (has_command mode source || runs) (not_built p) sized h.0)
-
--- a task whose lock file has a word has no commands that are run before
-runs_none : (b c : Bool) → (b || c) ≡ false → c ≡ false
-runs_none true c e = let f : true ≡ false = e in absurd (cc)
-runs_none false c e = e
-
-pub runs_not : (t : Task) (runs : Bool) (p : Mind) (word : Option (List ℕ)) → IsLockText t runs p (Word word) → runs ≡ false
-runs_not t runs p word h = runs_none (has_command (lock_mode t) (lock_source t)) runs h.0
-
--- a pipe with this text for its automatic lock file
-abbrev pub task_with : Flags → Option (List ℕ) → List ℕ → List ℕ → Task
-task_with flags lock line automatic = record { flags = flags; lock = lock; automatic = automatic; text = line; last = not flags.copy }
-
-pub runs_filter : (flags : Flags) (lock : Option (List ℕ)) (line : List ℕ) (p : Mind) → flags.filter ≡ true → not_built p ≡ run_by flags lock line p
-runs_filter flags lock line p e = if_yes flags.filter (not_built p) (pipe flags lock line p) e
-
-pub runs_pipe : (flags : Flags) (lock : Option (List ℕ)) (line : List ℕ) (p : Mind) → flags.filter ≡ false → pipe flags lock line p ≡ run_by flags lock line p
-runs_pipe flags lock line p e = if_no flags.filter (not_built p) (pipe flags lock line p) e
+    ap next h.1 ∙ if_no (is_too_long mode source p.vars outputs) (skip_value mode source outputs p) (next (named_lock t (first_word (words_in mode p.vars outputs source)) p)) h.0

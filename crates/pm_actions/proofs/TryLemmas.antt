@@ -1,5 +1,6 @@
 -- Errands under a lock file, in plans.
-use Rattle.std.proofs.Common.{◌≡◌, Bool, Some, None, List, ℕ, ◌++◌, refl, sym, ap, ◌∙◌, subst}
+use Rattle.std.proofs.Common.{◌≡◌, Bool, Option, Some, None, Result, List, ℕ, ◌++◌, refl, sym, ap, ◌∙◌, subst}
+use Rattle.pm_bytes.specs.declared.error.Memory.{Memory}
 use Rattle.pm_host.specs.declared.answers.Removed.{Removed}
 use Rattle.pm_journal.specs.JournalState.{JournalState}
 use Rattle.pm_journal.specs.Entries.{View, unlock_reply}
@@ -12,7 +13,7 @@ use Rattle.pm_journal.specs.declared.locking.LockRule.{LockRule}
 use Rattle.pm_journal.specs.declared.locking.LockEnd.{LockEnd}
 use Rattle.pm_journal.specs.declared.locking.LockEnd.TheVariants.{Held}
 use Rattle.pm_journal.specs.Plan.{Plan, Ends}
-use Rattle.pm_journal.specs.Executed.{Executes, OutOfMemory}
+use Rattle.pm_journal.specs.Executed.{Executes, OutOfMemory, Carries}
 use Rattle.pm_journal.proofs.ActPlans.{executes_then}
 use Rattle.pm_journal.proofs.FirstActs.{first_act, first_act_out, later_start}
 use Rattle.pm_journal.proofs.WantsMemory.{executes_nothing, out_front}
@@ -22,6 +23,7 @@ use Rattle.pm_meaning.specs.ProgramActions.{Tried, Trying, unlock_behind, try_lo
 use Rattle.pm_meaning.specs.declared.process.Outcome.{Outcome}
 use Rattle.pm_meaning.specs.declared.process.Trial.TheVariants.{Unlocked, Locked}
 use Rattle.pm_actions.specs.Errands.{tried_of, trying_of}
+use Rattle.pm_actions.proofs.Choices.{ok_map, err_map}
 
 -- the same from a journal that had these entries too
 later_out : {R : Type 0} (p : Plan R) (x w y : JournalState) (a b : View) → OutOfMemory p w y a b → w.entries ≡ x.entries → OutOfMemory p x y a b
@@ -34,6 +36,15 @@ later_out p x w y a b h e = record {
   where_off = h.where_off;
   took = h.took;
 }
+
+-- the lock was made ready for, and then tried
+pub request_then : {A : Type 0} (work : Mind → Plan Tried) (lock : Option (List ℕ)) (name shown : List ℕ) (p q : Mind) (to : A → Trying) (answer : Result A Memory) (x w y : JournalState) (a b : View) → lock ≡ Some name → shown ≡ name → q ≡ p
+    → w.entries ≡ x.entries → Carries (try_under (Some shown) work q) to answer w y a b → Carries (try_under lock work p) to answer x y a b
+request_then work lock name shown p q to answer x w y a b is same mind e h =
+    let plan = try_under (Some shown) work q in
+    let whole : plan ≡ try_under lock work p = ap (λ m. try_under (Some shown) work m) mind ∙ ap (λ n. try_under (Some n) work p) same ∙ ap (λ l. try_under l work p) (sym is) in
+    subst (λ u. Carries u to answer x y a b) whole
+    (ok_map answer _ _ (λ v l. later_start plan (to v) x w y a b l e) h.0, err_map answer _ _ (λ l. later_out plan x w y a b l e) h.1)
 
 -- no lock was asked for
 pub tried_free : (work : Mind → Plan Tried) (p q : Mind) (outcome : Outcome) (x w y : JournalState) (a b : View) → w.entries ≡ x.entries → Executes (work p) (tried_of outcome q) w y a b

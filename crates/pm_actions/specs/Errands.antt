@@ -1,28 +1,36 @@
 -- What tasks ask of the outside, with all that is wanted for it.
-use Rattle.std.specs.Prelude.{◌≡◌, ℕ, Bool, false, true, not, ◌||◌, ◌-◌, ◌^◌, min, List, [], Option, codes, if◌then◌else◌}
+use Rattle.std.specs.Prelude.{◌≡◌, ℕ, false, true, not, ◌||◌, List, [], Option, codes, if◌then◌else◌}
 use Rattle.pm_recipe.specs.declared.tree.Flags.{Flags}
-use Rattle.pm_subst.specs.Words.{words_in, size_in}
+use Rattle.pm_subst.specs.Words.{words_in}
 use Rattle.pm_vars.specs.Table.{Table}
 use Rattle.pm_journal.specs.Plan.{Plan}
 use Rattle.pm_meaning.specs.Assigning.{first_word}
 use Rattle.pm_meaning.specs.Locks.{is_lock_word, full_lock, is_taken}
 use Rattle.pm_meaning.specs.Minds.{Mind}
-use Rattle.pm_meaning.specs.ProgramActions.{Task, Tried, Trying, is_fine, feed, write, lock_mode, lock_source, named_lock}
-use Rattle.pm_meaning.specs.Turns.{has_command, is_too_long}
+use Rattle.pm_meaning.specs.ProgramActions.{Purpose, Delivers, Filters, Captures, Task, Tried, Trying, is_fine, feed, filter_mail, capture, write, lock_mode, lock_source, named_lock}
+use Rattle.pm_meaning.specs.Turns.{is_too_long, length_in}
 use Rattle.pm_meaning.specs.declared.process.Outcome.{Outcome}
 use Rattle.pm_meaning.specs.declared.process.Trial.{Trial}
 use Rattle.pm_actions.specs.Copies.{remembered, with_vars}
 use Rattle.pm_actions.specs.declared.errands.Errand.{Errand}
-use Rattle.pm_actions.specs.declared.errands.Errand.TheVariants.{Feed, Write}
+use Rattle.pm_actions.specs.declared.errands.Errand.TheVariants.{Feed, Filter, Capture, Write}
+use Rattle.pm_actions.specs.declared.tasks.Purpose.{Purpose as CodePurpose}
+use Rattle.pm_actions.specs.declared.tasks.Purpose.TheVariants.{Delivers as CodeDelivers, Filters as CodeFilters, Captures as CodeCaptures}
 use Rattle.pm_actions.specs.declared.tasks.Task.{Task as CodeTask}
 use Rattle.pm_actions.specs.declared.tasks.LockFile.{LockFile}
 use Rattle.pm_actions.specs.declared.tasks.LockFile.TheVariants.{Free, Refused}
-use Rattle.pm_actions.specs.declared.tasks.LockText.{LockText}
-use Rattle.pm_actions.specs.declared.tasks.LockText.TheVariants.{NotBuilt, Word, TooLong}
+use Rattle.pm_actions.specs.declared.lock_texts.LockText.{LockText}
+use Rattle.pm_actions.specs.declared.lock_texts.LockText.TheVariants.{Word, TooLong}
+
+-- what for a task hands the mail on, as the meaning sees it
+abbrev pub purpose_of : CodePurpose → Purpose
+purpose_of (CodeDelivers destination) = Delivers destination.now
+purpose_of CodeFilters = Filters
+purpose_of (CodeCaptures name) = Captures name.now
 
 -- a task as the meaning sees it
 abbrev pub task_of : CodeTask → Task
-task_of t = record { flags = t.flags; lock = t.lock.now; automatic = t.automatic.now; text = t.text.now; last = t.last }
+task_of t = record { flags = t.flags; lock = t.lock.now; automatic = t.automatic.now; text = t.text.now; purpose = purpose_of t.purpose }
 
 -- what was tried, with the process then
 abbrev pub tried_of : Outcome → Mind → Tried
@@ -38,16 +46,17 @@ kept_if outcome vars p = if is_fine outcome then with_vars vars p else p
 -- with these variables the errand is this work
 abbrev pub IsWork : Flags → Errand → Table → (Mind → Plan Tried) → Type 0
 IsWork flags (Feed command input kept) vars work = (folder : List ℕ) × (kept ≡ remembered folder vars) × (work ≡ feed flags folder command input)
+IsWork flags (Filter command input) vars work = work ≡ filter_mail flags command input
+IsWork flags (Capture command input name) vars work = work ≡ capture flags name command input
 IsWork flags (Write piece kept) vars work = (kept ≡ remembered (codes "|") vars) × (work ≡ write piece)
 
--- what is known of the lock file before its name is looked at
-abbrev pub IsLockText : Task → Bool → Mind → LockText → Type 0
-IsLockText t runs p NotBuilt = (has_command (lock_mode t) (lock_source t) || runs) ≡ true
-IsLockText t runs p (TooLong length) =
-    ((has_command (lock_mode t) (lock_source t) || runs) ≡ false) × (is_too_long (lock_mode t) (lock_source t) p.vars [] ≡ true) × (length ≡ min (size_in (lock_mode t) p.vars [] (lock_source t)) (2 ^ 64 - 1))
-IsLockText t runs p (Word word) =
-    ((has_command (lock_mode t) (lock_source t) || runs) ≡ false) × (is_too_long (lock_mode t) (lock_source t) p.vars [] ≡ false)
-    × (word ≡ named_lock t (first_word (words_in (lock_mode t) p.vars [] (lock_source t))) p)
+-- the text of the lock file, with these outputs of its commands, gives so much
+abbrev pub IsLockText : Task → List (List ℕ) → Mind → LockText → Type 0
+IsLockText t outputs p (TooLong length) =
+    (is_too_long (lock_mode t) (lock_source t) p.vars outputs ≡ true) × (length ≡ length_in (lock_mode t) (lock_source t) p.vars outputs)
+IsLockText t outputs p (Word word) =
+    (is_too_long (lock_mode t) (lock_source t) p.vars outputs ≡ false)
+    × (word ≡ named_lock t (first_word (words_in (lock_mode t) p.vars outputs (lock_source t))) p)
 
 -- the lock file can be taken, or not
 abbrev pub IsLockFile : Option (List ℕ) → Mind → LockFile → Type 0

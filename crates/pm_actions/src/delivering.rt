@@ -27,9 +27,9 @@ use crate::locks::{
 };
 use crate::names::destinations;
 use crate::outputs::{Ready, make_ready};
+use crate::pipes::{capture, forward, pipe, write_out};
 use crate::saying::{attempt_lines, say_each};
 use crate::skipping::skip_value;
-use crate::tasks::{pipe_or_filter, write_out};
 use pm_acts::{Outside, say};
 use pm_bytes::{Blob, Memory, Name, NameRefused};
 use pm_journal::{Journal, unusable_name};
@@ -38,12 +38,12 @@ use pm_recipe::{Action, Flags, Recipe};
 use pm_subst::{Mode, commands};
 use std::alloc::Global;
 
-// What an action asks for: its flags, the text of its lock file, and its own text.
+/// What an action asks for: its flags, the text of its lock file, and its own text.
 #[derive(Drop)]
-struct Order<'a> {
-    flags: Flags,
-    lock: &'a Option<Blob>,
-    text: &'a [u8],
+pub struct Order<'a> {
+    pub flags: Flags,
+    pub lock: &'a Option<Blob>,
+    pub text: &'a [u8],
 }
 
 /// Does the action of a recipe that is executed. One with a block isn't done here.
@@ -63,26 +63,35 @@ pub fn perform<D: Outside>(
 {
     match &recipe.action {
         Action::Mailbox(text) => {
-            let order = Order {
-                flags: recipe.flags,
-                lock: &recipe.lock,
-                text: text.as_slice(),
-            };
+            let order = order_of(recipe, text);
             deliver_mail(alloc, &order, process, outside, journal)
         }
         Action::Pipe(line) => {
-            pipe_or_filter(
-                alloc,
-                recipe.flags,
-                &recipe.lock,
-                line.as_slice(),
-                process,
-                outside,
-                journal,
-            )
+            let order = order_of(recipe, line);
+            pipe(alloc, &order, process, outside, journal)
+        }
+        Action::Capture { name, line } => {
+            let order = order_of(recipe, line);
+            capture(alloc, &order, name, process, outside, journal)
+        }
+        Action::Forward(text) => {
+            let order = order_of(recipe, text);
+            forward(alloc, &order, process, outside, journal)
         }
         Action::WriteOut => write_out(alloc, recipe.flags, &recipe.lock, process, outside, journal),
-        _ => Ok(Some(End::NotBuilt)),
+        Action::Block(_) => Ok(Some(End::NotBuilt)),
+    }
+}
+
+fn order_of<'a>(recipe: &'a Recipe, text: &'a Blob) -> Order<'a>
+    ensures flags { result.flags ≡ recipe.now.flags }
+    ensures lock { result.lock.now ≡ recipe.now.lock }
+    ensures text { result.text.now ≡ text.now }
+{
+    Order {
+        flags: recipe.flags,
+        lock: &recipe.lock,
+        text: text.as_slice(),
     }
 }
 

@@ -1,32 +1,30 @@
-//! What a task asks of the outside: the mail goes to a program or to standard output. All memory is taken before, so that
-//! none can be wanting behind it.
+//! What a task asks of the outside: the mail goes to a program or to standard output, is filtered, or is captured. All memory
+//! for a delivery is taken before, so that none can be wanting behind it.
 ghost use Rattle.std.specs.Prelude.{◌≡◌, ◌+◌, ◌≤◌, ℕ, List, codes, length, IfOk};
-ghost use Rattle.pm_append.specs.Writing.{say_reply};
 ghost use Rattle.pm_journal.specs.Executed.{Carries, Executes};
 ghost use Rattle.pm_journal.specs.Held.{Keeping};
 ghost use Rattle.pm_journal.specs.Plan.{Plan};
 ghost use Rattle.pm_meaning.specs.Minds.{Mind, mind_of};
-ghost use Rattle.pm_meaning.specs.ProgramActions.{Tried, is_fine as was_done, code_outcome as outcome_by_code};
-ghost use Rattle.pm_meaning.specs.ProgramActions.{feed_outcome as outcome_of_feed, feed as fed_by, write_outcome as outcome_of_write};
-ghost use Rattle.pm_meaning.specs.ProgramActions.{write as written, fed_piece as piece_fed};
+ghost use Rattle.pm_meaning.specs.ProgramActions.{Tried, feed as fed_by, write as written, fed_piece as piece_fed, work_of};
 ghost use Rattle.pm_actions.specs.Copies.{remembered};
-ghost use Rattle.pm_actions.specs.Errands.{tried_of, kept_if, IsWork, task_of};
+ghost use Rattle.pm_actions.specs.Errands.{tried_of, kept_if, purpose_of, IsWork};
 
+use crate::ends::{feed_outcome, is_fine, write_outcome};
 use crate::filing::fed_parts;
+use crate::filtering::{capture, filter};
 use crate::programs::note_code;
-use crate::tasks::Task;
+use crate::tasks::{Purpose, Task};
 use pm_acts::Outside;
-use pm_append::WriteEnd;
 use pm_bytes::{Blob, Memory};
 use pm_host::Command;
-use pm_journal::{Journal, RunEnd};
+use pm_journal::Journal;
 use pm_meaning::{Outcome, Process};
 use pm_message::{Kind, piece};
 use pm_recipe::Flags;
 use pm_vars::Vars;
 use std::alloc::Global;
 
-/// What a task asks of the outside, with the variables once that is done.
+/// What a task asks of the outside; of a delivery with the variables once that is done.
 #[derive(Drop)]
 pub enum Errand {
     /// The program gets the input.
@@ -35,6 +33,17 @@ pub enum Errand {
         input: Blob,
         vars: Vars,
     },
+    /// The program gets the input, and its output takes the place of that in the mail.
+    Filter {
+        command: Command,
+        input: Blob,
+    },
+    /// The program gets the input, and the variable of this name its output.
+    Capture {
+        command: Command,
+        input: Blob,
+        name: Blob,
+    },
     /// The piece is written to standard output.
     Write {
         piece: Blob,
@@ -42,23 +51,37 @@ pub enum Errand {
     },
 }
 
-/// The mail, as the task's flags feed it, goes to the program.
-pub fn feed_errand(
+/// The program gets the mail, as the task's flags feed it, for what the task is for.
+pub fn errand_for(
     alloc: Global,
     task: &Task<'_>,
     command: Command,
     process: &Process,
 ) -> Result<Errand, Memory>
-    ensures { let t = task_of task.now in let p = mind_of process.now in
-        IfOk result (λ errand. IsWork t.flags errand p.vars (fed_by t.flags t.text command (piece_fed t.flags p))) }
+    ensures { let flags = task.now.flags in let p = mind_of process.now in
+        IfOk result (λ errand. IsWork flags errand p.vars
+        (work_of (purpose_of task.now.purpose) flags (piece_fed flags p) command)) }
 {
     let input = fed_piece(alloc, task.flags, process)?;
-    let vars = remembering(alloc, task.text, &process.vars)?;
-    Ok(Errand::Feed {
-        command,
-        input,
-        vars,
-    })
+    match task.purpose {
+        Purpose::Delivers(folder) => {
+            let vars = remembering(alloc, folder, &process.vars)?;
+            Ok(Errand::Feed {
+                command,
+                input,
+                vars,
+            })
+        }
+        Purpose::Filters => Ok(Errand::Filter { command, input }),
+        Purpose::Captures(name) => {
+            let name = name.copy(alloc)?;
+            Ok(Errand::Capture {
+                command,
+                input,
+                name,
+            })
+        }
+    }
 }
 
 /// The mail, as the flags feed it, goes to standard output.
@@ -118,6 +141,16 @@ pub fn carry<D: Outside>(
         } => Ok(feed(
             alloc, command, input, vars, flags, process, outside, journal,
         )),
+        Errand::Filter { command, input } => {
+            filter(alloc, command, input, flags, process, outside, journal)
+        }
+        Errand::Capture {
+            command,
+            input,
+            name,
+        } => capture(
+            alloc, command, input, name, flags, process, outside, journal,
+        ),
         Errand::Write { piece, vars } => Ok(write(piece, vars, process, outside, journal)),
     }
 }
@@ -178,49 +211,5 @@ fn keep(outcome: Outcome, vars: Vars, process: &mut Process)
 {
     if is_fine(outcome) {
         process.vars = vars;
-    }
-}
-
-/// Whether it was done.
-pub fn is_fine(outcome: Outcome) -> bool
-    ensures { result ≡ was_done outcome }
-{
-    matches!(outcome, Outcome::Done)
-}
-
-// What came of a program that was fed so many bytes.
-fn feed_outcome(flags: Flags, count: u64, end: RunEnd) -> Outcome
-    ensures { result ≡ outcome_of_feed flags count end }
-{
-    match end {
-        RunEnd::Ended { code, took } => {
-            if took < count && !flags.ignore {
-                Outcome::Closed
-            } else {
-                code_outcome(flags, code)
-            }
-        }
-        RunEnd::NotStarted => Outcome::NotStarted,
-        RunEnd::Broken => Outcome::Lost,
-        RunEnd::TooLong => Outcome::TooLong,
-    }
-}
-
-fn code_outcome(flags: Flags, code: u8) -> Outcome
-    ensures { result ≡ outcome_by_code flags code }
-{
-    if (flags.wait || flags.wait_quiet) && code != 0 {
-        Outcome::Code(code)
-    } else {
-        Outcome::Done
-    }
-}
-
-fn write_outcome(end: WriteEnd) -> Outcome
-    ensures { result ≡ outcome_of_write (say_reply end) }
-{
-    match end {
-        WriteEnd::Wrote => Outcome::Done,
-        WriteEnd::Short(_) => Outcome::Unwritten,
     }
 }

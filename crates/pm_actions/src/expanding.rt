@@ -1,12 +1,11 @@
 //! Texts expanded by the variables of a process.
-ghost use Rattle.std.specs.Prelude.{◌≡◌, [], false, length, IfOk};
+ghost use Rattle.std.specs.Prelude.{◌≡◌, length, IfOk};
 ghost use Rattle.pm_meaning.specs.Assigning.{first_word as first_of};
-ghost use Rattle.pm_meaning.specs.Turns.{has_command};
 ghost use Rattle.pm_subst.specs.Commands.{commands_in};
 ghost use Rattle.pm_actions.specs.Expanding.{IsExpansion};
 
 use pm_bytes::{Blob, Memory};
-use pm_subst::{ExpandRefused, Mode, commands, expand};
+use pm_subst::{ExpandRefused, Mode, expand};
 use pm_vars::Vars;
 use std::alloc::Global;
 
@@ -15,27 +14,6 @@ use std::alloc::Global;
 pub enum Expansion {
     Words(Vec<Blob>),
     TooLong(u64),
-}
-
-/// Whether the text has a backquoted command.
-pub fn runs_command(alloc: Global, text: &[u8], mode: Mode) -> Result<bool, Memory>
-    ensures { IfOk result (λ runs. runs ≡ has_command mode text.now) }
-{
-    let commands = commands(alloc, text, mode)?;
-    Ok(!commands.is_empty())
-}
-
-/// Expands a text that has no command.
-pub fn expand_plain(
-    alloc: Global,
-    text: &[u8],
-    mode: Mode,
-    vars: &Vars,
-) -> Result<Expansion, Memory>
-    requires { has_command mode text.now ≡ false }
-    ensures { IfOk result (λ expansion. IsExpansion mode text.now vars.now [] expansion) }
-{
-    expand_text(alloc, text, mode, vars, &[])
 }
 
 /// Expands a text, with the outputs of its commands in their order.

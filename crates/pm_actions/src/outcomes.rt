@@ -8,7 +8,7 @@ use crate::saying::{push_forced, push_stuck};
 use pm_bytes::{Blob, Memory};
 use pm_journal::{
     couldnt_lock, couldnt_start, couldnt_write_out, input_closed, lost_contact, output_too_long,
-    program_failure,
+    program_failure, value_too_long,
 };
 use pm_meaning::{Outcome, Trial};
 use pm_recipe::Flags;
@@ -59,6 +59,7 @@ fn push_outcome(
         Outcome::Closed => lines.push_back(input_closed(alloc, line)?)?,
         Outcome::Code(code) => push_code(alloc, flags, line, code, lines)?,
         Outcome::TooLong => lines.push_back(output_too_long(alloc, line)?)?,
+        Outcome::Overflow(size) => lines.push_back(value_too_long(alloc, size)?)?,
         Outcome::Unwritten => lines.push_back(couldnt_write_out(alloc)?)?,
     }
     Ok(())

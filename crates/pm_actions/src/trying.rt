@@ -1,5 +1,5 @@
 //! An errand under its lock file, where one is asked for.
-ghost use Rattle.std.specs.Prelude.{◌≡◌, false, Some, None};
+ghost use Rattle.std.specs.Prelude.{◌≡◌, ◌+◌, ◌<◌, ◌≤◌, false, length, Some, None, IfOk, OnOk};
 ghost use Rattle.pm_journal.specs.Executed.{Carries};
 ghost use Rattle.pm_journal.specs.Held.{Keeping, holds_name};
 ghost use Rattle.pm_journal.specs.Plan.{Plan};
@@ -11,14 +11,23 @@ ghost use Rattle.pm_actions.specs.Errands.{trying_of, IsWork};
 ghost use Rattle.pm_actions.specs.Turning.{turn_of};
 
 use crate::attempting::is_stuck;
-use crate::errands::{Errand, carry, is_fine};
+use crate::ends::is_fine;
+use crate::errands::{Errand, carry};
 use crate::locks::lock_rule;
 use pm_acts::{Outside, give, take};
 use pm_bytes::{Memory, Name};
-use pm_journal::{Journal, LockEnd};
+use pm_journal::{HeldLocks, Journal, LockEnd};
 use pm_meaning::{End, Process, Trial, succeed};
 use pm_recipe::Flags;
 use std::alloc::Global;
+
+// A lock that is to be taken: its name, for the entry and for the held locks too.
+#[derive(Drop)]
+struct LockRequest {
+    name: Name,
+    noted: Name,
+    kept: Name,
+}
 
 /// Does the errand under the lock of this name.
 pub fn try_under<D: Outside>(
@@ -39,7 +48,13 @@ pub fn try_under<D: Outside>(
 {
     match lock {
         None => try_free(alloc, errand, flags, process, outside, journal),
-        Some(name) => try_locked(alloc, name, errand, flags, process, outside, journal),
+        Some(name) => match lock_request(alloc, name, &mut process.locks, journal) {
+            Err(Memory) => {
+                let_go(errand);
+                Err(Memory)
+            }
+            Ok(request) => try_locked(alloc, request, errand, flags, process, outside, journal),
+        },
     }
 }
 
@@ -62,28 +77,53 @@ fn try_free<D: Outside>(
     Ok(Trial::Unlocked(outcome))
 }
 
-// The lock's entry and that of its removal have room too. After want of memory in the errand the lock is still held.
-fn try_locked<D: Outside>(
+// Copies the lock's name; its entry and that of its removal have room too.
+fn lock_request(
     alloc: Global,
     name: Name,
+    locks: &mut HeldLocks,
+    journal: &mut Journal,
+) -> Result<LockRequest, Memory>
+    requires keeping { Keeping journal.old locks.old.names }
+    ensures name { IfOk result (λ request. request.name ≡ name) }
+    ensures noted { IfOk result (λ request. request.noted ≡ request.name) }
+    ensures kept { IfOk result (λ request. request.kept ≡ request.name) }
+    ensures space { OnOk result (0 < locks.new.room) }
+    ensures room { OnOk result (length locks.new.names + 3 ≤ journal.new.room) }
+    ensures names { locks.new.names ≡ locks.old.names }
+    ensures entries { journal.new.entries ≡ journal.old.entries }
+    ensures keeping { Keeping journal.new locks.new.names }
+{
+    let noted = name.copy(alloc)?;
+    let kept = name.copy(alloc)?;
+    locks.reserve()?;
+    journal.reserve(locks.len() + 3)?;
+    Ok(LockRequest { name, noted, kept })
+}
+
+// After want of memory in the errand the lock is still held.
+fn try_locked<D: Outside>(
+    alloc: Global,
+    request: LockRequest,
     errand: Errand,
     flags: Flags,
     process: &mut Process,
     outside: &mut D,
     journal: &mut Journal,
 ) -> Result<Trial, Memory>
-    requires free { holds_name process.old.locks.names name ≡ false }
+    requires noted { request.noted ≡ request.name }
+    requires kept { request.kept ≡ request.name }
+    requires free { holds_name process.old.locks.names request.name ≡ false }
+    requires space { 0 < process.old.locks.room }
+    requires room { length process.old.locks.names + 3 ≤ journal.old.room }
     requires keeping { Keeping journal.old process.old.locks.names }
     ensures carries { (work : Mind → Plan Tried) → IsWork flags errand process.old.vars work
-        → Carries (tried_under (Some name) work (mind_of process.old)) (λ trial. trying_of trial (mind_of process.new)) result
+        → Carries (tried_under (Some request.name) work (mind_of process.old)) (λ trial. trying_of trial (mind_of process.new)) result
         journal.old journal.new (D.told outside.old) (D.told outside.new) }
     ensures keeping { Keeping journal.new process.new.locks.names }
 {
+    let LockRequest { name, noted, kept } = request;
     let rule = lock_rule(&process.vars);
-    let noted = name.copy(alloc)?;
-    let kept = name.copy(alloc)?;
-    process.locks.reserve()?;
-    journal.reserve(process.locks.len() + 3)?;
     match take(&mut process.locks, noted, kept, rule, outside, journal) {
         LockEnd::Held { forced, .. } => {
             let outcome = carry(alloc, errand, flags, process, outside, journal)?;

@@ -1,25 +1,47 @@
+use Rattle.std.proofs.Common.{◌∙◌}
 use Rattle.pm_recipe.specs.View.{act_of}
-use Rattle.pm_meaning.specs.Acting.{run_by, act_on}
-use Rattle.pm_meaning.specs.Delivering.{deliver}
+use Rattle.pm_meaning.specs.Acting.{act_on}
 use Rattle.pm_meaning.specs.ProgramActions.{write_out}
 use Rattle.pm_meaning.specs.Minds.{mind_of}
 use Rattle.pm_actions.specs.Names.{top_of}
-use Rattle.pm_actions.proofs.DeliverLemmas.{carried, ends_unbuilt, acts_otherwise, stores, runs_line, writes_out}
+use Rattle.pm_actions.proofs.DeliverLemmas.{carried, ends_unbuilt, acts_block, stores, pipes, captures, forwards, writes_out}
 use Rattle.pm_actions.proofs.delivering.perform.Goals as goal
 
 pub returns-in-Mailbox-clause-carries : goal.returns-in-Mailbox-clause-carries
 returns-in-Mailbox-clause-carries g c =
     let p = mind_of c.args.process.now in
     let top = top_of c.args.recipe.now in
-    let same = stores top c.args.recipe.now.action c.in-Mailbox.text c.as_slice.result.now p c.in-Mailbox.is c.as_slice.ensures in
-    carried (deliver top.flags top.lock c.as_slice.result.now p) (act_on top (act_of c.args.recipe.now.action) p) _ _ _ _ _ _ same c.deliver_mail.ensures.carries
+    let action = c.args.recipe.now.action in
+    let o = c.order_of-order.result in
+    let e = c.order_of-order.ensures in
+    carried _ (act_on top (act_of action) p) _ _ _ _ _ _ (stores top action c.in-Mailbox.text o.text.now o.flags o.lock.now p c.in-Mailbox.is (e.flags, e.lock, e.text)) c.deliver_mail.ensures.carries
 
 pub returns-in-Pipe-clause-carries : goal.returns-in-Pipe-clause-carries
 returns-in-Pipe-clause-carries g c =
     let p = mind_of c.args.process.now in
     let top = top_of c.args.recipe.now in
-    let same = runs_line top c.args.recipe.now.action c.in-Pipe.line c.as_slice-in-Pipe.result.now p c.in-Pipe.is c.as_slice-in-Pipe.ensures in
-    carried (run_by top.flags top.lock c.as_slice-in-Pipe.result.now p) (act_on top (act_of c.args.recipe.now.action) p) _ _ _ _ _ _ same c.pipe_or_filter.ensures.carries
+    let action = c.args.recipe.now.action in
+    let o = c.order_of-order-in-Pipe.result in
+    let e = c.order_of-order-in-Pipe.ensures in
+    carried _ (act_on top (act_of action) p) _ _ _ _ _ _ (pipes top action c.in-Pipe.line o.text.now o.flags o.lock.now p c.in-Pipe.is (e.flags, e.lock, e.text)) c.pipe.ensures.carries
+
+pub returns-in-Capture-clause-carries : goal.returns-in-Capture-clause-carries
+returns-in-Capture-clause-carries g c =
+    let p = mind_of c.args.process.now in
+    let top = top_of c.args.recipe.now in
+    let action = c.args.recipe.now.action in
+    let o = c.order_of-order-in-Capture.result in
+    let e = c.order_of-order-in-Capture.ensures in
+    carried _ (act_on top (act_of action) p) _ _ _ _ _ _ (captures top action c.in-Capture.line o.text.now o.flags o.lock.now p c.in-Capture.name c.in-Capture.is (e.flags, e.lock, e.text)) c.capture.ensures.carries
+
+pub returns-in-Forward-clause-carries : goal.returns-in-Forward-clause-carries
+returns-in-Forward-clause-carries g c =
+    let p = mind_of c.args.process.now in
+    let top = top_of c.args.recipe.now in
+    let action = c.args.recipe.now.action in
+    let o = c.order_of-order-in-Forward.result in
+    let e = c.order_of-order-in-Forward.ensures in
+    carried _ (act_on top (act_of action) p) _ _ _ _ _ _ (forwards top action c.in-Forward.text o.text.now o.flags o.lock.now p c.in-Forward.is (e.flags, e.lock, e.text)) c.forward.ensures.carries
 
 pub returns-in-WriteOut-clause-carries : goal.returns-in-WriteOut-clause-carries
 returns-in-WriteOut-clause-carries g c =
@@ -27,7 +49,7 @@ returns-in-WriteOut-clause-carries g c =
     let top = top_of c.args.recipe.now in
     carried (write_out top.flags top.lock p) (act_on top (act_of c.args.recipe.now.action) p) _ _ _ _ _ _ (writes_out top c.args.recipe.now.action p c.in-WriteOut.is) c.write_out.ensures.carries
 
-pub returns-in_default : goal.returns-in_default
-returns-in_default g c =
+pub returns-in-Block : goal.returns-in-Block
+returns-in-Block g c =
     let p = mind_of c.args.process.now in
-    record { carries = (ends_unbuilt p _ _ _ (acts_otherwise (top_of c.args.recipe.now) c.args.recipe.now.action p c.in_default.not-Mailbox c.in_default.not-Pipe c.in_default.not-WriteOut), tt); keeping = c.requires.keeping }
+    record { carries = (ends_unbuilt p _ _ _ (acts_block (top_of c.args.recipe.now) c.args.recipe.now.action _ p c.in-Block.is), tt); keeping = c.requires.keeping }

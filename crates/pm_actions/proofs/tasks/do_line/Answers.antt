@@ -1,21 +1,17 @@
-use Rattle.std.proofs.Common.{[], refl, rules}
+use Rattle.std.proofs.Common.{refl, rules}
 use Rattle.pm_host.specs.declared.command.Command.{Command}
 use Rattle.pm_journal.specs.LogText.{value_too_long_line}
 use Rattle.pm_journal.specs.Plan.{Plan}
 use Rattle.pm_journal.proofs.WantsMemory.{on_err, out_anywhere}
 use Rattle.pm_meaning.specs.Changes.{overflowed}
 use Rattle.pm_meaning.specs.Minds.{Mind, mind_of}
-use Rattle.pm_meaning.specs.ProgramActions.{Tried, feed, fed_piece, do_named, unusable_text, do_line}
-use Rattle.pm_meaning.specs.Programs.{line_of}
+use Rattle.pm_meaning.specs.ProgramActions.{Tried, work_of, fed_piece, do_named, unusable_text, do_line}
 use Rattle.pm_meaning.specs.Turns.{GoesOn, say_then, refuse_name}
 use Rattle.pm_meaning.specs.declared.process.ProgramLine.TheVariants.{Runs, NoWords, Unusable, TooLong}
 use Rattle.pm_actions.specs.Errands.{task_of}
 use Rattle.pm_actions.proofs.DeliverLemmas.{carried}
 use Rattle.pm_actions.proofs.TaskLemmas.{read_so}
 use Rattle.pm_actions.proofs.tasks.do_line.Goals as goal
-
-pub returns-in_err-read-clause-carries : goal.returns-in_err-read-clause-carries
-returns-in_err-read-clause-carries g c = (search rules, on_err _ _ (out_anywhere _ _ _ _ refl))
 
 pub returns-in_err-errand-in-Runs-clause-carries : goal.returns-in_err-errand-in-Runs-clause-carries
 returns-in_err-errand-in-Runs-clause-carries g c = (search rules, on_err _ _ (out_anywhere _ _ _ _ refl))
@@ -24,30 +20,29 @@ pub returns-in_ok-errand-in-Runs-clause-carries : goal.returns-in_ok-errand-in-R
 returns-in_ok-errand-in-Runs-clause-carries g c =
     let t = task_of c.args.task.now in
     let p = mind_of c.args.process.now in
-    let work : Command → Mind → Plan Tried = λ command. feed t.flags t.text command (fed_piece t.flags p) in
-    carried (do_named t c.args.word (work c.in-Runs.command) p) (do_line t c.args.word work (line_of [] t.text p) p) _ _ _ _ _ _
-    (read_so t c.args.word work (Runs c.in-Runs.command) c.in_ok-read.read (line_of [] t.text p) p c.in_ok-read.ensures c.in-Runs.is) (c.do_named.ensures.carries (work c.in-Runs.command) c.in_ok-errand-in-Runs.ensures)
+    let work : Command → Mind → Plan Tried = work_of t.purpose t.flags (fed_piece t.flags p) in
+    carried (do_named t c.args.word (work c.in-Runs.command) p) (do_line t c.args.word work c.args.line p) _ _ _ _ _ _
+    (read_so t c.args.word work (Runs c.in-Runs.command) c.args.line p c.in-Runs.is) (c.do_named.ensures.carries (work c.in-Runs.command) c.in_ok-errand-in-Runs.ensures)
 
 pub returns-in-NoWords-clause-carries : goal.returns-in-NoWords-clause-carries
 returns-in-NoWords-clause-carries g c =
     let t = task_of c.args.task.now in
     let p = mind_of c.args.process.now in
-    let work : Command → Mind → Plan Tried = λ command. feed t.flags t.text command (fed_piece t.flags p) in
-    carried (refuse_name t.text p) (do_line t c.args.word work (line_of [] t.text p) p) _ _ _ _ _ _
-    (read_so t c.args.word work NoWords c.in_ok-read.read (line_of [] t.text p) p c.in_ok-read.ensures c.in-NoWords.is) c.refuse.ensures.carries
+    let work : Command → Mind → Plan Tried = work_of t.purpose t.flags (fed_piece t.flags p) in
+    carried (refuse_name t.text p) (do_line t c.args.word work c.args.line p) _ _ _ _ _ _ (read_so t c.args.word work NoWords c.args.line p c.in-NoWords.is) c.refuse.ensures.carries
 
 pub returns-in-Unusable-clause-carries : goal.returns-in-Unusable-clause-carries
 returns-in-Unusable-clause-carries g c =
     let t = task_of c.args.task.now in
     let p = mind_of c.args.process.now in
-    let work : Command → Mind → Plan Tried = λ command. feed t.flags t.text command (fed_piece t.flags p) in
-    carried (refuse_name (unusable_text t c.args.word) p) (do_line t c.args.word work (line_of [] t.text p) p) _ _ _ _ _ _
-    (read_so t c.args.word work Unusable c.in_ok-read.read (line_of [] t.text p) p c.in_ok-read.ensures c.in-Unusable.is) c.refuse_line.ensures.carries
+    let work : Command → Mind → Plan Tried = work_of t.purpose t.flags (fed_piece t.flags p) in
+    carried (refuse_name (unusable_text t c.args.word) p) (do_line t c.args.word work c.args.line p) _ _ _ _ _ _
+    (read_so t c.args.word work Unusable c.args.line p c.in-Unusable.is) c.refuse_line.ensures.carries
 
 pub returns-in-TooLong-clause-carries : goal.returns-in-TooLong-clause-carries
 returns-in-TooLong-clause-carries g c =
     let t = task_of c.args.task.now in
     let p = mind_of c.args.process.now in
-    let work : Command → Mind → Plan Tried = λ command. feed t.flags t.text command (fed_piece t.flags p) in
-    carried (say_then p (value_too_long_line c.in-TooLong.length) (GoesOn (overflowed p))) (do_line t c.args.word work (line_of [] t.text p) p) _ _ _ _ _ _
-    (read_so t c.args.word work (TooLong c.in-TooLong.length) c.in_ok-read.read (line_of [] t.text p) p c.in_ok-read.ensures c.in-TooLong.is) c.skip_value.ensures.carries
+    let work : Command → Mind → Plan Tried = work_of t.purpose t.flags (fed_piece t.flags p) in
+    carried (say_then p (value_too_long_line c.in-TooLong.length) (GoesOn (overflowed p))) (do_line t c.args.word work c.args.line p) _ _ _ _ _ _
+    (read_so t c.args.word work (TooLong c.in-TooLong.length) c.args.line p c.in-TooLong.is) c.skip_value.ensures.carries

@@ -29,7 +29,7 @@ returns-clause-carries g c =
     let q = mind_of c.settle.new.process in
     let done = trying_of c.in_ok-trial.trial m in
     let said =
-    carried (say_each q c.in_ok-lines.lines.items (turn_of c.end_of-end.result q)) (after_trial t done) _ _ _ _ _ _ (said_after_trial t c.in_ok-trial.trial m q _ _ c.in_ok-lines.ensures c.settle.ensures.mind (c.end_of-end.ensures q)) c.say_each.ensures.carries in
+    carried (say_each q c.in_ok-lines.lines.items (turn_of c.end_of-end.result q)) (after_trial t done) _ _ _ _ _ _ (said_after_trial t _ c.in_ok-trial.trial m q _ _ c.is_final.ensures c.in_ok-lines.ensures c.settle.ensures.mind (c.end_of-end.ensures q)) c.say_each.ensures.carries in
     λ work is. (
       ok_map _ _ _ (λ end h. trial_then t c.args.lock work p done (turn_of end q) c.args.journal.now c.try_under.new.journal c.say_each.new.journal _ _ _ (c.in_ok-trial.ensures.carries work is).0 h) said.0,
       err_map _ _ _ (λ h. trial_then_out t c.args.lock work p done c.args.journal.now c.try_under.new.journal c.say_each.new.journal _ _ _ (c.in_ok-trial.ensures.carries work is).0 h) said.1,

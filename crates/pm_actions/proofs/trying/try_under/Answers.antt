@@ -1,10 +1,15 @@
-use Rattle.std.proofs.Common.{Some, sym, ap}
+use Rattle.std.proofs.Common.{ap}
+use Rattle.pm_journal.proofs.WantsMemory.{out_anywhere}
 use Rattle.pm_meaning.specs.Minds.{mind_of}
-use Rattle.pm_meaning.specs.ProgramActions.{try_under}
-use Rattle.pm_actions.proofs.DeliverLemmas.{carried}
+use Rattle.pm_actions.specs.Errands.{trying_of}
+use Rattle.pm_actions.proofs.TryLemmas.{request_then}
 use Rattle.pm_actions.proofs.trying.try_under.Goals as goal
 
-pub returns-in-Some-clause-carries : goal.returns-in-Some-clause-carries
-returns-in-Some-clause-carries g c =
+pub returns-in-Err-clause-carries : goal.returns-in-Err-clause-carries
+returns-in-Err-clause-carries g c = λ work is. (tt, out_anywhere _ _ _ _ c.lock_request.ensures.entries)
+
+pub returns-in-Ok-clause-carries : goal.returns-in-Ok-clause-carries
+returns-in-Ok-clause-carries g c =
     let p = mind_of c.args.process.now in
-    λ work is. carried (try_under (Some c.in-Some.name) work p) (try_under c.args.lock work p) _ _ _ _ _ _ (ap (λ l. try_under l work p) (sym c.in-Some.is)) (c.try_locked.ensures.carries work is)
+    λ work is. request_then work c.args.lock c.in-Some.name c.in-Ok.request.name p (record p { locks = c.lock_request.new.locks.names }) (λ trial. trying_of trial (mind_of c.try_locked.new.process)) c.try_locked.result
+    c.args.journal.now c.lock_request.new.journal c.try_locked.new.journal _ _ c.in-Some.is c.in-Ok.ensures.name (ap (λ l. record p { locks = l }) c.lock_request.ensures.names) c.lock_request.ensures.entries (c.try_locked.ensures.carries work is)

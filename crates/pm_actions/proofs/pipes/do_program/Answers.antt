@@ -1,0 +1,36 @@
+use Rattle.std.proofs.Common.{refl, rules, ◌∙◌}
+use Rattle.pm_journal.proofs.WantsMemory.{on_err, out_anywhere, out_front}
+use Rattle.pm_meaning.specs.Delivering.{make_ready}
+use Rattle.pm_meaning.specs.Minds.{mind_of}
+use Rattle.pm_meaning.specs.ProgramActions.{do_program}
+use Rattle.pm_actions.specs.Errands.{task_of}
+use Rattle.pm_actions.specs.Outputs.{ready_of}
+use Rattle.pm_actions.specs.Programs.{reading_of}
+use Rattle.pm_actions.proofs.DeliverLemmas.{carried}
+use Rattle.pm_actions.proofs.PipeLemmas.{with_task, task_first}
+use Rattle.pm_actions.proofs.Sequences.{then_carries, out_same}
+use Rattle.pm_actions.proofs.pipes.do_program.Goals as goal
+
+pub returns-in_err-of_lock-clause-carries : goal.returns-in_err-of_lock-clause-carries
+returns-in_err-of_lock-clause-carries g c = (search rules, on_err _ _ (out_anywhere _ _ _ _ refl))
+
+pub returns-in_err-of_text-clause-carries : goal.returns-in_err-of_text-clause-carries
+returns-in_err-of_text-clause-carries g c = (search rules, on_err _ _ (out_anywhere _ _ _ _ refl))
+
+pub returns-in_err-ready-clause-carries : goal.returns-in_err-ready-clause-carries
+returns-in_err-ready-clause-carries g c =
+    let t = task_of c.args.task.now in
+    let p = mind_of c.args.process.now in
+    let reading = reading_of c.args.reading t.text in
+    let same = task_first t reading c.as_slice.result.now c.as_slice-2.result.now p (c.as_slice.ensures.value ∙ c.in_ok-of_lock.ensures) (c.as_slice-2.ensures.value ∙ c.in_ok-of_text.ensures) in
+    (search rules, on_err _ _ (out_same _ (do_program t reading p) _ _ _ _ same (out_front (make_ready c.as_slice.result.now c.as_slice-2.result.now p) (with_task t reading) _ _ _ _ c.in_err-ready.ensures.carries.1)))
+
+pub returns-clause-carries : goal.returns-clause-carries
+returns-clause-carries g c =
+    let t = task_of c.args.task.now in
+    let p = mind_of c.args.process.now in
+    let reading = reading_of c.args.reading t.text in
+    let same = task_first t reading c.as_slice.result.now c.as_slice-2.result.now p (c.as_slice.ensures.value ∙ c.in_ok-of_lock.ensures) (c.as_slice-2.ensures.value ∙ c.in_ok-of_text.ensures) in
+    carried _ (do_program t reading p) _ _ _ _ _ _ same
+    (then_carries (make_ready c.as_slice.result.now c.as_slice-2.result.now p) (with_task t reading) (ready_of c.in_ok-ready.ready (mind_of c.make_ready.new.process)) _ _ _ _ _ _ _ _
+    c.in_ok-ready.ensures.carries.0 c.do_ready.ensures.carries)

@@ -1,0 +1,43 @@
+use Rattle.std.proofs.Common.{Option, List, ℕ, refl, rules, ap, ◌∙◌}
+use Rattle.pm_host.specs.declared.command.Command.{Command}
+use Rattle.pm_journal.specs.LogText.{value_too_long_line}
+use Rattle.pm_journal.specs.Plan.{Plan}
+use Rattle.pm_journal.proofs.WantsMemory.{on_err, out_anywhere}
+use Rattle.pm_meaning.specs.Changes.{overflowed}
+use Rattle.pm_meaning.specs.Minds.{Mind, mind_of}
+use Rattle.pm_meaning.specs.ProgramActions.{Tried, work_of, fed_piece, do_line, program_with}
+use Rattle.pm_meaning.specs.Turns.{Turn, GoesOn, say_then}
+use Rattle.pm_actions.specs.Errands.{task_of}
+use Rattle.pm_actions.specs.Outputs.{ready_of}
+use Rattle.pm_actions.specs.Programs.{reading_of}
+use Rattle.pm_actions.proofs.DeliverLemmas.{carried}
+use Rattle.pm_actions.proofs.TaskLemmas.{lock_too_long, lock_worded}
+use Rattle.pm_actions.proofs.pipes.do_ready.Goals as goal
+
+pub returns-in_err-text-clause-carries : goal.returns-in_err-text-clause-carries
+returns-in_err-text-clause-carries g c = (search rules, on_err _ _ (out_anywhere _ _ _ _ refl))
+
+pub returns-in_err-line-in-Word-clause-carries : goal.returns-in_err-line-in-Word-clause-carries
+returns-in_err-line-in-Word-clause-carries g c = (search rules, on_err _ _ (out_anywhere _ _ _ _ refl))
+
+pub returns-in-TooLong-clause-carries : goal.returns-in-TooLong-clause-carries
+returns-in-TooLong-clause-carries g c =
+    let t = task_of c.args.task.now in
+    let p = mind_of c.args.process.now in
+    let reading = reading_of c.args.reading t.text in
+    let r = ready_of c.args.ready.now p in
+    let next : Option (List ℕ) → Plan Turn = λ word. do_line t word (work_of t.purpose t.flags (fed_piece t.flags p)) (reading.read r.outputs p) p in
+    let h = rw (c.in-TooLong.is, c.as_slice.ensures.value) at c.in_ok-text.ensures in
+    carried (say_then p (value_too_long_line c.in-TooLong.length) (GoesOn (overflowed p))) (program_with t reading r) _ _ _ _ _ _ (lock_too_long t r.lock_outputs next c.in-TooLong.length p h) c.skip_value.ensures.carries
+
+pub returns-in_ok-line-in-Word-clause-carries : goal.returns-in_ok-line-in-Word-clause-carries
+returns-in_ok-line-in-Word-clause-carries g c =
+    let t = task_of c.args.task.now in
+    let p = mind_of c.args.process.now in
+    let reading = reading_of c.args.reading t.text in
+    let r = ready_of c.args.ready.now p in
+    let work : Command → Mind → Plan Tried = work_of t.purpose t.flags (fed_piece t.flags p) in
+    let next : Option (List ℕ) → Plan Turn = λ word. do_line t word work (reading.read r.outputs p) p in
+    let h = rw (c.in-Word.is, c.as_slice.ensures.value) at c.in_ok-text.ensures in
+    let read = c.in_ok-line-in-Word.ensures ∙ ap (λ l. reading.read l p) c.as_slice-in-Word.ensures.value in
+    carried (do_line t c.in-Word.word work c.in_ok-line-in-Word.line p) (program_with t reading r) _ _ _ _ _ _ (ap (λ l. do_line t c.in-Word.word work l p) read ∙ lock_worded t r.lock_outputs next c.in-Word.word p h) c.do_line.ensures.carries

@@ -1,0 +1,12 @@
+use Rattle.std.proofs.Common.{◌++◌, refl, rules, ap, ◌∙◌}
+use Rattle.pm_journal.proofs.WantsMemory.{on_err, out_anywhere}
+use Rattle.pm_actions.proofs.pipes.forward.Goals as goal
+
+pub returns-in_err-destination-clause-carries : goal.returns-in_err-destination-clause-carries
+returns-in_err-destination-clause-carries g c = (search rules, on_err _ _ (out_anywhere _ _ _ _ refl))
+
+pub returns-in_err-push_slice-clause-carries : goal.returns-in_err-push_slice-clause-carries
+returns-in_err-push_slice-clause-carries g c = (search rules, on_err _ _ (out_anywhere _ _ _ _ refl))
+
+pub forward_as-requires-clause-called : goal.forward_as-requires-clause-called
+forward_as-requires-clause-called g c = c.as_slice.ensures ∙ (c.in_ok-push_slice.ensures.ok ∙ ap (λ l. l ++ c.args.order.now.text.now) c.in_ok-destination.ensures)

@@ -1,0 +1,31 @@
+use Rattle.std.proofs.Common.{[], refl, rules, ◌∙◌}
+use Rattle.pm_journal.proofs.WantsMemory.{on_err, out_anywhere, out_front}
+use Rattle.pm_meaning.specs.Delivering.{make_ready}
+use Rattle.pm_meaning.specs.Minds.{mind_of}
+use Rattle.pm_meaning.specs.ProgramActions.{write_task, write_out}
+use Rattle.pm_actions.specs.Outputs.{ready_of}
+use Rattle.pm_actions.proofs.DeliverLemmas.{carried}
+use Rattle.pm_actions.proofs.PipeLemmas.{with_write, write_first}
+use Rattle.pm_actions.proofs.Sequences.{then_carries, out_same}
+use Rattle.pm_actions.proofs.pipes.write_out.Goals as goal
+
+pub returns-in_err-of_lock-clause-carries : goal.returns-in_err-of_lock-clause-carries
+returns-in_err-of_lock-clause-carries g c = (search rules, on_err _ _ (out_anywhere _ _ _ _ refl))
+
+pub returns-in_err-ready-clause-carries : goal.returns-in_err-ready-clause-carries
+returns-in_err-ready-clause-carries g c =
+    let p = mind_of c.args.process.now in
+    let flags = c.args.flags in
+    let lock = c.args.lock.now in
+    let same = write_first flags lock c.as_slice.result.now [] p (c.as_slice.ensures.value ∙ c.in_ok-of_lock.ensures) refl in
+    (search rules, on_err _ _ (out_same _ (write_out flags lock p) _ _ _ _ same (out_front (make_ready c.as_slice.result.now [] p) (with_write (write_task flags lock)) _ _ _ _ c.in_err-ready.ensures.carries.1)))
+
+pub returns-clause-carries : goal.returns-clause-carries
+returns-clause-carries g c =
+    let p = mind_of c.args.process.now in
+    let flags = c.args.flags in
+    let lock = c.args.lock.now in
+    let same = write_first flags lock c.as_slice.result.now [] p (c.as_slice.ensures.value ∙ c.in_ok-of_lock.ensures) refl in
+    carried _ (write_out flags lock p) _ _ _ _ _ _ same
+    (then_carries (make_ready c.as_slice.result.now [] p) (with_write (write_task flags lock)) (ready_of c.in_ok-ready.ready (mind_of c.make_ready.new.process)) _ _ _ _ _ _ _ _
+    c.in_ok-ready.ensures.carries.0 c.write_ready.ensures.carries)

@@ -1,0 +1,37 @@
+use Rattle.std.proofs.Common.{Option, List, ℕ, refl, rules}
+use Rattle.pm_journal.specs.LogText.{value_too_long_line}
+use Rattle.pm_journal.specs.Plan.{Plan}
+use Rattle.pm_journal.proofs.WantsMemory.{on_err, out_anywhere}
+use Rattle.pm_meaning.specs.Changes.{overflowed}
+use Rattle.pm_meaning.specs.Minds.{mind_of}
+use Rattle.pm_meaning.specs.ProgramActions.{write, fed_piece, do_named, write_with}
+use Rattle.pm_meaning.specs.Turns.{Turn, GoesOn, say_then}
+use Rattle.pm_actions.specs.Errands.{task_of}
+use Rattle.pm_actions.specs.Outputs.{ready_of}
+use Rattle.pm_actions.proofs.DeliverLemmas.{carried}
+use Rattle.pm_actions.proofs.TaskLemmas.{lock_too_long, lock_worded}
+use Rattle.pm_actions.proofs.pipes.write_ready.Goals as goal
+
+pub returns-in_err-text-clause-carries : goal.returns-in_err-text-clause-carries
+returns-in_err-text-clause-carries g c = (search rules, on_err _ _ (out_anywhere _ _ _ _ refl))
+
+pub returns-in_err-errand-in-Word-clause-carries : goal.returns-in_err-errand-in-Word-clause-carries
+returns-in_err-errand-in-Word-clause-carries g c = (search rules, on_err _ _ (out_anywhere _ _ _ _ refl))
+
+pub returns-in-TooLong-clause-carries : goal.returns-in-TooLong-clause-carries
+returns-in-TooLong-clause-carries g c =
+    let t = task_of c.args.task.now in
+    let p = mind_of c.args.process.now in
+    let r = ready_of c.args.ready.now p in
+    let next : Option (List ℕ) → Plan Turn = λ word. do_named t word (write (fed_piece t.flags p)) p in
+    let h = rw (c.in-TooLong.is, c.as_slice.ensures.value) at c.in_ok-text.ensures in
+    carried (say_then p (value_too_long_line c.in-TooLong.length) (GoesOn (overflowed p))) (write_with t r) _ _ _ _ _ _ (lock_too_long t r.lock_outputs next c.in-TooLong.length p h) c.skip_value.ensures.carries
+
+pub returns-in_ok-errand-in-Word-clause-carries : goal.returns-in_ok-errand-in-Word-clause-carries
+returns-in_ok-errand-in-Word-clause-carries g c =
+    let t = task_of c.args.task.now in
+    let p = mind_of c.args.process.now in
+    let r = ready_of c.args.ready.now p in
+    let next : Option (List ℕ) → Plan Turn = λ word. do_named t word (write (fed_piece t.flags p)) p in
+    let h = rw (c.in-Word.is, c.as_slice.ensures.value) at c.in_ok-text.ensures in
+    carried (next c.in-Word.word) (write_with t r) _ _ _ _ _ _ (lock_worded t r.lock_outputs next c.in-Word.word p h) (c.do_named.ensures.carries (write (fed_piece t.flags p)) c.in_ok-errand-in-Word.ensures)

@@ -1,0 +1,68 @@
+//! What came of a program or of standard output, by how that ended.
+ghost use Rattle.std.specs.Prelude.{◌≡◌};
+ghost use Rattle.pm_append.specs.Writing.{say_reply};
+ghost use Rattle.pm_meaning.specs.ProgramActions.{is_fine as was_done, code_outcome as outcome_by_code};
+ghost use Rattle.pm_meaning.specs.ProgramActions.{feed_outcome as outcome_of_feed, end_outcome as outcome_of_end};
+ghost use Rattle.pm_meaning.specs.ProgramActions.{write_outcome as outcome_of_write};
+
+use pm_append::WriteEnd;
+use pm_journal::RunEnd;
+use pm_meaning::Outcome;
+use pm_recipe::Flags;
+
+/// Whether it was done.
+pub fn is_fine(outcome: Outcome) -> bool
+    ensures { result ≡ was_done outcome }
+{
+    matches!(outcome, Outcome::Done)
+}
+
+/// What came of a program that was fed so many bytes, and is to take them all.
+pub fn feed_outcome(flags: Flags, count: u64, end: RunEnd) -> Outcome
+    ensures { result ≡ outcome_of_feed flags count end }
+{
+    match end {
+        RunEnd::Ended { code, took } => {
+            if took < count && !flags.ignore {
+                Outcome::Closed
+            } else {
+                code_outcome(flags, code)
+            }
+        }
+        RunEnd::NotStarted => Outcome::NotStarted,
+        RunEnd::Broken => Outcome::Lost,
+        RunEnd::TooLong => Outcome::TooLong,
+    }
+}
+
+/// What came of a program that may leave input.
+pub fn end_outcome(flags: Flags, end: RunEnd) -> Outcome
+    ensures { result ≡ outcome_of_end flags end }
+{
+    match end {
+        RunEnd::Ended { code, .. } => code_outcome(flags, code),
+        RunEnd::NotStarted => Outcome::NotStarted,
+        RunEnd::Broken => Outcome::Lost,
+        RunEnd::TooLong => Outcome::TooLong,
+    }
+}
+
+fn code_outcome(flags: Flags, code: u8) -> Outcome
+    ensures { result ≡ outcome_by_code flags code }
+{
+    if (flags.wait || flags.wait_quiet) && code != 0 {
+        Outcome::Code(code)
+    } else {
+        Outcome::Done
+    }
+}
+
+/// What came of a piece for standard output.
+pub fn write_outcome(end: WriteEnd) -> Outcome
+    ensures { result ≡ outcome_of_write (say_reply end) }
+{
+    match end {
+        WriteEnd::Wrote => Outcome::Done,
+        WriteEnd::Short(_) => Outcome::Unwritten,
+    }
+}

@@ -1,0 +1,312 @@
+//! Actions that hand the mail to a program: pipes, filters, captures and forwards, and `|` alone, which writes it to
+//! standard output (procmailrc(5), "Recipe action line"). All their commands are run before a text is expanded.
+ghost use Rattle.std.specs.Prelude.{◌≡◌, ◌++◌, codes, length, IfOk};
+ghost use Rattle.pm_journal.specs.Executed.{Carries};
+ghost use Rattle.pm_journal.specs.Held.{Keeping};
+ghost use Rattle.pm_meaning.specs.Minds.{mind_of};
+ghost use Rattle.pm_meaning.specs.ProgramActions.{pipe as piped, pipe_purpose as purpose_of_pipe};
+ghost use Rattle.pm_meaning.specs.ProgramActions.{capture_line as captured};
+ghost use Rattle.pm_meaning.specs.ProgramActions.{forward as forwarded, write_out as output_written, write_with};
+ghost use Rattle.pm_meaning.specs.ProgramActions.{do_program as program_done, program_with};
+ghost use Rattle.pm_meaning.specs.ProgramActions.{lock_commands as commands_of_lock};
+ghost use Rattle.pm_meaning.specs.Programs.{line_reading as reading_of_line};
+ghost use Rattle.pm_actions.specs.Errands.{task_of, purpose_of};
+ghost use Rattle.pm_actions.specs.Outputs.{ready_of};
+ghost use Rattle.pm_actions.specs.Programs.{reading_of};
+ghost use Rattle.pm_actions.specs.Turning.{turn_of};
+
+use crate::appended::appended_name;
+use crate::delivering::Order;
+use crate::errands::write_errand;
+use crate::forwards::forward_line;
+use crate::lock_texts::{LockText, lock_commands, lock_word};
+use crate::outputs::{Ready, make_ready};
+use crate::programs::{expanded_line, needs_shell, shell_line};
+use crate::skipping::skip_value;
+use crate::tasks::{Purpose, Task, do_line, do_named};
+use pm_acts::Outside;
+use pm_bytes::{Blob, Memory};
+use pm_journal::Journal;
+use pm_meaning::{End, Process, ProgramLine};
+use pm_recipe::Flags;
+use pm_subst::{Mode, commands};
+use std::alloc::Global;
+
+/// How the text of an action is read: as the line of a shell, as the words of a program, or as addresses.
+#[derive(Clone, Copy)]
+pub enum Reading {
+    Shell,
+    Plain,
+    Forward,
+}
+
+/// The mail goes to the program of the line. Under the flag f what comes out takes its place.
+pub fn pipe<D: Outside>(
+    alloc: Global,
+    order: &Order<'_>,
+    process: &mut Process,
+    outside: &mut D,
+    journal: &mut Journal,
+) -> Result<Option<End>, Memory>
+    requires keeping { Keeping journal.old process.old.locks.names }
+    ensures carries { let o = order.now in
+        Carries (piped o.flags o.lock.now o.text.now (mind_of process.old))
+        (λ end. turn_of end (mind_of process.new)) result
+        journal.old journal.new (D.told outside.old) (D.told outside.new) }
+    ensures keeping { Keeping journal.new process.new.locks.names }
+{
+    let task = Task {
+        flags: order.flags,
+        lock: order.lock,
+        automatic: appended_name(order.text),
+        text: order.text,
+        purpose: pipe_purpose(order.flags, order.text),
+    };
+    let reading = line_reading(order.text, process);
+    do_program(alloc, &task, reading, process, outside, journal)
+}
+
+fn pipe_purpose<'a>(flags: Flags, line: &'a [u8]) -> Purpose<'a>
+    ensures { purpose_of result ≡ purpose_of_pipe flags line.now }
+{
+    if flags.filter {
+        Purpose::Filters
+    } else {
+        Purpose::Delivers(line)
+    }
+}
+
+/// The mail goes to the program of the line, and what comes out is the value of this variable.
+pub fn capture<D: Outside>(
+    alloc: Global,
+    order: &Order<'_>,
+    name: &Blob,
+    process: &mut Process,
+    outside: &mut D,
+    journal: &mut Journal,
+) -> Result<Option<End>, Memory>
+    requires keeping { Keeping journal.old process.old.locks.names }
+    ensures carries { let o = order.now in
+        Carries (captured o.flags o.lock.now name.now o.text.now (mind_of process.old))
+        (λ end. turn_of end (mind_of process.new)) result
+        journal.old journal.new (D.told outside.old) (D.told outside.new) }
+    ensures keeping { Keeping journal.new process.new.locks.names }
+{
+    let task = Task {
+        flags: order.flags,
+        lock: order.lock,
+        automatic: appended_name(order.text),
+        text: order.text,
+        purpose: Purpose::Captures(name),
+    };
+    let reading = line_reading(order.text, process);
+    do_program(alloc, &task, reading, process, outside, journal)
+}
+
+/// The mail goes to the addresses of the text, by the program that sends mail.
+pub fn forward<D: Outside>(
+    alloc: Global,
+    order: &Order<'_>,
+    process: &mut Process,
+    outside: &mut D,
+    journal: &mut Journal,
+) -> Result<Option<End>, Memory>
+    requires keeping { Keeping journal.old process.old.locks.names }
+    ensures carries { let o = order.now in
+        Carries (forwarded o.flags o.lock.now o.text.now (mind_of process.old))
+        (λ end. turn_of end (mind_of process.new)) result
+        journal.old journal.new (D.told outside.old) (D.told outside.new) }
+    ensures keeping { Keeping journal.new process.new.locks.names }
+{
+    let mut destination = Blob::from_slice(alloc, b"!")?;
+    destination.push_slice(order.text)?;
+    forward_as(
+        alloc,
+        order.flags,
+        order.lock,
+        order.text,
+        destination.as_slice(),
+        process,
+        outside,
+        journal,
+    )
+}
+
+// The mail goes to the addresses of the text, and its destination is called so.
+fn forward_as<'a, D: Outside>(
+    alloc: Global,
+    flags: Flags,
+    lock: &'a Option<Blob>,
+    text: &'a [u8],
+    destination: &'a [u8],
+    process: &mut Process,
+    outside: &mut D,
+    journal: &mut Journal,
+) -> Result<Option<End>, Memory>
+    requires called { destination.now ≡ codes "!" ++ text.now }
+    requires keeping { Keeping journal.old process.old.locks.names }
+    ensures carries { Carries (forwarded flags lock.now text.now (mind_of process.old))
+        (λ end. turn_of end (mind_of process.new)) result
+        journal.old journal.new (D.told outside.old) (D.told outside.new) }
+    ensures keeping { Keeping journal.new process.new.locks.names }
+{
+    let task = Task {
+        flags,
+        lock,
+        automatic: b"",
+        text,
+        purpose: Purpose::Delivers(destination),
+    };
+    do_program(alloc, &task, Reading::Forward, process, outside, journal)
+}
+
+// A line with a byte of SHELLMETAS is left to the shell.
+fn line_reading(line: &[u8], process: &Process) -> Reading
+    ensures { reading_of result line.now ≡ reading_of_line line.now (mind_of process.now) }
+{
+    if needs_shell(line, process) {
+        Reading::Shell
+    } else {
+        Reading::Plain
+    }
+}
+
+// Runs the commands of the task's texts, and then the program that its own text names.
+fn do_program<D: Outside>(
+    alloc: Global,
+    task: &Task<'_>,
+    reading: Reading,
+    process: &mut Process,
+    outside: &mut D,
+    journal: &mut Journal,
+) -> Result<Option<End>, Memory>
+    requires keeping { Keeping journal.old process.old.locks.names }
+    ensures carries { let t = task_of task.now in
+        Carries (program_done t (reading_of reading t.text) (mind_of process.old))
+        (λ end. turn_of end (mind_of process.new)) result
+        journal.old journal.new (D.told outside.old) (D.told outside.new) }
+    ensures keeping { Keeping journal.new process.new.locks.names }
+{
+    let of_lock = lock_commands(alloc, task)?;
+    let of_text = text_commands(alloc, task.text, reading)?;
+    let ready = make_ready(
+        alloc,
+        of_lock.as_slice(),
+        of_text.as_slice(),
+        process,
+        outside,
+        journal,
+    )?;
+    do_ready(alloc, task, reading, &ready, process, outside, journal)
+}
+
+// The commands that are run before the text is read.
+fn text_commands(alloc: Global, text: &[u8], reading: Reading) -> Result<Vec<Blob>, Memory>
+    ensures { IfOk result (λ commands. commands.items ≡ (reading_of reading text.now).commands) }
+{
+    match reading {
+        Reading::Shell => Ok(Vec::new(alloc)),
+        Reading::Plain | Reading::Forward => commands(alloc, text, Mode::Many),
+    }
+}
+
+// Expands the text of the lock file, and then that of the task.
+fn do_ready<D: Outside>(
+    alloc: Global,
+    task: &Task<'_>,
+    reading: Reading,
+    ready: &Ready,
+    process: &mut Process,
+    outside: &mut D,
+    journal: &mut Journal,
+) -> Result<Option<End>, Memory>
+    requires locks { length ready.now.lock_outputs.items ≡ length (commands_of_lock (task_of task.now)) }
+    requires each { length ready.now.outputs.items ≡ length (reading_of reading task.now.text.now).commands }
+    requires keeping { Keeping journal.old process.old.locks.names }
+    ensures carries { let t = task_of task.now in
+        Carries (program_with t (reading_of reading t.text) (ready_of ready.now (mind_of process.old)))
+        (λ end. turn_of end (mind_of process.new)) result
+        journal.old journal.new (D.told outside.old) (D.told outside.new) }
+    ensures keeping { Keeping journal.new process.new.locks.names }
+{
+    let text = lock_word(alloc, task, ready.lock_outputs.as_slice(), process)?;
+    match text {
+        LockText::TooLong(length) => skip_value(alloc, length, process, outside, journal),
+        LockText::Word(word) => {
+            let line = read_text(alloc, task.text, reading, ready.outputs.as_slice(), process)?;
+            do_line(alloc, task, word, line, process, outside, journal)
+        }
+    }
+}
+
+// The text as a program with its words, with the outputs of its commands.
+fn read_text(
+    alloc: Global,
+    text: &[u8],
+    reading: Reading,
+    outputs: &[Blob],
+    process: &Process,
+) -> Result<ProgramLine, Memory>
+    requires { length outputs.now ≡ length (reading_of reading text.now).commands }
+    ensures { IfOk result (λ line. line ≡ (reading_of reading text.now).read outputs.now (mind_of process.now)) }
+{
+    match reading {
+        Reading::Shell => shell_line(alloc, text, process),
+        Reading::Plain => expanded_line(alloc, text, outputs, process),
+        Reading::Forward => forward_line(alloc, text, outputs, process),
+    }
+}
+
+/// The mail goes to standard output.
+pub fn write_out<D: Outside>(
+    alloc: Global,
+    flags: Flags,
+    lock: &Option<Blob>,
+    process: &mut Process,
+    outside: &mut D,
+    journal: &mut Journal,
+) -> Result<Option<End>, Memory>
+    requires keeping { Keeping journal.old process.old.locks.names }
+    ensures carries { Carries (output_written flags lock.now (mind_of process.old))
+        (λ end. turn_of end (mind_of process.new)) result
+        journal.old journal.new (D.told outside.old) (D.told outside.new) }
+    ensures keeping { Keeping journal.new process.new.locks.names }
+{
+    let task = Task {
+        flags,
+        lock,
+        automatic: b"",
+        text: b"|",
+        purpose: Purpose::Delivers(b"|"),
+    };
+    let of_lock = lock_commands(alloc, &task)?;
+    let ready = make_ready(alloc, of_lock.as_slice(), &[], process, outside, journal)?;
+    write_ready(alloc, &task, &ready, process, outside, journal)
+}
+
+// Expands the text of the lock file, and then writes.
+fn write_ready<D: Outside>(
+    alloc: Global,
+    task: &Task<'_>,
+    ready: &Ready,
+    process: &mut Process,
+    outside: &mut D,
+    journal: &mut Journal,
+) -> Result<Option<End>, Memory>
+    requires locks { length ready.now.lock_outputs.items ≡ length (commands_of_lock (task_of task.now)) }
+    requires keeping { Keeping journal.old process.old.locks.names }
+    ensures carries { Carries
+        (write_with (task_of task.now) (ready_of ready.now (mind_of process.old)))
+        (λ end. turn_of end (mind_of process.new)) result
+        journal.old journal.new (D.told outside.old) (D.told outside.new) }
+    ensures keeping { Keeping journal.new process.new.locks.names }
+{
+    let text = lock_word(alloc, task, ready.lock_outputs.as_slice(), process)?;
+    match text {
+        LockText::TooLong(length) => skip_value(alloc, length, process, outside, journal),
+        LockText::Word(word) => {
+            let errand = write_errand(alloc, task.flags, process)?;
+            do_named(alloc, task, word, errand, process, outside, journal)
+        }
+    }
+}
