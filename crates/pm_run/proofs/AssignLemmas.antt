@@ -6,7 +6,7 @@ use Rattle.pm_host.specs.declared.answers.Looked.{Looked}
 use Rattle.pm_host.specs.declared.answers.Looked.TheVariants.{File as LookedFile, Folder, Nothing, Failed as LookFailed}
 use Rattle.pm_journal.specs.JournalState.{JournalState}
 use Rattle.pm_journal.specs.Entries.{View}
-use Rattle.pm_journal.specs.LogText.{couldnt_chdir_line, unusable_name_line}
+use Rattle.pm_journal.specs.LogText.{couldnt_chdir_line, unusable_name_line, host_mismatched_line}
 use Rattle.pm_journal.specs.declared.acts.Act.TheVariants.{Probe, SayErr}
 use Rattle.pm_journal.specs.declared.acts.Reply.TheVariants.{Found}
 use Rattle.pm_subst.specs.Commands.{commands_in}
@@ -15,12 +15,12 @@ use Rattle.pm_journal.specs.Plan.{Plan, Ends, and_then, ask}
 use Rattle.pm_journal.specs.Executed.{Executes, OutOfMemory}
 use Rattle.pm_meaning.specs.Changes.{with_variable, without_variable, with_base}
 use Rattle.pm_meaning.specs.Outputs.{Outputs, outputs_of}
-use Rattle.pm_meaning.specs.Turns.{Turn, GoesOn, Halts, say_then, not_built, is_too_long, skip_value}
-use Rattle.pm_meaning.specs.Assigning.{is_later, leads_elsewhere, value_in, probed, change_folder, assigned, assign_with, assign, unset}
+use Rattle.pm_meaning.specs.Turns.{Turn, GoesOn, Halts, EndsFile, say_then, refuse_name, not_built, is_too_long, skip_value}
+use Rattle.pm_meaning.specs.Assigning.{is_later, value_in, probed, change_folder, include_rcfile, switch_rcfile, change_host, change_rcfile, assigned, assign_with, assign, unset}
 use Rattle.pm_meaning.specs.GlobalLock.{drop_lock, change_lock}
-use Rattle.pm_meaning.specs.Texts.{is_file_text}
+use Rattle.pm_meaning.specs.Texts.{is_empty, is_file_text}
 use Rattle.pm_meaning.specs.Minds.{Mind}
-use Rattle.pm_meaning.specs.declared.process.End.TheVariants.{NotBuilt}
+use Rattle.pm_meaning.specs.declared.process.End.TheVariants.{HostOff, NotBuilt}
 use Rattle.pm_journal.proofs.ActPlans.{executes_then}
 use Rattle.pm_journal.proofs.WantsMemory.{executes_nothing, out_then, out_anywhere}
 use Rattle.pm_acts.specs.Acts.{Says}
@@ -105,55 +105,104 @@ ended r plan x s e = subst (λ q. Executes q r x x s s) e (executes_nothing r x 
 
 -- what an assignment does once its variable is set
 abbrev lock_effect : List ℕ → List ℕ → Mind → Plan Turn
-lock_effect name value q = if bytes_eq name (codes "LOCKFILE") then change_lock value q else Ends (GoesOn q)
+lock_effect name value q = if bytes_eq name (codes "LOCKFILE") then change_lock value q else change_rcfile name value q
 
-abbrev effect : List ℕ → List ℕ → Mind → Plan Turn
-effect name value q = if bytes_eq name (codes "MAILDIR") then change_folder value q else lock_effect name value q
-
--- a value that leads elsewhere, that of MAILDIR, that of LOCKFILE, and a plain one
-pub led_away : (name value : List ℕ) (p : Mind) → leads_elsewhere name value p ≡ true → not_built p ≡ assigned name value p
-led_away name value p e = if_yes (leads_elsewhere name value p) (not_built p) (effect name value (with_variable name value p)) e
-
-pub folder_changed : (name value copy : List ℕ) (p q : Mind) → leads_elsewhere name value p ≡ false → bytes_eq name (codes "MAILDIR") ≡ true → copy ≡ value → q ≡ with_variable name value p → change_folder copy q ≡ assigned name value p
-folder_changed name value copy p q here folder same is =
+-- that of MAILDIR, that of LOCKFILE, and another
+pub folder_changed : (name value copy : List ℕ) (p q : Mind) → bytes_eq name (codes "MAILDIR") ≡ true → copy ≡ value → q ≡ with_variable name value p → change_folder copy q ≡ assigned name value p
+folder_changed name value copy p q folder same is =
     ap (λ v. change_folder v q) same ∙ (ap (change_folder value) is
-    ∙ (if_yes (bytes_eq name (codes "MAILDIR")) (change_folder value (with_variable name value p)) (lock_effect name value (with_variable name value p)) folder
-    ∙ if_no (leads_elsewhere name value p) (not_built p) (effect name value (with_variable name value p)) here))
+    ∙ if_yes (bytes_eq name (codes "MAILDIR")) (change_folder value (with_variable name value p)) (lock_effect name value (with_variable name value p)) folder)
 
-pub lock_changed : (name value copy : List ℕ) (p q : Mind) → leads_elsewhere name value p ≡ false → bytes_eq name (codes "MAILDIR") ≡ false → bytes_eq name (codes "LOCKFILE") ≡ true → copy ≡ value
+pub lock_changed : (name value copy : List ℕ) (p q : Mind) → bytes_eq name (codes "MAILDIR") ≡ false → bytes_eq name (codes "LOCKFILE") ≡ true → copy ≡ value
     → q ≡ with_variable name value p → change_lock copy q ≡ assigned name value p
-lock_changed name value copy p q here other lock same is =
+lock_changed name value copy p q other lock same is =
     ap (λ v. change_lock v q) same ∙ (ap (change_lock value) is
-    ∙ (if_yes (bytes_eq name (codes "LOCKFILE")) (change_lock value (with_variable name value p)) (Ends (GoesOn (with_variable name value p))) lock
-    ∙ (if_no (bytes_eq name (codes "MAILDIR")) (change_folder value (with_variable name value p)) (lock_effect name value (with_variable name value p)) other
-    ∙ if_no (leads_elsewhere name value p) (not_built p) (effect name value (with_variable name value p)) here)))
+    ∙ (if_yes (bytes_eq name (codes "LOCKFILE")) (change_lock value (with_variable name value p)) (change_rcfile name value (with_variable name value p)) lock
+    ∙ if_no (bytes_eq name (codes "MAILDIR")) (change_folder value (with_variable name value p)) (lock_effect name value (with_variable name value p)) other))
 
-pub set_plainly : (name value : List ℕ) (p q : Mind) → leads_elsewhere name value p ≡ false → bytes_eq name (codes "MAILDIR") ≡ false → bytes_eq name (codes "LOCKFILE") ≡ false → q ≡ with_variable name value p
-    → Ends (GoesOn q) ≡ assigned name value p
-set_plainly name value p q here other plain is =
-    ap (λ r. Ends (GoesOn r)) is
-    ∙ (if_no (bytes_eq name (codes "LOCKFILE")) (change_lock value (with_variable name value p)) (Ends (GoesOn (with_variable name value p))) plain
-    ∙ (if_no (bytes_eq name (codes "MAILDIR")) (change_folder value (with_variable name value p)) (lock_effect name value (with_variable name value p)) other
-    ∙ if_no (leads_elsewhere name value p) (not_built p) (effect name value (with_variable name value p)) here))
+pub set_otherwise : (name value copy : List ℕ) (p q : Mind) → bytes_eq name (codes "MAILDIR") ≡ false → bytes_eq name (codes "LOCKFILE") ≡ false → copy ≡ value
+    → q ≡ with_variable name value p → change_rcfile name copy q ≡ assigned name value p
+set_otherwise name value copy p q other plain same is =
+    ap (λ v. change_rcfile name v q) same ∙ (ap (change_rcfile name value) is
+    ∙ (if_no (bytes_eq name (codes "LOCKFILE")) (change_lock value (with_variable name value p)) (change_rcfile name value (with_variable name value p)) plain
+    ∙ if_no (bytes_eq name (codes "MAILDIR")) (change_folder value (with_variable name value p)) (lock_effect name value (with_variable name value p)) other))
+
+-- INCLUDERC, SWITCHRC, HOST, and a plain variable
+abbrev host_effect : List ℕ → List ℕ → Mind → Plan Turn
+host_effect name value p = if bytes_eq name (codes "HOST") then change_host value p else Ends (GoesOn p)
+
+abbrev switch_effect : List ℕ → List ℕ → Mind → Plan Turn
+switch_effect name value p = if bytes_eq name (codes "SWITCHRC") then switch_rcfile value p else host_effect name value p
+
+pub including : (name value : List ℕ) (p : Mind) → bytes_eq name (codes "INCLUDERC") ≡ true → include_rcfile value p ≡ change_rcfile name value p
+including name value p e = if_yes (bytes_eq name (codes "INCLUDERC")) (include_rcfile value p) (switch_effect name value p) e
+
+pub switching : (name value : List ℕ) (p : Mind) → bytes_eq name (codes "INCLUDERC") ≡ false → bytes_eq name (codes "SWITCHRC") ≡ true → switch_rcfile value p ≡ change_rcfile name value p
+switching name value p other e =
+    if_yes (bytes_eq name (codes "SWITCHRC")) (switch_rcfile value p) (host_effect name value p) e ∙ if_no (bytes_eq name (codes "INCLUDERC")) (include_rcfile value p) (switch_effect name value p) other
+
+-- a name that is neither of the first two
+others_first : (name value : List ℕ) (p : Mind) → bytes_eq name (codes "INCLUDERC") ≡ false → bytes_eq name (codes "SWITCHRC") ≡ false → host_effect name value p ≡ change_rcfile name value p
+others_first name value p other e =
+    if_no (bytes_eq name (codes "SWITCHRC")) (switch_rcfile value p) (host_effect name value p) e ∙ if_no (bytes_eq name (codes "INCLUDERC")) (include_rcfile value p) (switch_effect name value p) other
+
+pub hosting : (name value : List ℕ) (p : Mind) → bytes_eq name (codes "INCLUDERC") ≡ false → bytes_eq name (codes "SWITCHRC") ≡ false → bytes_eq name (codes "HOST") ≡ true → change_host value p ≡ change_rcfile name value p
+hosting name value p other last e = if_yes (bytes_eq name (codes "HOST")) (change_host value p) (Ends (GoesOn p)) e ∙ others_first name value p other last
+
+pub set_plainly : (name value : List ℕ) (p : Mind) → bytes_eq name (codes "INCLUDERC") ≡ false → bytes_eq name (codes "SWITCHRC") ≡ false → bytes_eq name (codes "HOST") ≡ false → Ends (GoesOn p) ≡ change_rcfile name value p
+set_plainly name value p other last e = if_no (bytes_eq name (codes "HOST")) (change_host value p) (Ends (GoesOn p)) e ∙ others_first name value p other last
+
+-- HOST got the host's name, or another, which was told
+pub host_same : (value : List ℕ) (p : Mind) (x : JournalState) (s : View) → bytes_eq value p.host_name ≡ true → Executes (change_host value p) (GoesOn p) x x s s
+host_same value p x s e = choose_then (bytes_eq value p.host_name) (Ends (GoesOn p)) (say_then p (host_mismatched_line value) (Halts HostOff p)) (GoesOn p) x x s s e (executes_nothing (GoesOn p) x x s refl)
+
+pub host_told : (value line : List ℕ) (p : Mind) (x y : JournalState) (a b : View) → bytes_eq value p.host_name ≡ false → line ≡ host_mismatched_line value → Says line x y a b → Executes (change_host value p) (Halts HostOff p) x y a b
+host_told value line p x y a b e is h =
+    choose_else (bytes_eq value p.host_name) (Ends (GoesOn p)) (say_then p (host_mismatched_line value) (Halts HostOff p)) (Halts HostOff p) x y a b e
+    (line_told p (host_mismatched_line value) line (Halts HostOff p) x y a b is h)
+
+pub host_out : (value line : List ℕ) (p : Mind) (x y : JournalState) (a b : View) → bytes_eq value p.host_name ≡ false → line ≡ host_mismatched_line value → OutOfMemory (ask (SayErr line)) x y a b → OutOfMemory (change_host value p) x y a b
+host_out value line p x y a b e is h =
+    else_out (bytes_eq value p.host_name) (Ends (GoesOn p)) (say_then p (host_mismatched_line value) (Halts HostOff p)) x y a b e
+    (line_out p (host_mismatched_line value) line (Halts HostOff p) x y a b is h)
+
+-- a value of INCLUDERC or SWITCHRC: none, a name, and a text that can't be one
+abbrev by_name : Plan Turn → (List ℕ → Plan Turn) → List ℕ → Mind → Plan Turn
+by_name none asks value p = if is_empty value then none else if is_file_text value then asks (full_name p.base value) else refuse_name value p
+
+pub named_nothing : (none : Plan Turn) (asks : List ℕ → Plan Turn) (value : List ℕ) (p : Mind) → is_empty value ≡ true → none ≡ by_name none asks value p
+named_nothing none asks value p e = if_yes (is_empty value) none (if is_file_text value then asks (full_name p.base value) else refuse_name value p) e
+
+pub named_so : (none : Plan Turn) (asks : List ℕ → Plan Turn) (value name full : List ℕ) (p : Mind) → is_empty value ≡ false → Some name ≡ file_name_of value → full ≡ full_name p.base name → asks full ≡ by_name none asks value p
+named_so none asks value name full p e found is =
+    let u = usable_then value name found in
+    ap asks (is ∙ ap (full_name p.base) u.1) ∙ (if_yes (is_file_text value) (asks (full_name p.base value)) (refuse_name value p) u.0
+    ∙ if_no (is_empty value) none (if is_file_text value then asks (full_name p.base value) else refuse_name value p) e)
+
+pub named_badly : (none : Plan Turn) (asks : List ℕ → Plan Turn) (value : List ℕ) (p : Mind) → is_empty value ≡ false → None ≡ file_name_of value → refuse_name value p ≡ by_name none asks value p
+named_badly none asks value p e bad =
+    if_no (is_file_text value) (asks (full_name p.base value)) (refuse_name value p) (unusable_then value bad)
+    ∙ if_no (is_empty value) none (if is_file_text value then asks (full_name p.base value) else refuse_name value p) e
 
 -- an unsetting of SWITCHRC, that of LOCKFILE, and a plain one
 abbrev after_unsetting : List ℕ → Mind → Plan Turn
 after_unsetting name q = if bytes_eq name (codes "LOCKFILE") then drop_lock q else Ends (GoesOn q)
 
-pub switch_unset : (name : List ℕ) (p : Mind) → bytes_eq name (codes "SWITCHRC") ≡ true → not_built p ≡ unset name p
-switch_unset name p e = if_yes (bytes_eq name (codes "SWITCHRC")) (not_built p) (after_unsetting name (without_variable name p)) e
+pub switch_unset : (name : List ℕ) (p q : Mind) → bytes_eq name (codes "SWITCHRC") ≡ true → q ≡ without_variable name p → Ends (EndsFile q) ≡ unset name p
+switch_unset name p q e is =
+    ap (λ r. Ends (EndsFile r)) is ∙ if_yes (bytes_eq name (codes "SWITCHRC")) (Ends (EndsFile (without_variable name p))) (after_unsetting name (without_variable name p)) e
 
 pub lock_unset : (name : List ℕ) (p q : Mind) → bytes_eq name (codes "SWITCHRC") ≡ false → bytes_eq name (codes "LOCKFILE") ≡ true → q ≡ without_variable name p → drop_lock q ≡ unset name p
 lock_unset name p q other lock is =
     ap drop_lock is
     ∙ (if_yes (bytes_eq name (codes "LOCKFILE")) (drop_lock (without_variable name p)) (Ends (GoesOn (without_variable name p))) lock
-    ∙ if_no (bytes_eq name (codes "SWITCHRC")) (not_built p) (after_unsetting name (without_variable name p)) other)
+    ∙ if_no (bytes_eq name (codes "SWITCHRC")) (Ends (EndsFile (without_variable name p))) (after_unsetting name (without_variable name p)) other)
 
 pub unset_plainly : (name : List ℕ) (p q : Mind) → bytes_eq name (codes "SWITCHRC") ≡ false → bytes_eq name (codes "LOCKFILE") ≡ false → q ≡ without_variable name p → Ends (GoesOn q) ≡ unset name p
 unset_plainly name p q other plain is =
     ap (λ r. Ends (GoesOn r)) is
     ∙ (if_no (bytes_eq name (codes "LOCKFILE")) (drop_lock (without_variable name p)) (Ends (GoesOn (without_variable name p))) plain
-    ∙ if_no (bytes_eq name (codes "SWITCHRC")) (not_built p) (after_unsetting name (without_variable name p)) other)
+    ∙ if_no (bytes_eq name (codes "SWITCHRC")) (Ends (EndsFile (without_variable name p))) (after_unsetting name (without_variable name p)) other)
 
 -- the commands of the value come first, unless the assignment isn't built yet
 abbrev pub given : List ℕ → List ℕ → Outputs → Plan Turn

@@ -1,5 +1,5 @@
 -- Blocks that are left.
-use Rattle.std.proofs.Common.{◌≡◌, true, false, List, ℕ, [], ◌∷◌, Option, Some, None, refl, sym, ap, subst}
+use Rattle.std.proofs.Common.{◌≡◌, ◌<◌, ◌∙◌, true, false, List, ℕ, [], ◌∷◌, ◌++◌, length, Option, Some, None, refl, sym, ap, subst, arith}
 use Rattle.pm_journal.specs.JournalState.{JournalState}
 use Rattle.pm_journal.specs.Entries.{View}
 use Rattle.pm_journal.specs.Held.{holds_name}
@@ -19,40 +19,82 @@ use Rattle.pm_meaning.specs.GlobalLock.{after_giving}
 use Rattle.pm_meaning.specs.Locks.{is_fault}
 use Rattle.pm_meaning.specs.Minds.{Mind}
 use Rattle.pm_meaning.specs.Turns.{say_then}
-use Rattle.pm_meaning.specs.Running.{State, Leaving, Over, step}
+use Rattle.pm_meaning.specs.Running.{State, Item, Running, LeavingFile, Leaving, Over, step}
 use Rattle.pm_meaning.specs.declared.process.End.{End}
 use Rattle.pm_meaning.specs.declared.process.Ending.{Ending}
 use Rattle.pm_acts.specs.Acts.{Says}
 use Rattle.pm_actions.proofs.Choices.{choose_then, then_out, line_told, line_out}
 use Rattle.pm_actions.proofs.DeliverLemmas.{if_yes, if_no}
-use Rattle.pm_run.specs.Frames.{block_locks}
+use Rattle.pm_run.specs.Frames.{block_locks, outer_locks, left_outside, left_in}
 use Rattle.pm_run.specs.declared.frames.Open.{Open}
+use Rattle.pm_run.specs.declared.frames.RcFrame.{RcFrame}
+use Rattle.pm_run.specs.declared.frames.Waiting.{Waiting}
 
 abbrev Onward : Type 0
 Onward = Next State Ending
 
-module _ (s : State) (items : List Open) (end : End) (p : Mind) (x y : JournalState) (a b : View) (h : Reaches {X = Ending} step s (Leaving (block_locks items) end p) x y a b) where
-  at_block : (block : Open) (rest : List Open) → items ≡ block ∷ rest → Reaches {X = Ending} step s (Leaving (block.lock ∷ block_locks rest) end p) x y a b
-  at_block block rest e = subst (λ l. Reaches {X = Ending} step s (Leaving (block_locks l) end p) x y a b) e h
+module _ (s : State) (locks : List (Option (List ℕ))) (end : End) (p : Mind) (x y : JournalState) (a b : View) (h : Reaches {X = Ending} step s (Leaving locks end p) x y a b) where
+  at_block : (lock : Option (List ℕ)) (rest : List (Option (List ℕ))) → locks ≡ lock ∷ rest → Reaches {X = Ending} step s (Leaving (lock ∷ rest) end p) x y a b
+  at_block lock rest e = subst (λ l. Reaches {X = Ending} step s (Leaving l end p) x y a b) e h
 
   -- one block was left
-  pub leave_on : (block : Open) (rest : List Open) (q : Mind) (z : JournalState) (c : View) → items ≡ block ∷ rest → Executes (give_maybe block.lock p) q y z b c
-      → Reaches {X = Ending} step s (Leaving (block_locks rest) end q) x z a c
-  leave_on block rest q z c e k =
-      let go : Mind → Plan Onward = λ r. Ends (Go (Leaving (block_locks rest) end r)) in
-      reaches_then step s (Leaving (block.lock ∷ block_locks rest) end p) (Leaving (block_locks rest) end q) x y z a b c (at_block block rest e)
-      (executes_then (give_maybe block.lock p) go q (Go (Leaving (block_locks rest) end q)) y z z b c c k (executes_nothing (Go (Leaving (block_locks rest) end q)) z z c refl))
+  pub leave_on : (lock : Option (List ℕ)) (rest : List (Option (List ℕ))) (q : Mind) (z : JournalState) (c : View) → locks ≡ lock ∷ rest → Executes (give_maybe lock p) q y z b c
+      → Reaches {X = Ending} step s (Leaving rest end q) x z a c
+  leave_on lock rest q z c e k =
+      let go : Mind → Plan Onward = λ r. Ends (Go (Leaving rest end r)) in
+      reaches_then step s (Leaving (lock ∷ rest) end p) (Leaving rest end q) x y z a b c (at_block lock rest e)
+      (executes_then (give_maybe lock p) go q (Go (Leaving rest end q)) y z z b c c k (executes_nothing (Go (Leaving rest end q)) z z c refl))
 
-  pub leave_wants : (block : Open) (rest : List Open) (z : JournalState) (c : View) → items ≡ block ∷ rest → OutOfMemory (give_maybe block.lock p) y z b c → Interrupted {X = Ending} step s x z a c
-  leave_wants block rest z c e k =
-      let go : Mind → Plan Onward = λ r. Ends (Go (Leaving (block_locks rest) end r)) in
-      interrupted_then step s (Leaving (block.lock ∷ block_locks rest) end p) x y z a b c (at_block block rest e) (out_front (give_maybe block.lock p) go y z b c k)
+  pub leave_wants : (lock : Option (List ℕ)) (rest : List (Option (List ℕ))) (z : JournalState) (c : View) → locks ≡ lock ∷ rest → OutOfMemory (give_maybe lock p) y z b c → Interrupted {X = Ending} step s x z a c
+  leave_wants lock rest z c e k =
+      let go : Mind → Plan Onward = λ r. Ends (Go (Leaving rest end r)) in
+      interrupted_then step s (Leaving (lock ∷ rest) end p) x y z a b c (at_block lock rest e) (out_front (give_maybe lock p) go y z b c k)
+
+  -- the blocks of the next rcfile come
+  pub leave_further : (rest : List (Option (List ℕ))) → rest ≡ locks → Reaches {X = Ending} step s (Leaving rest end p) x y a b
+  leave_further rest e = subst (λ l. Reaches {X = Ending} step s (Leaving l end p) x y a b) (sym e) h
 
   -- all blocks were left
-  pub leave_over : items ≡ [] → Reaches {X = Ending} step s (Over end p) x y a b
+  pub leave_over : locks ≡ [] → Reaches {X = Ending} step s (Over end p) x y a b
   leave_over e =
-      reaches_then step s (Leaving [] end p) (Over end p) x y y a b b (subst (λ l. Reaches {X = Ending} step s (Leaving (block_locks l) end p) x y a b) e h)
+      reaches_then step s (Leaving [] end p) (Over end p) x y y a b b (subst (λ l. Reaches {X = Ending} step s (Leaving l end p) x y a b) e h)
       (executes_nothing (Go (Over end p)) y y b refl)
+
+-- the same of the blocks of one rcfile, behind which these items are left
+module _ (s : State) (locks : List (Option (List ℕ))) (items : List Item) (p : Mind) (x y : JournalState) (a b : View) (h : Reaches {X = Ending} step s (LeavingFile locks items p) x y a b) where
+  in_block : (lock : Option (List ℕ)) (rest : List (Option (List ℕ))) → locks ≡ lock ∷ rest → Reaches {X = Ending} step s (LeavingFile (lock ∷ rest) items p) x y a b
+  in_block lock rest e = subst (λ l. Reaches {X = Ending} step s (LeavingFile l items p) x y a b) e h
+
+  pub file_on : (lock : Option (List ℕ)) (rest : List (Option (List ℕ))) (q : Mind) (z : JournalState) (c : View) → locks ≡ lock ∷ rest → Executes (give_maybe lock p) q y z b c
+      → Reaches {X = Ending} step s (LeavingFile rest items q) x z a c
+  file_on lock rest q z c e k =
+      let go : Mind → Plan Onward = λ r. Ends (Go (LeavingFile rest items r)) in
+      reaches_then step s (LeavingFile (lock ∷ rest) items p) (LeavingFile rest items q) x y z a b c (in_block lock rest e)
+      (executes_then (give_maybe lock p) go q (Go (LeavingFile rest items q)) y z z b c c k (executes_nothing (Go (LeavingFile rest items q)) z z c refl))
+
+  pub file_wants : (lock : Option (List ℕ)) (rest : List (Option (List ℕ))) (z : JournalState) (c : View) → locks ≡ lock ∷ rest → OutOfMemory (give_maybe lock p) y z b c → Interrupted {X = Ending} step s x z a c
+  file_wants lock rest z c e k =
+      let go : Mind → Plan Onward = λ r. Ends (Go (LeavingFile rest items r)) in
+      interrupted_then step s (LeavingFile (lock ∷ rest) items p) x y z a b c (in_block lock rest e) (out_front (give_maybe lock p) go y z b c k)
+
+  pub file_over : locks ≡ [] → Reaches {X = Ending} step s (Running items p) x y a b
+  file_over e =
+      reaches_then step s (LeavingFile [] items p) (Running items p) x y y a b b (subst (λ l. Reaches {X = Ending} step s (LeavingFile l items p) x y a b) e h)
+      (executes_nothing (Go (Running items p)) y y b refl)
+
+-- the locks of a frame whose first block is left
+pub frame_locks : (blocks rest : List Open) (block : Open) (outer : List (Option (List ℕ))) → blocks ≡ block ∷ rest → block_locks blocks ++ outer ≡ block.lock ∷ block_locks rest ++ outer
+frame_locks blocks rest block outer e = ap (λ l. block_locks l ++ outer) e
+
+pub blocks_fewer : (f g : RcFrame) (block : Open) → f.blocks.items ≡ block ∷ g.blocks.items → g.code ≡ f.code → g.place ≡ f.place → g.outer ≡ f.outer → left_in g < left_in f
+blocks_fewer f g block b c k o = omega (arith, ap length b, ap (λ q. length q.steps.items) c, k, ap (λ q. left_outside q.items) o)
+
+-- the rcfile that waits first is left next
+pub next_locks : (blocks : List Open) (outer rest : List Waiting) (w : Waiting) → blocks ≡ [] → outer ≡ w ∷ rest → block_locks w.blocks.items ++ outer_locks rest ≡ block_locks blocks ++ outer_locks outer
+next_locks blocks outer rest w none e = sym (ap outer_locks e) ∙ ap (λ l. block_locks l ++ outer_locks outer) (sym none)
+
+pub no_locks : (blocks : List Open) (outer : List Waiting) → blocks ≡ [] → outer ≡ [] → block_locks blocks ++ outer_locks outer ≡ []
+no_locks blocks outer none e = ap (λ l. block_locks l ++ outer_locks outer) none ∙ ap outer_locks e
 
 -- there is no lock
 pub none_given : (lock : Option (List ℕ)) (p : Mind) (x : JournalState) (s : View) → lock ≡ None → Executes (give_maybe lock p) p x x s s

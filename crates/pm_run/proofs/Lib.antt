@@ -7,4 +7,5 @@ mod GlobalLemmas
 mod FrameLemmas
 mod WalkLemmas
 mod LeaveLemmas
+mod RcfileLemmas
 mod GateLemmas

@@ -1,5 +1,5 @@
 -- The steps of a process, one after the other.
-use Rattle.std.proofs.Common.{◌≡◌, true, false, List, ℕ, [], ◌∷◌, ◌++◌, Option, Some, None, refl, sym, ap, ◌∙◌, subst, append_assoc}
+use Rattle.std.proofs.Common.{◌≡◌, ◌+◌, true, false, List, ℕ, [], ◌∷◌, ◌++◌, Option, Some, None, refl, sym, ap, ◌∙◌, subst, append_assoc}
 use Rattle.std.specs.Prelude.{ℤ}
 use Rattle.pm_bytes.specs.declared.environment.Environ.{Environ}
 use Rattle.pm_message.specs.FromLine.{makes_line, prepared_of}
@@ -18,10 +18,10 @@ use Rattle.pm_journal.specs.Plan.{Ends, and_then, ask}
 use Rattle.pm_journal.specs.Executed.{Executes, OutOfMemory, GivesEach}
 use Rattle.pm_meaning.specs.GlobalLock.{give_named}
 use Rattle.pm_meaning.specs.FirstValues.{login_name, first_process}
-use Rattle.pm_meaning.specs.Changes.{entered}
+use Rattle.pm_meaning.specs.Changes.{with_openings, opened, entered}
 use Rattle.pm_meaning.specs.Turns.{Turn, GoesOn, Halts, say_then}
 use Rattle.pm_journal.specs.Walking.{Next, Stop, Go, Means, IsUnfinished, Reaches, Completes, Interrupted}
-use Rattle.pm_meaning.specs.Running.{State, Arrived, Running, FallingOff, Over, Closing, step, renewal, begun, dated, unread, ahead, after_read, default_mailboxes, deliver_default, next_default}
+use Rattle.pm_meaning.specs.Running.{State, Arrived, Running, FallingOff, Over, Closing, step, begun, dated, unread, ahead, after_read, default_mailboxes, deliver_default, next_default}
 use Rattle.pm_meaning.specs.declared.command_line.CommandLine.{CommandLine}
 use Rattle.pm_meaning.specs.Minds.{Mind}
 use Rattle.pm_meaning.specs.declared.process.End.{End}
@@ -106,61 +106,68 @@ after_other : (name : List ℕ) (p : Mind) (reply : Reply) → None ≡ content_
 after_other name p (Content bytes) e = absurd (cc)
 after_other name p other e = refl
 
-pub rcfile_read : (name shown rc text : List ℕ) (content : Option (List ℕ)) (statements : Trees) (p q : Mind) (x y : JournalState) (a b : View) → ReadsWhole name content x y a b → content ≡ Some rc → text ≡ rc → statements ≡ rc_of text
-    → shown ≡ name → q ≡ entered shown p → Executes (step (opening name p)) (Go (Running (ahead statements []) q)) x y a b
-rcfile_read name shown rc text content statements p q x y a b h some t is same e =
+-- the first rcfile is the first one that is opened
+pub first_opening : (p : Mind) → p.openings ≡ 0 → with_openings 1 p ≡ opened p
+first_opening p e = ap (λ n. with_openings (n + 1) p) (sym e)
+
+pub rcfile_read : (name shown rc text : List ℕ) (content : Option (List ℕ)) (statements : Trees) (p m q : Mind) (x y : JournalState) (a b : View) → m ≡ opened p → ReadsWhole name content x y a b → content ≡ Some rc → text ≡ rc → statements ≡ rc_of text
+    → shown ≡ name → q ≡ entered shown m → Executes (step (opening name p)) (Go (Running (ahead statements []) q)) x y a b
+rcfile_read name shown rc text content statements p m q x y a b first h some t is same e =
     let next : Trees → Mind → Onward = λ s r. Go (Running (ahead s []) r) in
-    let last : Executes (after_read name [] p h.reply) (next statements q) y y b b =
-    subst (λ plan. Executes plan (next statements q) y y b b) (after_content name rc p h.reply (sym some ∙ h.content_is))
-    (subst (λ s. Executes (Ends (next s (entered name p))) (next statements q) y y b b) (is ∙ ap rc_of t)
-    (subst (λ r. Executes (Ends (next statements r)) (next statements q) y y b b) (e ∙ ap (λ n. entered n p) same) (executes_nothing (next statements q) y y b refl))) in
-    executes_then (ask (ReadFile name)) (after_read name [] p) h.reply (next statements q) x y y a b b h.executes last
+    let last : Executes (after_read name [] m h.reply) (next statements q) y y b b =
+    subst (λ plan. Executes plan (next statements q) y y b b) (after_content name rc m h.reply (sym some ∙ h.content_is))
+    (subst (λ s. Executes (Ends (next s (entered name m))) (next statements q) y y b b) (is ∙ ap rc_of t)
+    (subst (λ r. Executes (Ends (next statements r)) (next statements q) y y b b) (e ∙ ap (λ n. entered n m) same) (executes_nothing (next statements q) y y b refl))) in
+    subst (λ r. Executes (and_then (ask (ReadFile name)) (after_read name [] r)) (next statements q) x y a b) first
+    (executes_then (ask (ReadFile name)) (after_read name [] m) h.reply (next statements q) x y y a b b h.executes last)
 
 pub read_then_wants : (name : List ℕ) (content : Option (List ℕ)) (p : Mind) (x y : JournalState) (a b : View) → ReadsWhole name content x y a b → OutOfMemory (step (opening name p)) x y a b
-read_then_wants name content p x y a b h = out_then (ask (ReadFile name)) (after_read name [] p) h.reply x y y a b b h.executes (out_anywhere (after_read name [] p h.reply) y y b refl)
+read_then_wants name content p x y a b h = out_then (ask (ReadFile name)) (after_read name [] (opened p)) h.reply x y y a b b h.executes (out_anywhere (after_read name [] (opened p) h.reply) y y b refl)
 
-pub rcfile_missed : (name shown : List ℕ) (content : Option (List ℕ)) (next : Onward) (p : Mind) (x y z : JournalState) (a b c : View) → ReadsWhole name content x y a b → content ≡ None → shown ≡ name
-    → Executes (unread shown [] p) next y z b c → Executes (step (opening name p)) next x z a c
-rcfile_missed name shown content next p x y z a b c h none same k =
-    executes_then (ask (ReadFile name)) (after_read name [] p) h.reply next x y z a b c h.executes
-    (subst (λ plan. Executes plan next y z b c) (after_other name p h.reply (sym none ∙ h.content_is)) (subst (λ n. Executes (unread n [] p) next y z b c) same k))
+pub rcfile_missed : (name shown : List ℕ) (content : Option (List ℕ)) (next : Onward) (p m : Mind) (x y z : JournalState) (a b c : View) → m ≡ opened p → ReadsWhole name content x y a b → content ≡ None → shown ≡ name
+    → Executes (unread shown [] m) next y z b c → Executes (step (opening name p)) next x z a c
+rcfile_missed name shown content next p m x y z a b c first h none same k =
+    subst (λ r. Executes (and_then (ask (ReadFile name)) (after_read name [] r)) next x z a c) first
+    (executes_then (ask (ReadFile name)) (after_read name [] m) h.reply next x y z a b c h.executes
+    (subst (λ plan. Executes plan next y z b c) (after_other name m h.reply (sym none ∙ h.content_is)) (subst (λ n. Executes (unread n [] m) next y z b c) same k)))
 
-pub rcfile_missed_out : (name shown : List ℕ) (content : Option (List ℕ)) (p : Mind) (x y z : JournalState) (a b c : View) → ReadsWhole name content x y a b → content ≡ None → shown ≡ name
-    → OutOfMemory (unread shown [] p) y z b c → OutOfMemory (step (opening name p)) x z a c
-rcfile_missed_out name shown content p x y z a b c h none same k =
-    out_then (ask (ReadFile name)) (after_read name [] p) h.reply x y z a b c h.executes
-    (subst (λ plan. OutOfMemory plan y z b c) (after_other name p h.reply (sym none ∙ h.content_is)) (subst (λ n. OutOfMemory (unread n [] p) y z b c) same k))
+pub rcfile_missed_out : (name shown : List ℕ) (content : Option (List ℕ)) (p m : Mind) (x y z : JournalState) (a b c : View) → m ≡ opened p → ReadsWhole name content x y a b → content ≡ None → shown ≡ name
+    → OutOfMemory (unread shown [] m) y z b c → OutOfMemory (step (opening name p)) x z a c
+rcfile_missed_out name shown content p m x y z a b c first h none same k =
+    subst (λ r. OutOfMemory (and_then (ask (ReadFile name)) (after_read name [] r)) x z a c) first
+    (out_then (ask (ReadFile name)) (after_read name [] m) h.reply x y z a b c h.executes
+    (subst (λ plan. OutOfMemory plan y z b c) (after_other name m h.reply (sym none ∙ h.content_is)) (subst (λ n. OutOfMemory (unread n [] m) y z b c) same k)))
 
 pub reading_wants : (name : List ℕ) (p : Mind) (x y : JournalState) (a b : View) → OutOfMemory (ask (ReadFile name)) x y a b → OutOfMemory (step (opening name p)) x y a b
-reading_wants name p x y a b h = out_front (ask (ReadFile name)) (after_read name [] p) x y a b h
+reading_wants name p x y a b h = out_front (ask (ReadFile name)) (after_read name [] (opened p)) x y a b h
 
 -- the mail arrived with its From line, or gets none
-pub arrived_whole : (line : CommandLine) (env : Environ) (bytes : List ℕ) (message : Message) (p : Mind) (x : JournalState) (s : View) → makes_line bytes (renewal line.filter) ≡ false → message ≡ split_of bytes
-    → p ≡ first_process line.filter env message → Executes (step (Arrived line env bytes)) (Go (opening line.rcfile p)) x x s s
+pub arrived_whole : (line : CommandLine) (env : Environ) (bytes : List ℕ) (message : Message) (p : Mind) (x : JournalState) (s : View) → makes_line bytes line.renew ≡ false → message ≡ split_of bytes
+    → p ≡ first_process line.filter line.arguments env message → Executes (step (Arrived line env bytes)) (Go (opening line.rcfile p)) x x s s
 arrived_whole line env bytes message p x s e m is =
     let next : Mind → Onward = λ q. Go (opening line.rcfile q) in
-    choose_else (makes_line bytes (renewal line.filter)) (and_then (ask Moment) (dated line env bytes)) (Ends (begun line env (split_of bytes))) (next p) x x s s e
-    (subst (λ q. Executes (Ends (next q)) (next p) x x s s) (is ∙ ap (first_process line.filter env) m) (executes_nothing (next p) x x s refl))
+    choose_else (makes_line bytes line.renew) (and_then (ask Moment) (dated line env bytes)) (Ends (begun line env (split_of bytes))) (next p) x x s s e
+    (subst (λ q. Executes (Ends (next q)) (next p) x x s s) (is ∙ ap (first_process line.filter line.arguments env) m) (executes_nothing (next p) x x s refl))
 
 -- the mail got a From line with the moment
-pub arrived_dated : (line : CommandLine) (env : Environ) (bytes login : List ℕ) (moment : ℤ) (message : Message) (p : Mind) (x y : JournalState) (a b : View) → makes_line bytes (renewal line.filter) ≡ true → login ≡ login_name env
-    → message ≡ prepared_of bytes (renewal line.filter) login moment → p ≡ first_process line.filter env message → Executes (ask Moment) (Now moment) x y a b
+pub arrived_dated : (line : CommandLine) (env : Environ) (bytes login : List ℕ) (moment : ℤ) (message : Message) (p : Mind) (x y : JournalState) (a b : View) → makes_line bytes line.renew ≡ true → login ≡ login_name env
+    → message ≡ prepared_of bytes line.renew login moment → p ≡ first_process line.filter line.arguments env message → Executes (ask Moment) (Now moment) x y a b
     → Executes (step (Arrived line env bytes)) (Go (opening line.rcfile p)) x y a b
 arrived_dated line env bytes login moment message p x y a b e who m is h =
     let next : Mind → Onward = λ q. Go (opening line.rcfile q) in
-    choose_then (makes_line bytes (renewal line.filter)) (and_then (ask Moment) (dated line env bytes)) (Ends (begun line env (split_of bytes))) (next p) x y a b e
+    choose_then (makes_line bytes line.renew) (and_then (ask Moment) (dated line env bytes)) (Ends (begun line env (split_of bytes))) (next p) x y a b e
     (executes_then (ask Moment) (dated line env bytes) (Now moment) (next p) x y y a b b h
-    (subst (λ q. Executes (Ends (next q)) (next p) y y b b) (is ∙ ap (first_process line.filter env) (m ∙ ap (λ l. prepared_of bytes (renewal line.filter) l moment) who)) (executes_nothing (next p) y y b refl)))
+    (subst (λ q. Executes (Ends (next q)) (next p) y y b b) (is ∙ ap (first_process line.filter line.arguments env) (m ∙ ap (λ l. prepared_of bytes line.renew l moment) who)) (executes_nothing (next p) y y b refl)))
 
-pub dating_wants : (line : CommandLine) (env : Environ) (bytes : List ℕ) (x y : JournalState) (a b : View) → makes_line bytes (renewal line.filter) ≡ true → OutOfMemory (ask Moment) x y a b
+pub dating_wants : (line : CommandLine) (env : Environ) (bytes : List ℕ) (x y : JournalState) (a b : View) → makes_line bytes line.renew ≡ true → OutOfMemory (ask Moment) x y a b
     → OutOfMemory (step (Arrived line env bytes)) x y a b
 dating_wants line env bytes x y a b e h =
-    then_out (makes_line bytes (renewal line.filter)) (and_then (ask Moment) (dated line env bytes)) (Ends (begun line env (split_of bytes))) x y a b e (out_front (ask Moment) (dated line env bytes) x y a b h)
+    then_out (makes_line bytes line.renew) (and_then (ask Moment) (dated line env bytes)) (Ends (begun line env (split_of bytes))) x y a b e (out_front (ask Moment) (dated line env bytes) x y a b h)
 
-pub dated_then_wants : (line : CommandLine) (env : Environ) (bytes : List ℕ) (moment : ℤ) (x y : JournalState) (a b : View) → makes_line bytes (renewal line.filter) ≡ true → Executes (ask Moment) (Now moment) x y a b
+pub dated_then_wants : (line : CommandLine) (env : Environ) (bytes : List ℕ) (moment : ℤ) (x y : JournalState) (a b : View) → makes_line bytes line.renew ≡ true → Executes (ask Moment) (Now moment) x y a b
     → OutOfMemory (step (Arrived line env bytes)) x y a b
 dated_then_wants line env bytes moment x y a b e h =
-    then_out (makes_line bytes (renewal line.filter)) (and_then (ask Moment) (dated line env bytes)) (Ends (begun line env (split_of bytes))) x y a b e
+    then_out (makes_line bytes line.renew) (and_then (ask Moment) (dated line env bytes)) (Ends (begun line env (split_of bytes))) x y a b e
     (out_then (ask Moment) (dated line env bytes) (Now moment) x y y a b b h (out_anywhere (dated line env bytes (Now moment)) y y b refl))
 
 -- a process that is over, and gave its locks back

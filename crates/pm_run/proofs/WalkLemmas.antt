@@ -1,5 +1,5 @@
 -- One item of an rcfile.
-use Rattle.std.proofs.Common.{◌≡◌, ◌<◌, ◌≤◌, ◌+◌, ◌∙◌, ℕ, List, [], ◌∷◌, true, false, Option, Some, None, length, drop, get_or, refl, sym, ap, subst, arith}
+use Rattle.std.proofs.Common.{◌≡◌, ◌<◌, ◌≤◌, ◌+◌, ◌-◌, ◌*◌, ◌∙◌, ℕ, List, [], ◌∷◌, true, false, Option, Some, None, length, drop, get_or, refl, sym, ap, subst, arith}
 use Rattle.std.proofs.lemmas.List.{drop_more, length-map, get_or-map}
 use Rattle.pm_recipe.specs.Tree.{Top, Trees, Tree, Assign, Unset, Recipe, Defect, Act, Mailbox, Pipe, Capture, Forward, WriteOut, Block}
 use Rattle.pm_recipe.specs.View.{act_of, top_of}
@@ -20,19 +20,24 @@ use Rattle.pm_journal.proofs.WantsMemory.{executes_nothing, out_front, out_then,
 use Rattle.pm_meaning.specs.Blocks.{enter_block, begun_block, closed, give_maybe}
 use Rattle.pm_meaning.specs.Judging.{judge_first}
 use Rattle.pm_meaning.specs.Minds.{Mind}
+use Rattle.pm_meaning.specs.Changes.{with_rcfile, with_openings}
 use Rattle.pm_meaning.specs.Turns.{Turn, GoesOn}
-use Rattle.pm_meaning.specs.Running.{State, Running, Leaving, Item, statement, next_of, ahead, step}
+use Rattle.pm_meaning.specs.Running.{State, Running, LeavingFile, Leaving, Item, FileEnd, statement, next_of, ahead, behind_file, step}
 use Rattle.pm_meaning.specs.declared.process.End.{End}
 use Rattle.pm_meaning.specs.declared.process.Ending.{Ending}
-use Rattle.pm_actions.specs.Turning.{turn_of}
-use Rattle.pm_run.specs.Frames.{weave, steps_of, items_of, block_locks, left_in}
-use Rattle.pm_run.specs.Walk.{single, plan_of, gate_turn, stands, stepped_of, IsStepAt, EndsAt, Entered, less_by}
+use Rattle.pm_run.specs.Frames.{weave, steps_of, items_of, outer_items, block_locks, all_locks, left_outside, left_in, left_over}
+use Rattle.pm_run.specs.Turned.{turn_in}
+use Rattle.pm_run.specs.Walk.{single, plan_of, gate_turn, stands, stepped_of, IsStepAt, EndsAt, Entered, ComesBack, less_by}
 use Rattle.pm_run.specs.declared.frames.Open.{Open}
 use Rattle.pm_run.specs.declared.frames.RcFrame.{RcFrame}
+use Rattle.pm_run.specs.declared.frames.Waiting.{Waiting}
 use Rattle.pm_run.specs.declared.gates.Gate.{Gate}
 use Rattle.pm_run.specs.declared.gates.Gate.TheVariants as gate
+use Rattle.pm_run.specs.declared.turned.Turned.{Turned}
+use Rattle.pm_run.specs.declared.turned.Turned.TheVariants as turned
 use Rattle.pm_run.specs.declared.walk.Stepped.{Stepped}
-use Rattle.pm_run.proofs.FrameLemmas.{weave_does, weave_enters, weave_stops, weave_leaves, weave_over, weave_left, locks_woven, Jumps, jumps, single_here}
+use Rattle.pm_run.specs.declared.walk.Stepped.TheVariants as stepped
+use Rattle.pm_run.proofs.FrameLemmas.{weave_does, weave_enters, weave_stops, weave_leaves, weave_over, weave_left, locks_all, in_file_woven, behind_woven, Jumps, jumps, single_here}
 
 abbrev Onward : Type 0
 Onward = Next State Ending
@@ -81,9 +86,14 @@ single_is (Defect line text) p h = refl
 single_is (Recipe top act) p h = single_act top act p h
 
 -- what comes of a statement, in an rcfile
-next_by : (tree : Tree) (g : RcFrame) (end : Option End) (q : Mind) → next_of tree (items_of g) (turn_of end q) ≡ Go (stands (stepped_of end) g q)
-next_by tree g None q = refl
-next_by tree g (Some end) q = ap (λ l. Go (Leaving l end q)) (locks_woven (lists_of (drop g.place (steps_of g))) g.blocks.items)
+next_by : (tree : Tree) (count : ℕ) (g : RcFrame) (t : Turned) (q : Mind) → next_of tree count (items_of g) (turn_in t q) ≡ Go (stands (stepped_of t) g (with_openings count q))
+next_by tree count g turned.Goes q = refl
+next_by tree count g (turned.Halts end) q = ap (λ l. Go (Leaving l end (with_openings count q))) (locks_all (lists_of (drop g.place (steps_of g))) g.blocks.items g.outer.items)
+next_by tree count g (turned.Includes name) q = refl
+next_by tree count g (turned.Switches name) q = refl
+next_by tree count g turned.EndsFile q =
+    ap (λ l. Go (LeavingFile l (behind_file (items_of g)) (with_openings count q))) (in_file_woven (lists_of (drop g.place (steps_of g))) g.blocks.items g.outer.items)
+    ∙ ap (λ items. Go (LeavingFile (block_locks g.blocks.items) items (with_openings count q))) (behind_woven (lists_of (drop g.place (steps_of g))) g.blocks.items g.outer.items)
 
 -- a step that neither enters nor leaves a block is a statement
 pub record DoesOne (s : Step) : Type 0 where
@@ -100,8 +110,8 @@ does_one (step_is.Leave enter) e l = absurd (l enter refl)
 
 -- what the step of the machine is at a statement
 statement_step : (f : RcFrame) (tree : Tree) (p : Mind) → drop f.place (steps_of f) ≡ Does tree ∷ drop (f.place + 1) (steps_of f)
-    → step (Running (items_of f) p) ≡ and_then (statement tree p) (λ turn. Ends (next_of tree (items_of (record f { place = f.place + 1 })) turn))
-statement_step f tree p e = ap (λ items. step (Running items p)) (weave_does (drop f.place (steps_of f)) tree (drop (f.place + 1) (steps_of f)) f.blocks.items e)
+    → step (Running (items_of f) p) ≡ and_then (statement tree p) (λ turn. Ends (next_of tree p.openings (items_of (record f { place = f.place + 1 })) turn))
+statement_step f tree p e = ap (λ items. step (Running items p)) (weave_does (drop f.place (steps_of f)) tree (drop (f.place + 1) (steps_of f)) f.blocks.items (outer_items f.outer.items) e)
 
 -- the statement at a step, by what it does
 module _ (f : RcFrame) (s : Step) (p : Mind) (at : IsStepAt s (steps_of f) f.place) (d : DoesOne s) where
@@ -111,20 +121,21 @@ module _ (f : RcFrame) (s : Step) (p : Mind) (at : IsStepAt s (steps_of f) f.pla
   plan_is : plan_of (flat_of s) p ≡ statement d.tree p
   plan_is = ap (λ q. plan_of q p) d.is ∙ single_is d.tree p (single_here (steps_of f) f.place d.tree (drop (f.place + 1) (steps_of f)) f.code.ends ahead_of)
 
-  pub one_reaches : (end : Option End) (q : Mind) (x y : JournalState) (a b : View) → Executes (plan_of (flat_of s) p) (turn_of end q) x y a b
-      → Reaches {X = Ending} step (Running (items_of f) p) (stands (stepped_of end) (record f { place = f.place + 1 }) q) x y a b
-  one_reaches end q x y a b h =
+  pub one_reaches : (t : Turned) (q : Mind) (x y : JournalState) (a b : View) → Executes (plan_of (flat_of s) p) (turn_in t q) x y a b
+      → Reaches {X = Ending} step (Running (items_of f) p) (stands (stepped_of t) (record f { place = f.place + 1 }) (with_openings p.openings q)) x y a b
+  one_reaches t q x y a b h =
       let g = record f { place = f.place + 1 } in
-      let go : Turn → Plan Onward = λ turn. Ends (next_of d.tree (items_of g) turn) in
-      let next : Onward = Go (stands (stepped_of end) g q) in
-      let last : Executes (go (turn_of end q)) next y y b b = subst (λ n. Executes (Ends n) next y y b b) (sym (next_by d.tree g end q)) (executes_nothing next y y b refl) in
-      reaches_once step (Running (items_of f) p) (stands (stepped_of end) g q) x y a b
+      let r = with_openings p.openings q in
+      let go : Turn → Plan Onward = λ turn. Ends (next_of d.tree p.openings (items_of g) turn) in
+      let next : Onward = Go (stands (stepped_of t) g r) in
+      let last : Executes (go (turn_in t q)) next y y b b = subst (λ n. Executes (Ends n) next y y b b) (sym (next_by d.tree p.openings g t q)) (executes_nothing next y y b refl) in
+      reaches_once step (Running (items_of f) p) (stands (stepped_of t) g r) x y a b
       (subst (λ plan. Executes plan next x y a b) (sym (statement_step f d.tree p ahead_of))
-      (executes_then (statement d.tree p) go (turn_of end q) next x y y a b b (subst (λ plan. Executes plan (turn_of end q) x y a b) plan_is h) last))
+      (executes_then (statement d.tree p) go (turn_in t q) next x y y a b b (subst (λ plan. Executes plan (turn_in t q) x y a b) plan_is h) last))
 
   pub one_wants : (x y : JournalState) (a b : View) → OutOfMemory (plan_of (flat_of s) p) x y a b → Interrupted {X = Ending} step (Running (items_of f) p) x y a b
   one_wants x y a b h =
-      let go : Turn → Plan Onward = λ turn. Ends (next_of d.tree (items_of (record f { place = f.place + 1 })) turn) in
+      let go : Turn → Plan Onward = λ turn. Ends (next_of d.tree p.openings (items_of (record f { place = f.place + 1 })) turn) in
       interrupted_at_once step (Running (items_of f) p) x y a b
       (subst (λ plan. OutOfMemory plan x y a b) (sym (statement_step f d.tree p ahead_of))
       (out_front (statement d.tree p) go x y a b (subst (λ plan. OutOfMemory plan x y a b) plan_is h)))
@@ -135,16 +146,16 @@ module _ (f : RcFrame) (top : Top) (end : ℕ) (p : Mind) (e : drop f.place (ste
   more = drop (f.place + 1) (steps_of f)
 
   abbrev behind : List Item
-  behind = weave (others (lists_of more)) f.blocks.items
+  behind = weave (others (lists_of more)) f.blocks.items (outer_items f.outer.items)
 
   abbrev onto : Turn → Plan Onward
-  onto turn = Ends (next_of (Recipe top (Block (first (lists_of more)))) behind turn)
+  onto turn = Ends (next_of (Recipe top (Block (first (lists_of more)))) p.openings behind turn)
 
   abbrev gate_plan : Plan Turn
   gate_plan = judge_first top (λ q. enter_block top q) p
 
   gate_step : step (Running (items_of f) p) ≡ and_then gate_plan onto
-  gate_step = ap (λ items. step (Running items p)) (weave_enters (drop f.place (steps_of f)) top end more f.blocks.items e)
+  gate_step = ap (λ items. step (Running items p)) (weave_enters (drop f.place (steps_of f)) top end more f.blocks.items (outer_items f.outer.items) e)
 
   pub gate_wants : (x y : JournalState) (a b : View) → OutOfMemory gate_plan x y a b → Interrupted {X = Ending} step (Running (items_of f) p) x y a b
   gate_wants x y a b h =
@@ -156,27 +167,31 @@ module _ (f : RcFrame) (top : Top) (end : ℕ) (p : Mind) (e : drop f.place (ste
       (subst (λ plan. OutOfMemory plan x y a b) (sym gate_step) (out_then gate_plan onto turn x y y a b b h (out_anywhere (onto turn) y y b refl)))
 
   -- the items of another frame
-  items_at : (g : RcFrame) (place : ℕ) → g ≡ record f { place = place } → weave (lists_of (drop place (steps_of f))) f.blocks.items ≡ items_of g
+  items_at : (g : RcFrame) (place : ℕ) → g ≡ record f { place = place } → weave (lists_of (drop place (steps_of f))) f.blocks.items (outer_items f.outer.items) ≡ items_of g
   items_at g place is = ap items_of (sym is)
 
-  items_in : (g : RcFrame) (saved : Open) → g.code ≡ f.code → g.place ≡ f.place + 1 → g.blocks.items ≡ saved ∷ f.blocks.items → weave (lists_of more) (saved ∷ f.blocks.items) ≡ items_of g
-  items_in g saved c k b =
-      ap (λ l. weave (lists_of more) l) (sym b) ∙ ap (λ n. weave (lists_of (drop n (steps_of f))) g.blocks.items) (sym k)
-      ∙ ap (λ q. weave (lists_of (drop g.place (flats_of q.steps.items))) g.blocks.items) (sym c)
+  items_in : (g : RcFrame) (saved : Open) → g.code ≡ f.code → g.place ≡ f.place + 1 → g.blocks.items ≡ saved ∷ f.blocks.items → g.outer ≡ f.outer
+      → weave (lists_of more) (saved ∷ f.blocks.items) (outer_items f.outer.items) ≡ items_of g
+  items_in g saved c k b o =
+      ap (λ l. weave (lists_of more) l (outer_items f.outer.items)) (sym b) ∙ ap (λ n. weave (lists_of (drop n (steps_of f))) g.blocks.items (outer_items f.outer.items)) (sym k)
+      ∙ ap (λ q. weave (lists_of (drop g.place (flats_of q.steps.items))) g.blocks.items (outer_items f.outer.items)) (sym c)
+      ∙ ap (λ q. weave (lists_of (drop g.place (steps_of g))) g.blocks.items (outer_items q.items)) (sym o)
 
-  next_is : (was : Gate) (s : Stepped) (g : RcFrame) (q r : Mind) → Jumps (steps_of f) f.place end more → Entered (end + 1) was s f g q r
-      → next_of (Recipe top (Block (first (lists_of more)))) behind (gate_turn was q) ≡ Go (stands s g r)
+  next_is : (was : Gate) (s : Stepped) (g : RcFrame) (q r : Mind) → Jumps (steps_of f) f.place end more → Entered (end + 1) was s f g (with_openings p.openings q) r
+      → next_of (Recipe top (Block (first (lists_of more)))) p.openings behind (gate_turn was q) ≡ Go (stands s g r)
   next_is gate.Passes s g q r j h =
-      ap (λ l. Go (Running (weave l f.blocks.items) q)) (sym j.behind) ∙ ap (λ items. Go (Running items q)) (items_at g (end + 1) h.1)
+      ap (λ l. Go (Running (weave l f.blocks.items (outer_items f.outer.items)) (with_openings p.openings q))) (sym j.behind)
+      ∙ ap (λ items. Go (Running items (with_openings p.openings q))) (items_at g (end + 1) h.1)
       ∙ ap (λ m. Go (Running (items_of g) m)) (sym h.2) ∙ ap (λ t. Go (stands t g r)) (sym h.0)
   next_is (gate.Halts end) s g q r j h =
-      ap (λ l. Go (Leaving l end q)) (locks_woven (others (lists_of more)) f.blocks.items) ∙ ap (λ (k : RcFrame). Go (Leaving (block_locks k.blocks.items) end q)) (sym h.1)
-      ∙ ap (λ m. Go (Leaving (block_locks g.blocks.items) end m)) (sym h.2) ∙ ap (λ t. Go (stands t g r)) (sym h.0)
+      ap (λ l. Go (Leaving l end (with_openings p.openings q))) (locks_all (others (lists_of more)) f.blocks.items f.outer.items)
+      ∙ ap (λ (k : RcFrame). Go (Leaving (all_locks k) end (with_openings p.openings q))) (sym h.1)
+      ∙ ap (λ m. Go (Leaving (all_locks g) end m)) (sym h.2) ∙ ap (λ t. Go (stands t g r)) (sym h.0)
   next_is (gate.Enters lock) s g q r j h =
-      ap (λ items. Go (Running items (begun_block q))) (items_in g (record { saved = q.chain; lock = lock }) h.1 h.2 h.3)
-      ∙ ap (λ m. Go (Running (items_of g) m)) (sym h.4) ∙ ap (λ t. Go (stands t g r)) (sym h.0)
+      ap (λ items. Go (Running items (begun_block (with_openings p.openings q)))) (items_in g (record { saved = q.chain; lock = lock }) h.1 h.2 h.3 h.4)
+      ∙ ap (λ m. Go (Running (items_of g) m)) (sym h.5) ∙ ap (λ t. Go (stands t g r)) (sym h.0)
 
-  pub gate_reaches : (was : Gate) (s : Stepped) (g : RcFrame) (q r : Mind) (x y : JournalState) (a b : View) → Jumps (steps_of f) f.place end more → Entered (end + 1) was s f g q r
+  pub gate_reaches : (was : Gate) (s : Stepped) (g : RcFrame) (q r : Mind) (x y : JournalState) (a b : View) → Jumps (steps_of f) f.place end more → Entered (end + 1) was s f g (with_openings p.openings q) r
       → Executes gate_plan (gate_turn was q) x y a b → Reaches {X = Ending} step (Running (items_of f) p) (stands s g r) x y a b
   gate_reaches was s g q r x y a b j h k =
       let next : Onward = Go (stands s g r) in
@@ -188,36 +203,45 @@ pub entered_falls : (behind : ℕ) (was : Gate) (s : Stepped) (f g : RcFrame) (m
 entered_falls behind gate.Passes s f g m n h further within = subst (λ q. left_in g + less_by q ≤ left_in f) (sym h.0) (subst (λ q. left_in q + 1 ≤ left_in f) (sym h.1) (omega arith))
 entered_falls behind (gate.Halts end) s f g m n h further within = subst (λ q. left_in g + less_by q ≤ left_in f) (sym h.0) (subst (λ q. left_in q + 0 ≤ left_in f) (sym h.1) (omega arith))
 entered_falls behind (gate.Enters lock) s f g m n h further within =
-    let fewer : left_in g + 1 ≤ left_in f = omega (arith, ap (λ c. length c.steps.items) h.1, h.2, ap length h.3) in
+    let fewer : left_in g + 1 ≤ left_in f = omega (arith, ap (λ c. length c.steps.items) h.1, h.2, ap length h.3, ap (λ o. left_outside o.items) h.4) in
     subst (λ q. left_in g + less_by q ≤ left_in f) (sym h.0) fewer
 
-less_one : (end : Option End) → less_by (stepped_of end) ≤ 1
-less_one None = omega arith
-less_one (Some end) = omega arith
+-- what is left over falls as what is left in the rcfiles does
+pub over_falls : (n m k : ℕ) (f g : RcFrame) → m ≡ n → left_in g + k ≤ left_in f → left_over m g + k ≤ left_over n f
+over_falls n m k f g e h = subst (λ c. left_over c g + k ≤ left_over n f) (sym e) (omega (arith, h))
 
-pub one_falls : (f : RcFrame) (end : Option End) (s : Stepped) → s ≡ stepped_of end → f.place < length (steps_of f) → left_in (record f { place = f.place + 1 }) + less_by s ≤ left_in f
-one_falls f end s e h =
+less_one : (t : Turned) → less_by (stepped_of t) ≤ 1
+less_one turned.Goes = omega arith
+less_one (turned.Halts end) = omega arith
+less_one (turned.Includes name) = omega arith
+less_one (turned.Switches name) = omega arith
+less_one turned.EndsFile = omega arith
+
+pub one_falls : (f : RcFrame) (t : Turned) (s : Stepped) → s ≡ stepped_of t → f.place < length (steps_of f) → left_in (record f { place = f.place + 1 }) + less_by s ≤ left_in f
+one_falls f t s e h =
     let fits : f.place < length f.code.steps.items = subst (λ n. f.place < n) (length-map f.code.steps.items flat_of) h in
-    omega (arith, fits, less_one end, ap less_by e)
+    omega (arith, fits, less_one t, ap less_by e)
 
 -- a block that ends
 module _ (f : RcFrame) (block : Open) (blocks : List Open) (next : ℕ) (p : Mind) (ends : EndsAt (steps_of f) f.place next) (e : f.blocks.items ≡ block ∷ blocks) where
   abbrev later : List Item
-  later = weave (lists_of (drop next (steps_of f))) blocks
+  later = weave (lists_of (drop next (steps_of f))) blocks (outer_items f.outer.items)
 
   abbrev close : Mind → Plan Onward
   close q = Ends (Go (Running later (closed block.saved q)))
 
   end_step : step (Running (items_of f) p) ≡ and_then (give_maybe block.lock p) close
-  end_step = ap (λ items. step (Running items p)) (ap (λ l. weave (lists_of (drop f.place (steps_of f))) l) e ∙ ends.block block blocks)
+  end_step = ap (λ items. step (Running items p)) (ap (λ l. weave (lists_of (drop f.place (steps_of f))) l (outer_items f.outer.items)) e ∙ ends.block block blocks (outer_items f.outer.items))
 
-  pub block_reaches : (g : RcFrame) (q r : Mind) (x y : JournalState) (a b : View) → g.code ≡ f.code → g.place ≡ next → g.blocks.items ≡ blocks → r ≡ closed block.saved q
+  pub block_reaches : (g : RcFrame) (q r : Mind) (x y : JournalState) (a b : View) → g.code ≡ f.code → g.place ≡ next → g.blocks.items ≡ blocks → g.outer ≡ f.outer → r ≡ closed block.saved q
       → Executes (give_maybe block.lock p) q x y a b → Reaches {X = Ending} step (Running (items_of f) p) (Running (items_of g) r) x y a b
-  block_reaches g q r x y a b c k bs re h =
+  block_reaches g q r x y a b c k bs o re h =
       let to : Onward = Go (Running (items_of g) r) in
       let after : later ≡ items_of g =
-      ap (λ l. weave (lists_of (drop next (steps_of f))) l) (sym bs) ∙ ap (λ n. weave (lists_of (drop n (steps_of f))) g.blocks.items) (sym k)
-      ∙ ap (λ q. weave (lists_of (drop g.place (flats_of q.steps.items))) g.blocks.items) (sym c) in
+      ap (λ l. weave (lists_of (drop next (steps_of f))) l (outer_items f.outer.items)) (sym bs)
+      ∙ ap (λ n. weave (lists_of (drop n (steps_of f))) g.blocks.items (outer_items f.outer.items)) (sym k)
+      ∙ ap (λ q. weave (lists_of (drop g.place (flats_of q.steps.items))) g.blocks.items (outer_items f.outer.items)) (sym c)
+      ∙ ap (λ q. weave (lists_of (drop g.place (steps_of g))) g.blocks.items (outer_items q.items)) (sym o) in
       let same : Go (Running later (closed block.saved q)) ≡ to = ap (λ items. Go (Running items (closed block.saved q))) after ∙ ap (λ m. Go (Running (items_of g) m)) (sym re) in
       reaches_once step (Running (items_of f) p) (Running (items_of g) r) x y a b
       (subst (λ plan. Executes plan to x y a b) (sym end_step)
@@ -227,30 +251,63 @@ module _ (f : RcFrame) (block : Open) (blocks : List Open) (next : ℕ) (p : Min
   block_wants x y a b h =
       interrupted_at_once step (Running (items_of f) p) x y a b (subst (λ plan. OutOfMemory plan x y a b) (sym end_step) (out_front (give_maybe block.lock p) close x y a b h))
 
--- nothing is left of the rcfile
-pub file_reaches : (f : RcFrame) (next : ℕ) (p : Mind) (x : JournalState) (a : View) → EndsAt (steps_of f) f.place next → f.blocks.items ≡ []
-    → Reaches {X = Ending} step (Running (items_of f) p) (Running [] p) x x a a
-file_reaches f next p x a ends e =
-    subst (λ items. Reaches {X = Ending} step (Running (items_of f) p) (Running items p) x x a a) (ap (λ l. weave (lists_of (drop f.place (steps_of f))) l) e ∙ ends.file)
-    (reaches_itself step (Running (items_of f) p) x a)
+-- nothing is left of the rcfile but those that wait
+over_items : (f : RcFrame) (next : ℕ) → EndsAt (steps_of f) f.place next → f.blocks.items ≡ [] → items_of f ≡ outer_items f.outer.items
+over_items f next ends e = ap (λ l. weave (lists_of (drop f.place (steps_of f))) l (outer_items f.outer.items)) e ∙ ends.file (outer_items f.outer.items)
+
+-- the one that waits first goes on
+back_items : (w : Waiting) (g : RcFrame) → g.code ≡ w.code → g.place ≡ w.place → g.blocks ≡ w.blocks
+    → weave (lists_of (drop w.place (flats_of w.code.steps.items))) w.blocks.items (outer_items g.outer.items) ≡ items_of g
+back_items w g c k b =
+    ap (λ q. weave (lists_of (drop w.place (flats_of q.steps.items))) w.blocks.items (outer_items g.outer.items)) (sym c)
+    ∙ ap (λ n. weave (lists_of (drop n (steps_of g))) w.blocks.items (outer_items g.outer.items)) (sym k)
+    ∙ ap (λ q. weave (lists_of (drop g.place (steps_of g))) q.items (outer_items g.outer.items)) (sym b)
+
+pub back_reaches : (s : Stepped) (f g : RcFrame) (next : ℕ) (p q : Mind) (x : JournalState) (a : View) → EndsAt (steps_of f) f.place next → f.blocks.items ≡ [] → ComesBack s f g p q
+    → Reaches {X = Ending} step (Running (items_of f) p) (stands s g q) x x a a
+back_reaches stepped.Over f g next p q x a ends e h =
+    let over : items_of f ≡ [] = over_items f next ends e ∙ ap outer_items h.0 in
+    subst (λ m. Reaches {X = Ending} step (Running (items_of f) p) (Running [] m) x x a a) (sym h.5)
+    (subst (λ items. Reaches {X = Ending} step (Running (items_of f) p) (Running items p) x x a a) over (reaches_itself step (Running (items_of f) p) x a))
+back_reaches stepped.Went f g next p q x a ends e h =
+    let w = h.0 in
+    let rest = weave (lists_of (drop w.place (flats_of w.code.steps.items))) w.blocks.items (outer_items g.outer.items) in
+    let left : items_of f ≡ FileEnd w.name ∷ rest = over_items f next ends e ∙ ap outer_items h.1 in
+    let to : Onward = Go (Running (items_of g) q) in
+    let same : Go (Running rest (with_rcfile w.name p)) ≡ to = ap (λ items. Go (Running items (with_rcfile w.name p))) (back_items w g h.2 h.3 h.4) ∙ ap (λ m. Go (Running (items_of g) m)) (sym h.5) in
+    reaches_once step (Running (items_of f) p) (Running (items_of g) q) x x a a
+    (subst (λ items. Executes (step (Running items p)) to x x a a) (sym left) (subst (λ n. Executes (Ends n) to x x a a) (sym same) (executes_nothing to x x a refl)))
+back_reaches other f g next p q x a ends e h = absurd h
+
+pub back_wants : (f : RcFrame) (p : Mind) (x : JournalState) (a : View) → Interrupted {X = Ending} step (Running (items_of f) p) x x a a
+back_wants f p x a = interrupted_at_once step (Running (items_of f) p) x x a a (out_anywhere (step (Running (items_of f) p)) x x a refl)
+
+pub back_falls : (s : Stepped) (f g : RcFrame) (p q : Mind) → f.blocks.items ≡ [] → ComesBack s f g p q → left_in g + less_by s ≤ left_in f
+back_falls stepped.Over f g p q e h = omega (arith, ap (λ q. length q.steps.items) h.1, h.2, ap (λ q. length q.items) h.3, ap left_outside h.4, ap left_outside h.0)
+back_falls stepped.Went f g p q e h =
+    let w = h.0 in
+    let outside : left_outside f.outer.items ≡ 1 + 2 * (length w.code.steps.items - w.place) + length w.blocks.items + left_outside g.outer.items = ap left_outside h.1 in
+    omega (arith, outside, ap (λ q. length q.steps.items) h.2, h.3, ap (λ q. length q.items) h.4)
+back_falls other f g p q e h = absurd h
 
 pub ends_stop : (steps : List Flat) (place : ℕ) → drop place steps ≡ [] → EndsAt steps place place
 ends_stop steps place e = record {
-  block = λ block blocks. weave_stops (drop place steps) block blocks e;
-  file = weave_over (drop place steps) e;
+  block = λ block blocks rest. weave_stops (drop place steps) block blocks rest e;
+  file = λ rest. weave_over (drop place steps) rest e;
   later = omega arith;
 }
 
 pub ends_leave : (steps : List Flat) (place enter : ℕ) → drop place steps ≡ Leaves enter ∷ drop (place + 1) steps → EndsAt steps place (place + 1)
 ends_leave steps place enter e = record {
-  block = λ block blocks. weave_leaves (drop place steps) enter (drop (place + 1) steps) block blocks e;
-  file = weave_left (drop place steps) enter (drop (place + 1) steps) e;
+  block = λ block blocks rest. weave_leaves (drop place steps) enter (drop (place + 1) steps) block blocks rest e;
+  file = λ rest. weave_left (drop place steps) enter (drop (place + 1) steps) rest e;
   later = omega arith;
 }
 
 -- of whole code all its statements are left
-pub whole_items : (flats : List Flat) (trees : Trees) (blocks : List Open) → flats ≡ written 0 trees → blocks ≡ [] → weave (lists_of (drop 0 flats)) blocks ≡ ahead trees []
-whole_items flats trees blocks e none = ap (weave (lists_of (drop 0 flats))) none ∙ (ap (λ l. weave (lists_of l) []) e ∙ ap (λ l. weave l []) (lists-whole trees))
+pub whole_items : (flats : List Flat) (trees : Trees) (blocks : List Open) (rest : List Item) → flats ≡ written 0 trees → blocks ≡ [] → weave (lists_of (drop 0 flats)) blocks rest ≡ ahead trees rest
+whole_items flats trees blocks rest e none =
+    ap (λ l. weave (lists_of (drop 0 flats)) l rest) none ∙ (ap (λ l. weave (lists_of l) [] rest) e ∙ ap (λ l. weave l [] rest) (lists-whole trees))
 
 -- what a step is
 pub by_step : (s shown : Step) (p : Mind) (turn : Turn) (x y : JournalState) (a b : View) → s ≡ shown → Executes (plan_of (flat_of shown) p) turn x y a b → Executes (plan_of (flat_of s) p) turn x y a b

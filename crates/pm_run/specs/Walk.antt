@@ -10,13 +10,17 @@ use Rattle.pm_meaning.specs.Acting.{act_on}
 use Rattle.pm_meaning.specs.Judging.{judge_first}
 use Rattle.pm_meaning.specs.Minds.{Mind}
 use Rattle.pm_meaning.specs.Turns.{Turn, GoesOn, Halts, Enters}
-use Rattle.pm_meaning.specs.Running.{State, Running, Leaving, statement}
+use Rattle.pm_meaning.specs.Changes.{with_rcfile}
+use Rattle.pm_meaning.specs.Running.{State, Item, Running, Including, Switching, LeavingFile, Leaving, statement}
 use Rattle.pm_meaning.specs.declared.process.End.{End}
-use Rattle.pm_run.specs.Frames.{items_of, weave, end_of, block_locks}
+use Rattle.pm_run.specs.Frames.{items_of, outer_items, weave, end_of, block_locks, all_locks}
 use Rattle.pm_run.specs.declared.frames.Open.{Open}
 use Rattle.pm_run.specs.declared.frames.RcFrame.{RcFrame}
+use Rattle.pm_run.specs.declared.frames.Waiting.{Waiting}
 use Rattle.pm_run.specs.declared.gates.Gate.{Gate}
 use Rattle.pm_run.specs.declared.gates.Gate.TheVariants as gate
+use Rattle.pm_run.specs.declared.turned.Turned.{Turned}
+use Rattle.pm_run.specs.declared.turned.Turned.TheVariants as turned
 use Rattle.pm_run.specs.declared.walk.Stepped.{Stepped}
 use Rattle.pm_run.specs.declared.walk.Stepped.TheVariants as stepped
 
@@ -39,13 +43,19 @@ gate_turn (gate.Enters lock) p = Enters lock p
 -- where the process stands behind an item
 abbrev pub stands : Stepped → RcFrame → Mind → State
 stands stepped.Went f p = Running (items_of f) p
-stands (stepped.Halts end) f p = Leaving (block_locks f.blocks.items) end p
+stands (stepped.Halts end) f p = Leaving (all_locks f) end p
 stands stepped.Over f p = Running [] p
+stands (stepped.Includes name) f p = Including name (items_of f) p
+stands (stepped.Switches name) f p = Switching name (items_of f) p
+stands stepped.EndsFile f p = LeavingFile (block_locks f.blocks.items) (outer_items f.outer.items) p
 
 -- what comes of a statement
-abbrev pub stepped_of : Option End → Stepped
-stepped_of None = stepped.Went
-stepped_of (Some end) = stepped.Halts end
+abbrev pub stepped_of : Turned → Stepped
+stepped_of turned.Goes = stepped.Went
+stepped_of (turned.Halts end) = stepped.Halts end
+stepped_of (turned.Includes name) = stepped.Includes name
+stepped_of (turned.Switches name) = stepped.Switches name
+stepped_of turned.EndsFile = stepped.EndsFile
 
 -- this step stands at the place
 pub record IsStepAt (step : Step) (steps : List Flat) (place : ℕ) : Type 0 where
@@ -54,9 +64,9 @@ pub record IsStepAt (step : Step) (steps : List Flat) (place : ℕ) : Type 0 whe
 
 -- the innermost block ends here, and without one the rcfile does
 pub record EndsAt (steps : List Flat) (place next : ℕ) : Type 0 where
-  pub block : (open_block : Open) (blocks : List Open)
-      → weave (lists_of (drop place steps)) (open_block ∷ blocks) ≡ end_of open_block ∷ weave (lists_of (drop next steps)) blocks
-  pub file : weave (lists_of (drop place steps)) [] ≡ []
+  pub block : (open_block : Open) (blocks : List Open) (rest : List Item)
+      → weave (lists_of (drop place steps)) (open_block ∷ blocks) rest ≡ end_of open_block ∷ weave (lists_of (drop next steps)) blocks rest
+  pub file : (rest : List Item) → weave (lists_of (drop place steps)) [] rest ≡ rest
   pub later : place ≤ next
 
 -- how the frame and the mind are behind a gate
@@ -65,9 +75,16 @@ Entered behind gate.Passes s f g p q = (s ≡ stepped.Went) × (g ≡ record f {
 Entered behind (gate.Halts end) s f g p q = (s ≡ stepped.Halts end) × (g ≡ f) × (q ≡ p)
 Entered behind (gate.Enters lock) s f g p q =
     (s ≡ stepped.Went) × (g.code ≡ f.code) × (g.place ≡ f.place + 1)
-    × (g.blocks.items ≡ record { saved = p.chain; lock = lock } ∷ f.blocks.items) × (q ≡ begun_block p)
+    × (g.blocks.items ≡ record { saved = p.chain; lock = lock } ∷ f.blocks.items) × (g.outer ≡ f.outer) × (q ≡ begun_block p)
+
+-- the rcfile that waits first goes on, under its name; or none waits
+abbrev pub ComesBack : Stepped → RcFrame → RcFrame → Mind → Mind → Type 0
+ComesBack stepped.Over f g p q = (f.outer.items ≡ []) × (g.code ≡ f.code) × (g.place ≡ f.place) × (g.blocks ≡ f.blocks) × (g.outer.items ≡ []) × (q ≡ p)
+ComesBack stepped.Went f g p q = (w : Waiting) × (f.outer.items ≡ w ∷ g.outer.items) × (g.code ≡ w.code) × (g.place ≡ w.place) × (g.blocks ≡ w.blocks) × (q ≡ with_rcfile w.name p)
+ComesBack other f g p q = ⊥
 
 -- so much less is left behind it
 abbrev pub less_by : Stepped → ℕ
-less_by stepped.Went = 1
-less_by other = 0
+less_by stepped.Over = 0
+less_by (stepped.Halts end) = 0
+less_by other = 1

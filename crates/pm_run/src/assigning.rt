@@ -5,19 +5,23 @@ ghost use Rattle.pm_journal.specs.Held.{Keeping};
 ghost use Rattle.pm_journal.specs.Plan.{and_then, ask};
 ghost use Rattle.pm_journal.specs.declared.acts.Act.TheVariants.{Probe};
 ghost use Rattle.pm_meaning.specs.Assigning.{is_later};
-ghost use Rattle.pm_meaning.specs.Assigning.{leads_elsewhere as leads_away, probed, change_folder};
+ghost use Rattle.pm_meaning.specs.Assigning.{probed, change_folder, change_host as host_changed};
 ghost use Rattle.pm_meaning.specs.Assigning.{assigned, assign, assign_with, unset};
+ghost use Rattle.pm_meaning.specs.Assigning.{change_rcfile as rcfile_changed, include_rcfile as rcfile_included};
+ghost use Rattle.pm_meaning.specs.Assigning.{switch_rcfile as rcfile_switched};
 ghost use Rattle.pm_meaning.specs.Minds.{mind_of};
 ghost use Rattle.pm_subst.specs.Commands.{commands_in};
 ghost use Rattle.pm_subst.specs.declared.kinds.Mode.TheVariants.{One};
 ghost use Rattle.pm_actions.specs.Turning.{turn_of};
+ghost use Rattle.pm_run.specs.Turned.{turn_in};
 
 use crate::global_lock::{change_lock, drop_lock};
-use pm_actions::{Expansion, expand_text, file_name, first_word, outputs_of, skip_value};
+use crate::turned::{Turned, turned_by};
+use pm_actions::{Expansion, expand_text, file_name, first_word, outputs_of, refuse, skip_value};
 use pm_acts::{Outside, probe, say};
 use pm_bytes::{Blob, Memory, Name, full};
 use pm_host::Looked;
-use pm_journal::{Journal, couldnt_chdir, unusable_name};
+use pm_journal::{Journal, couldnt_chdir, host_mismatched, unusable_name};
 use pm_meaning::{End, Process};
 use pm_subst::Mode;
 use std::alloc::Global;
@@ -30,15 +34,15 @@ pub fn assign_text<D: Outside>(
     process: &mut Process,
     outside: &mut D,
     journal: &mut Journal,
-) -> Result<Option<End>, Memory>
+) -> Result<Turned, Memory>
     requires keeping { Keeping journal.old process.old.locks.names }
     ensures carries { Carries (assign name.now text.now (mind_of process.old))
-        (λ end. turn_of end (mind_of process.new)) result
+        (λ turned. turn_in turned (mind_of process.new)) result
         journal.old journal.new (D.told outside.old) (D.told outside.new) }
     ensures keeping { Keeping journal.new process.new.locks.names }
 {
     if is_later_name(name) {
-        return Ok(Some(End::NotBuilt));
+        return Ok(Turned::Halts(End::NotBuilt));
     }
     let outputs = outputs_of(alloc, text, Mode::One, process, outside, journal)?;
     assign_expanded(
@@ -61,11 +65,11 @@ fn assign_expanded<D: Outside>(
     process: &mut Process,
     outside: &mut D,
     journal: &mut Journal,
-) -> Result<Option<End>, Memory>
+) -> Result<Turned, Memory>
     requires each { length outputs.now ≡ length (commands_in One text.now) }
     requires keeping { Keeping journal.old process.old.locks.names }
     ensures carries { Carries (assign_with name.now text.now outputs.now (mind_of process.old))
-        (λ end. turn_of end (mind_of process.new)) result
+        (λ turned. turn_in turned (mind_of process.new)) result
         journal.old journal.new (D.told outside.old) (D.told outside.new) }
     ensures keeping { Keeping journal.new process.new.locks.names }
 {
@@ -74,7 +78,9 @@ fn assign_expanded<D: Outside>(
             let value = first_word(alloc, words);
             assign_value(alloc, name, value, process, outside, journal)
         }
-        Expansion::TooLong(length) => skip_value(alloc, length, process, outside, journal),
+        Expansion::TooLong(length) => turned_by(skip_value(
+            alloc, length, process, outside, journal,
+        )),
     }
 }
 
@@ -98,24 +104,116 @@ fn assign_value<D: Outside>(
     process: &mut Process,
     outside: &mut D,
     journal: &mut Journal,
-) -> Result<Option<End>, Memory>
+) -> Result<Turned, Memory>
     requires keeping { Keeping journal.old process.old.locks.names }
     ensures carries { Carries (assigned name.now value (mind_of process.old))
-        (λ end. turn_of end (mind_of process.new)) result
+        (λ turned. turn_in turned (mind_of process.new)) result
         journal.old journal.new (D.told outside.old) (D.told outside.new) }
     ensures keeping { Keeping journal.new process.new.locks.names }
 {
-    if leads_elsewhere(name, value.as_slice(), process) {
-        return Ok(Some(End::NotBuilt));
-    }
     let copy = value.copy(alloc)?;
     process.vars.set(name, value)?;
     if is_maildir(name) {
-        move_to_folder(alloc, copy.as_slice(), process, outside, journal)
+        turned_by(move_to_folder(alloc, copy.as_slice(), process, outside, journal))
     } else if is_lockfile(name) {
-        change_lock(alloc, copy.as_slice(), process, outside, journal)
+        turned_by(change_lock(alloc, copy.as_slice(), process, outside, journal))
     } else {
-        Ok(None)
+        change_rcfile(alloc, name, copy.as_slice(), process, outside, journal)
+    }
+}
+
+// The value may name another rcfile, that of INCLUDERC or SWITCHRC, or another host.
+fn change_rcfile<D: Outside>(
+    alloc: Global,
+    name: &[u8],
+    value: &[u8],
+    process: &Process,
+    outside: &mut D,
+    journal: &mut Journal,
+) -> Result<Turned, Memory>
+    requires keeping { Keeping journal.old process.now.locks.names }
+    ensures carries { Carries (rcfile_changed name.now value.now (mind_of process.now))
+        (λ turned. turn_in turned (mind_of process.now)) result
+        journal.old journal.new (D.told outside.old) (D.told outside.new) }
+    ensures keeping { Keeping journal.new process.now.locks.names }
+{
+    if is_includerc(name) {
+        return include_rcfile(alloc, value, process, outside, journal);
+    }
+    if is_switchrc(name) {
+        return switch_rcfile(alloc, value, process, outside, journal);
+    }
+    if is_host(name) {
+        return change_host(alloc, value, process, outside, journal);
+    }
+    Ok(Turned::Goes)
+}
+
+// HOST got this value.
+fn change_host<D: Outside>(
+    alloc: Global,
+    value: &[u8],
+    process: &Process,
+    outside: &mut D,
+    journal: &mut Journal,
+) -> Result<Turned, Memory>
+    requires keeping { Keeping journal.old process.now.locks.names }
+    ensures carries { Carries (host_changed value.now (mind_of process.now))
+        (λ turned. turn_in turned (mind_of process.now)) result
+        journal.old journal.new (D.told outside.old) (D.told outside.new) }
+    ensures keeping { Keeping journal.new process.now.locks.names }
+{
+    if is_own_name(value, process) {
+        return Ok(Turned::Goes);
+    }
+    let line = host_mismatched(alloc, value)?;
+    say(&process.locks, line, outside, journal)?;
+    Ok(Turned::Halts(End::HostOff))
+}
+
+// INCLUDERC got this value.
+fn include_rcfile<D: Outside>(
+    alloc: Global,
+    value: &[u8],
+    process: &Process,
+    outside: &mut D,
+    journal: &mut Journal,
+) -> Result<Turned, Memory>
+    requires keeping { Keeping journal.old process.now.locks.names }
+    ensures carries { Carries (rcfile_included value.now (mind_of process.now))
+        (λ turned. turn_in turned (mind_of process.now)) result
+        journal.old journal.new (D.told outside.old) (D.told outside.new) }
+    ensures keeping { Keeping journal.new process.now.locks.names }
+{
+    if value.is_empty() {
+        return Ok(Turned::Goes);
+    }
+    match file_name(alloc, value)? {
+        Some(name) => Ok(Turned::Includes(full(alloc, &process.base, &name)?)),
+        None => turned_by(refuse(alloc, value, process, outside, journal)),
+    }
+}
+
+// SWITCHRC got this value.
+fn switch_rcfile<D: Outside>(
+    alloc: Global,
+    value: &[u8],
+    process: &Process,
+    outside: &mut D,
+    journal: &mut Journal,
+) -> Result<Turned, Memory>
+    requires keeping { Keeping journal.old process.now.locks.names }
+    ensures carries { Carries (rcfile_switched value.now (mind_of process.now))
+        (λ turned. turn_in turned (mind_of process.now)) result
+        journal.old journal.new (D.told outside.old) (D.told outside.new) }
+    ensures keeping { Keeping journal.new process.now.locks.names }
+{
+    if value.is_empty() {
+        return Ok(Turned::EndsFile);
+    }
+    match file_name(alloc, value)? {
+        Some(name) => Ok(Turned::Switches(full(alloc, &process.base, &name)?)),
+        None => turned_by(refuse(alloc, value, process, outside, journal)),
     }
 }
 
@@ -131,15 +229,6 @@ fn is_maildir(name: &[u8]) -> bool
     ensures { result ≡ bytes_eq name.now (codes "MAILDIR") }
 {
     name == b"MAILDIR".as_slice()
-}
-
-// Whether the value asks for another rcfile or another host's rcfiles.
-fn leads_elsewhere(name: &[u8], value: &[u8], process: &Process) -> bool
-    ensures { result ≡ leads_away name.now value.now (mind_of process.now) }
-{
-    (name == b"INCLUDERC".as_slice() && !value.is_empty())
-        || name == b"SWITCHRC".as_slice()
-        || (name == b"HOST".as_slice() && value != process.host_name.as_str().as_bytes())
 }
 
 // Names are seen from this folder from now on, if it is there.
@@ -196,29 +285,50 @@ fn probe_folder<D: Outside>(
     }
 }
 
-/// Takes the variable away. With LOCKFILE goes its lock.
+/// Takes the variable away. With LOCKFILE goes its lock, and without SWITCHRC the current rcfile is over.
 pub fn unset_variable<D: Outside>(
     alloc: Global,
     name: &[u8],
     process: &mut Process,
     outside: &mut D,
     journal: &mut Journal,
-) -> Result<Option<End>, Memory>
+) -> Result<Turned, Memory>
     requires keeping { Keeping journal.old process.old.locks.names }
     ensures carries { Carries (unset name.now (mind_of process.old))
-        (λ end. turn_of end (mind_of process.new)) result
+        (λ turned. turn_in turned (mind_of process.new)) result
         journal.old journal.new (D.told outside.old) (D.told outside.new) }
     ensures keeping { Keeping journal.new process.new.locks.names }
 {
-    if is_switchrc(name) {
-        return Ok(Some(End::NotBuilt));
-    }
     process.vars.unset(name);
-    if is_lockfile(name) {
-        drop_lock(alloc, process, outside, journal)
-    } else {
-        Ok(None)
+    if is_switchrc(name) {
+        return Ok(Turned::EndsFile);
     }
+    if is_lockfile(name) {
+        turned_by(drop_lock(alloc, process, outside, journal))
+    } else {
+        Ok(Turned::Goes)
+    }
+}
+
+// Whether the value is the host's name.
+fn is_own_name(value: &[u8], process: &Process) -> bool
+    ensures { result ≡ bytes_eq value.now process.now.host_name }
+{
+    value == process.host_name.as_str().as_bytes()
+}
+
+// Whether the variable is HOST.
+fn is_host(name: &[u8]) -> bool
+    ensures { result ≡ bytes_eq name.now (codes "HOST") }
+{
+    name == b"HOST".as_slice()
+}
+
+// Whether the variable is INCLUDERC.
+fn is_includerc(name: &[u8]) -> bool
+    ensures { result ≡ bytes_eq name.now (codes "INCLUDERC") }
+{
+    name == b"INCLUDERC".as_slice()
 }
 
 // Whether the variable is SWITCHRC.

@@ -1,5 +1,5 @@
 //! The variables with which a process begins (procmailrc(5), "Environment variables assignments").
-ghost use Rattle.std.specs.Prelude.{◌≡◌, nat_le, IfOk, option_copied};
+ghost use Rattle.std.specs.Prelude.{◌≡◌, ◌++◌, nat_le, IfOk, option_copied};
 ghost use Rattle.std.specs.List.{list_all};
 ghost use Rattle.pm_vars.specs.Variables.{with_value};
 ghost use Rattle.pm_meaning.specs.Minds.{mind_of};
@@ -8,23 +8,25 @@ ghost use Rattle.pm_meaning.specs.FirstValues.{home_folder, search_path, time_zo
 ghost use Rattle.pm_meaning.specs.FirstValues.{system_mailbox, user_values, place_values, mailbox_values};
 ghost use Rattle.pm_meaning.specs.FirstValues.{program_values, file_values, all_set, first_process};
 
-use pm_bytes::{Blob, Environ, Memory, Name};
+use pm_bytes::{Blob, Environ, Memory, Name, Names};
 use pm_journal::HeldLocks;
 use pm_meaning::{Process, new_chain};
 use pm_message::Message;
 use pm_vars::Vars;
 use std::alloc::Global;
 
-/// A process that begins with this mail.
+/// A process that begins with these arguments and this mail.
 pub fn begin(
     alloc: Global,
     filter: bool,
+    arguments: &Names,
     env: &Environ,
     message: Message,
 ) -> Result<Process, Memory>
-    ensures { IfOk result (λ process. mind_of process ≡ first_process filter env.now message) }
+    ensures { IfOk result (λ process. mind_of process ≡ first_process filter arguments.now env.now message) }
 {
     let mut vars = Vars::new(alloc, env.pid);
+    add_arguments(alloc, &mut vars, arguments)?;
     set_user(alloc, &mut vars, env)?;
     set_time_zone(alloc, &mut vars, env)?;
     set_place(alloc, &mut vars, filter, env)?;
@@ -43,7 +45,19 @@ pub fn begin(
         global: None,
         chain: new_chain(),
         placed: 0,
+        rcfile: Name::from_text(String::new(alloc)),
+        openings: 0,
     })
+}
+
+fn add_arguments(alloc: Global, vars: &mut Vars, arguments: &Names) -> Result<(), Memory>
+    ensures { IfOk result (λ _.
+        vars.new ≡ record vars.old { arguments = vars.old.arguments ++ arguments.now }) }
+{
+    for argument in arguments.as_slice() {
+        vars.add_argument(Blob::from_slice(alloc, argument.as_str().as_bytes())?)?;
+    }
+    Ok(())
 }
 
 fn set(alloc: Global, vars: &mut Vars, name: &[u8], value: &[u8]) -> Result<(), Memory>

@@ -1,4 +1,4 @@
-//! An rcfile in progress.
+//! An rcfile in progress, and those that wait for its end.
 use pm_bytes::Name;
 use pm_code::Code;
 use pm_meaning::Chain;
@@ -11,10 +11,21 @@ pub struct Open {
     pub lock: Option<Name>,
 }
 
-/// An rcfile in progress: its code, the place of the next step, and the open blocks, the innermost first.
+/// An rcfile that goes on behind the one that it included: its name, and the rest as of one in progress.
+#[derive(Drop)]
+pub struct Waiting {
+    pub name: Name,
+    pub code: Code,
+    pub place: usize,
+    pub blocks: VecDeque<Open>,
+}
+
+/// An rcfile in progress: its code, the place of the next step, the open blocks, the innermost first, and the rcfiles
+/// that wait, the one that included it first.
 #[derive(Drop)]
 pub struct RcFrame {
     pub code: Code,
     pub place: usize,
     pub blocks: VecDeque<Open>,
+    pub outer: VecDeque<Waiting>,
 }

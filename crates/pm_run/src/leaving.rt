@@ -1,5 +1,5 @@
 //! Blocks that are left, and their locks.
-ghost use Rattle.std.specs.Prelude.{◌≡◌, true};
+ghost use Rattle.std.specs.Prelude.{◌≡◌, ◌<◌, true, false, [], List, IfOk};
 ghost use Rattle.pm_journal.specs.Executed.{Carries};
 ghost use Rattle.pm_journal.specs.Held.{Keeping, holds_name};
 ghost use Rattle.pm_journal.specs.Plan.{and_then, ask};
@@ -7,11 +7,11 @@ ghost use Rattle.pm_journal.specs.declared.acts.Act.TheVariants.{Unlock};
 ghost use Rattle.pm_meaning.specs.Blocks.{without_lock, give_block_lock as block_lock_given, give_maybe as maybe_given};
 ghost use Rattle.pm_meaning.specs.GlobalLock.{after_giving};
 ghost use Rattle.pm_meaning.specs.Minds.{mind_of};
-ghost use Rattle.pm_meaning.specs.Running.{Leaving, Over};
-ghost use Rattle.pm_run.specs.Frames.{block_locks};
+ghost use Rattle.pm_meaning.specs.Running.{Item, Running, LeavingFile, Leaving, Over};
+ghost use Rattle.pm_run.specs.Frames.{block_locks, all_locks, left_in};
 ghost use Rattle.pm_run.specs.Stretches.{Walks};
 
-use crate::frames::Open;
+use crate::frames::{Open, RcFrame, Waiting};
 use pm_actions::is_stuck;
 use pm_acts::{Outside, give, say};
 use pm_bytes::{Memory, Name};
@@ -23,21 +23,72 @@ use std::collections::VecDeque;
 /// Leaves all blocks of a process that ends so, the innermost first.
 pub fn leave_blocks<D: Outside>(
     alloc: Global,
-    blocks: &mut VecDeque<Open>,
+    frame: &mut RcFrame,
     end: End,
     process: &mut Process,
     outside: &mut D,
     journal: &mut Journal,
 ) -> Result<(), Memory>
     requires keeping { Keeping journal.old process.old.locks.names }
-    ensures walks { Walks (Leaving (block_locks blocks.old.items) end (mind_of process.old))
+    ensures walks { Walks (Leaving (all_locks frame.old) end (mind_of process.old))
         (λ _. Over end (mind_of process.new)) result
         journal.old journal.new (D.told outside.old) (D.told outside.new) }
     ensures keeping { Keeping journal.new process.new.locks.names }
 {
+    loop {
+        match frame.blocks.pop_front() {
+            Some(open) => {
+                let Open { lock, .. } = open;
+                give_maybe(alloc, &lock, process, outside, journal)?;
+            }
+            None => {
+                if !come_out(frame) {
+                    return Ok(());
+                }
+            }
+        }
+    }
+}
+
+// The blocks of the rcfile that waits first are those to leave; or no rcfile waits.
+fn come_out(frame: &mut RcFrame) -> bool
+    requires { frame.old.blocks.items ≡ [] }
+    ensures locks { all_locks frame.new ≡ all_locks frame.old }
+    ensures further { result ≡ true → left_in frame.new < left_in frame.old }
+    ensures last { result ≡ false → all_locks frame.new ≡ [] }
+{
+    match frame.outer.pop_front() {
+        None => false,
+        Some(waiting) => {
+            let Waiting { blocks, .. } = waiting;
+            frame.blocks = blocks;
+            true
+        }
+    }
+}
+
+/// Leaves the blocks of an rcfile, the innermost first.
+pub fn leave_file<D: Outside>(
+    alloc: Global,
+    blocks: &mut VecDeque<Open>,
+    process: &mut Process,
+    outside: &mut D,
+    journal: &mut Journal,
+) -> Result<(), Memory>
+    requires keeping { Keeping journal.old process.old.locks.names }
+    ensures walks { (items : List Item) → Walks (LeavingFile (block_locks blocks.old.items) items (mind_of process.old))
+        (λ _. Running items (mind_of process.new)) result
+        journal.old journal.new (D.told outside.old) (D.told outside.new) }
+    ensures keeping { Keeping journal.new process.new.locks.names }
+    ensures empty { IfOk result (λ _. blocks.new.items ≡ []) }
+    ensures count { process.new.openings ≡ process.old.openings }
+{
     while let Some(open) = blocks.pop_front() {
         let Open { lock, .. } = open;
-        give_maybe(alloc, &lock, process, outside, journal)?;
+        match give_maybe(alloc, &lock, process, outside, journal) {
+            Err(Memory) => return Err(Memory),
+            Ok(()) => {}
+        }
     }
     Ok(())
 }
@@ -54,6 +105,7 @@ pub fn give_maybe<D: Outside>(
     ensures carries { Carries (maybe_given lock.now (mind_of process.old)) (λ _. mind_of process.new) result
         journal.old journal.new (D.told outside.old) (D.told outside.new) }
     ensures keeping { Keeping journal.new process.new.locks.names }
+    ensures count { process.new.openings ≡ process.old.openings }
 {
     match lock {
         None => Ok(()),
@@ -72,6 +124,7 @@ fn give_block_lock<D: Outside>(
     ensures carries { Carries (block_lock_given name.now (mind_of process.old)) (λ _. mind_of process.new) result
         journal.old journal.new (D.told outside.old) (D.told outside.new) }
     ensures keeping { Keeping journal.new process.new.locks.names }
+    ensures count { process.new.openings ≡ process.old.openings }
 {
     if !process.locks.holds(name) {
         return Ok(());
@@ -93,6 +146,7 @@ fn give_held<D: Outside>(
         (λ _. mind_of process.new) result
         journal.old journal.new (D.told outside.old) (D.told outside.new) }
     ensures keeping { Keeping journal.new process.new.locks.names }
+    ensures count { process.new.openings ≡ process.old.openings }
 {
     let removed = give(&mut process.locks, name, outside, journal);
     if is_stuck(removed) {

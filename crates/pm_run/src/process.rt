@@ -3,11 +3,10 @@ ghost use Rattle.std.specs.Prelude.{◌≡◌, ◌≤◌, [], length, IfOk, OnEr
 ghost use Rattle.pm_journal.specs.Executed.{Carries};
 ghost use Rattle.pm_journal.specs.Held.{Keeping};
 ghost use Rattle.pm_journal.specs.Walking.{Go, Completes, Abandoned};
-ghost use Rattle.pm_message.specs.FromLine.{makes_line, prepared_of};
 ghost use Rattle.pm_recipe.specs.Listed.{rc_of};
 ghost use Rattle.pm_meaning.specs.Changes.{entered};
 ghost use Rattle.pm_meaning.specs.Minds.{mind_of};
-ghost use Rattle.pm_meaning.specs.Running.{Arrived, Running, Over, Closing, ahead, step, renewal as renewal_of};
+ghost use Rattle.pm_meaning.specs.Running.{Arrived, Running, Over, Closing, ahead, step};
 ghost use Rattle.pm_meaning.specs.Running.{unread};
 ghost use Rattle.pm_meaning.specs.declared.process.Ending.{Ending};
 ghost use Rattle.pm_run.specs.Ends.{opening, opened_next};
@@ -18,14 +17,15 @@ use crate::falling_off::fall_off;
 use crate::first_values::{begin, login};
 use crate::frames::RcFrame;
 use crate::global_lock::give_lock;
+use crate::rcfiles::read_statements;
 use crate::walk::run_frame;
 use pm_acts::{Outside, ask_moment, give_all, read, say};
 use pm_bytes::{Blob, Environ, Memory, Name};
 use pm_code::compile;
 use pm_journal::{HeldLocks, Journal, couldnt_read};
 use pm_meaning::{CommandLine, End, Ending, Process};
-use pm_message::{Message, Renew, needs_line, prepare, split};
-use pm_recipe::{Rc, RcRefused, Statements, one_rc, read_rc};
+use pm_message::{needs_line, prepare, split};
+use pm_recipe::{Rc, Statements};
 use std::alloc::Global;
 use std::collections::VecDeque;
 
@@ -75,39 +75,16 @@ fn arrive<D: Outside>(
         (λ process. Go (opening line.now.rcfile (mind_of process)))
         result journal.old journal.new (D.told outside.old) (D.told outside.new) }
     ensures locks { IfOk result (λ process. process.locks.names ≡ []) }
+    ensures first { IfOk result (λ process. process.openings ≡ 0) }
     ensures keeping { Keeping journal.new [] }
 {
-    if !wants_line(bytes, line.filter) {
+    if !needs_line(bytes, &line.renew) {
         let message = split(alloc, bytes)?;
-        return begin(alloc, line.filter, env, message);
+        return begin(alloc, line.filter, &line.arguments, env, message);
     }
     let moment = ask_moment(&HeldLocks::new(alloc), outside, journal)?;
-    let message = prepare(
-        alloc,
-        bytes,
-        &renewal(line.filter),
-        login(env).as_bytes(),
-        moment,
-    )?;
-    begin(alloc, line.filter, env, message)
-}
-
-// A mail filter takes the mail as it is.
-fn renewal(filter: bool) -> Renew
-    ensures { result ≡ renewal_of filter }
-{
-    if filter {
-        Renew::Keep
-    } else {
-        Renew::AddMissing
-    }
-}
-
-// Whether the mail lacks a From line and should have one.
-fn wants_line(bytes: &[u8], filter: bool) -> bool
-    ensures { result ≡ makes_line bytes.now (renewal_of filter) }
-{
-    needs_line(bytes, &renewal(filter))
+    let message = prepare(alloc, bytes, &line.renew, login(env).as_bytes(), moment)?;
+    begin(alloc, line.filter, &line.arguments, env, message)
 }
 
 // The process from the opening of its rcfile on, up to where LOCKFILE's lock was given back.
@@ -118,6 +95,7 @@ fn run_to_end<D: Outside>(
     outside: &mut D,
     journal: &mut Journal,
 ) -> Result<End, Memory>
+    requires first { process.old.openings ≡ 0 }
     requires keeping { Keeping journal.old process.old.locks.names }
     ensures walks { Walks (opening name (mind_of process.old)) (λ end. Closing end (mind_of process.new)) result
         journal.old journal.new (D.told outside.old) (D.told outside.new) }
@@ -136,6 +114,7 @@ fn run_rcfile<D: Outside>(
     outside: &mut D,
     journal: &mut Journal,
 ) -> Result<End, Memory>
+    requires first { process.old.openings ≡ 0 }
     requires keeping { Keeping journal.old process.old.locks.names }
     ensures walks { Walks (opening name (mind_of process.old)) (λ end. Over end (mind_of process.new)) result
         journal.old journal.new (D.told outside.old) (D.told outside.new) }
@@ -178,6 +157,7 @@ fn begin_frame(alloc: Global, statements: Statements) -> Result<RcFrame, Memory>
         code,
         place: 0,
         blocks: VecDeque::new(alloc),
+        outer: VecDeque::new(alloc),
     })
 }
 
@@ -189,6 +169,7 @@ fn open_rcfile<D: Outside>(
     outside: &mut D,
     journal: &mut Journal,
 ) -> Result<Opened, Memory>
+    requires first { process.old.openings ≡ 0 }
     requires keeping { Keeping journal.old process.old.locks.names }
     ensures carries { Carries (step (opening name (mind_of process.old)))
         (λ opened. opened_next opened (mind_of process.new)) result
@@ -196,6 +177,7 @@ fn open_rcfile<D: Outside>(
     ensures keeping { Keeping journal.new process.new.locks.names }
 {
     let shown = name.copy(alloc)?;
+    process.openings = 1;
     match read(alloc, &process.locks, name, outside, journal)? {
         Some(rc) => {
             let statements = read_statements(alloc, rc.as_slice())?;
@@ -206,27 +188,13 @@ fn open_rcfile<D: Outside>(
     }
 }
 
-fn read_statements(alloc: Global, rc: &[u8]) -> Result<Statements, Memory>
-    requires { length rc.now ≤ 1048576 }
-    ensures { IfOk result (λ statements. statements ≡ rc_of rc.now) }
-{
-    one_rc();
-    match read_rc(alloc, rc) {
-        Ok(rc) => {
-            let Rc { statements } = rc;
-            Ok(statements)
-        }
-        Err(RcRefused::Memory) => Err(Memory),
-        Err(RcRefused::TooLong { .. }) => unreachable!(),
-    }
-}
-
 // The rcfile has this name; one of the working folder is run from there.
 fn enter(alloc: Global, name: &Name, process: &mut Process) -> Result<(), Memory>
     ensures ok { IfOk result (λ _. mind_of process.new ≡ entered name.now (mind_of process.old)) }
     ensures locks { process.new.locks ≡ process.old.locks }
 {
     process.vars.set_rcfile(name)?;
+    process.rcfile = name.copy(alloc)?;
     if !name.as_str().as_bytes().starts_with(b"./") {
         return Ok(());
     }

@@ -6,10 +6,12 @@ ghost use Rattle.pm_journal.specs.Held.{Keeping};
 ghost use Rattle.pm_meaning.specs.Assigning.{skip_defect};
 ghost use Rattle.pm_meaning.specs.Minds.{mind_of};
 ghost use Rattle.pm_actions.specs.Turning.{turn_of};
+ghost use Rattle.pm_run.specs.Turned.{turn_in};
 ghost use Rattle.pm_run.specs.Walk.{plan_of};
 
 use crate::assigning::{assign_text, unset_variable};
 use crate::judging::run_recipe;
+use crate::turned::{Turned, turned_by};
 use pm_acts::{Outside, say};
 use pm_bytes::Memory;
 use pm_code::Step;
@@ -24,10 +26,10 @@ pub fn run_statement<D: Outside>(
     process: &mut Process,
     outside: &mut D,
     journal: &mut Journal,
-) -> Result<Option<End>, Memory>
+) -> Result<Turned, Memory>
     requires keeping { Keeping journal.old process.old.locks.names }
     ensures carries { Carries (plan_of (flat_of step.now) (mind_of process.old))
-        (λ end. turn_of end (mind_of process.new)) result
+        (λ turned. turn_in turned (mind_of process.new)) result
         journal.old journal.new (D.told outside.old) (D.told outside.new) }
     ensures keeping { Keeping journal.new process.new.locks.names }
 {
@@ -41,10 +43,16 @@ pub fn run_statement<D: Outside>(
             journal,
         ),
         Step::Unset { name } => unset_variable(alloc, name.as_slice(), process, outside, journal),
-        Step::Plain(recipe) => run_recipe(alloc, recipe, process, outside, journal),
-        Step::Defect { text, .. } => skip_line(alloc, text.as_slice(), process, outside, journal),
-        Step::Enter { .. } => Ok(None),
-        Step::Leave { .. } => Ok(None),
+        Step::Plain(recipe) => turned_by(run_recipe(alloc, recipe, process, outside, journal)),
+        Step::Defect { text, .. } => turned_by(skip_line(
+            alloc,
+            text.as_slice(),
+            process,
+            outside,
+            journal,
+        )),
+        Step::Enter { .. } => Ok(Turned::Goes),
+        Step::Leave { .. } => Ok(Turned::Goes),
     }
 }
 

@@ -5,30 +5,36 @@ ghost use Rattle.pm_journal.specs.Held.{Keeping};
 ghost use Rattle.pm_meaning.specs.Minds.{mind_of};
 ghost use Rattle.pm_meaning.specs.Running.{Running};
 ghost use Rattle.pm_run.specs.Ends.{stands_at};
-ghost use Rattle.pm_run.specs.Frames.{items_of, steps_of, left_in};
+ghost use Rattle.pm_run.specs.Frames.{items_of, steps_of, left_over};
 ghost use Rattle.pm_run.specs.Stretches.{Walks};
-ghost use Rattle.pm_run.specs.Walk.{stands, less_by, IsStepAt, EndsAt, Entered, stepped_of};
+ghost use Rattle.pm_run.specs.Walk.{stands, less_by, IsStepAt, EndsAt, Entered, ComesBack, stepped_of};
 
-use crate::frames::{Open, RcFrame};
+use crate::frames::{Open, RcFrame, Waiting};
 use crate::gates::{Gate, pass_gate};
 use crate::leaving::{give_maybe, leave_blocks};
+use crate::rcfiles::{end_file, include, switch};
 use crate::statements::run_statement;
+use crate::turned::Turned;
 use pm_acts::Outside;
-use pm_bytes::Memory;
+use pm_bytes::{Memory, Name};
 use pm_code::Step;
 use pm_journal::Journal;
 use pm_meaning::{End, Process, new_chain, succeed};
 use std::alloc::Global;
 
-/// What comes of an item: the next one, the process's end, or the rcfile's.
-#[derive(Clone, Copy)]
+/// What comes of an item: the next one, the process's end, nothing that is left, another rcfile before the next item or
+/// in the place of the current one, or the end of that one.
+#[derive(Drop)]
 pub enum Stepped {
     Went,
     Halts(End),
     Over,
+    Includes(Name),
+    Switches(Name),
+    EndsFile,
 }
 
-/// Runs what is left of the rcfile, up to the process's end, if a statement ends it. Then the open blocks are left.
+/// Runs what is left of the rcfiles, up to the process's end, if a statement ends it. Then the open blocks are left.
 pub fn run_frame<D: Outside>(
     alloc: Global,
     frame: &mut RcFrame,
@@ -47,14 +53,17 @@ pub fn run_frame<D: Outside>(
             Stepped::Went => {}
             Stepped::Over => return Ok(None),
             Stepped::Halts(end) => {
-                leave_blocks(alloc, &mut frame.blocks, end, process, outside, journal)?;
+                leave_blocks(alloc, frame, end, process, outside, journal)?;
                 return Ok(Some(end));
             }
+            Stepped::Includes(name) => include(alloc, name, frame, process, outside, journal)?,
+            Stepped::Switches(name) => switch(alloc, name, frame, process, outside, journal)?,
+            Stepped::EndsFile => end_file(alloc, frame, process, outside, journal)?,
         }
     }
 }
 
-// Does the first item of the rcfile.
+// Does the first item. What a statement does leaves the count of openings as it was.
 fn step_frame<D: Outside>(
     alloc: Global,
     frame: &mut RcFrame,
@@ -67,8 +76,10 @@ fn step_frame<D: Outside>(
         (λ stepped. stands stepped frame.new (mind_of process.new)) result
         journal.old journal.new (D.told outside.old) (D.told outside.new) }
     ensures keeping { Keeping journal.new process.new.locks.names }
-    ensures falls { IfOk result (λ stepped. left_in frame.new + less_by stepped ≤ left_in frame.old) }
+    ensures falls { IfOk result (λ stepped. left_over process.new.openings frame.new + less_by stepped
+        ≤ left_over process.old.openings frame.old) }
 {
+    let opened = process.openings;
     match step_at(&frame.code.steps, frame.place) {
         None => {
             let place = frame.place;
@@ -83,14 +94,18 @@ fn step_frame<D: Outside>(
                 let behind = *end + 1;
                 match pass_gate(alloc, recipe, process, outside, journal) {
                     Err(Memory) => Err(Memory),
-                    Ok(gate) => enter_block(frame, behind, gate, process),
+                    Ok(gate) => {
+                        process.openings = opened;
+                        enter_block(frame, behind, gate, process)
+                    }
                 }
             }
             _ => match run_statement(alloc, step, process, outside, journal) {
                 Err(Memory) => Err(Memory),
-                Ok(end) => {
+                Ok(turned) => {
+                    process.openings = opened;
                     frame.place += 1;
-                    Ok(stepped_by(end))
+                    Ok(stepped_by(turned))
                 }
             },
         },
@@ -121,6 +136,7 @@ fn enter_block(
     ensures entered { IfOk result (λ stepped.
         Entered behind gate stepped frame.old frame.new (mind_of process.old) (mind_of process.new)) }
     ensures locks { process.new.locks ≡ process.old.locks }
+    ensures count { process.new.openings ≡ process.old.openings }
 {
     match gate {
         Gate::Passes => {
@@ -138,7 +154,7 @@ fn enter_block(
     }
 }
 
-// Ends the innermost block; without one the rcfile is over.
+// Ends the innermost block; without one the rcfile is over, and the one that waits first goes on.
 fn end_innermost<D: Outside>(
     alloc: Global,
     frame: &mut RcFrame,
@@ -153,10 +169,11 @@ fn end_innermost<D: Outside>(
         (λ stepped. stands stepped frame.new (mind_of process.new)) result
         journal.old journal.new (D.told outside.old) (D.told outside.new) }
     ensures keeping { Keeping journal.new process.new.locks.names }
-    ensures falls { IfOk result (λ stepped. left_in frame.new + less_by stepped ≤ left_in frame.old) }
+    ensures falls { IfOk result (λ stepped. left_over process.new.openings frame.new + less_by stepped
+        ≤ left_over process.old.openings frame.old) }
 {
     match frame.blocks.pop_front() {
-        None => Ok(Stepped::Over),
+        None => come_back(frame, process),
         Some(open) => {
             let Open { saved, lock } = open;
             give_maybe(alloc, &lock, process, outside, journal)?;
@@ -167,11 +184,40 @@ fn end_innermost<D: Outside>(
     }
 }
 
-fn stepped_by(end: Option<End>) -> Stepped
-    ensures { result ≡ stepped_of end }
+// The rcfile that waits first goes on.
+fn come_back(frame: &mut RcFrame, process: &mut Process) -> Result<Stepped, Memory>
+    ensures back { IfOk result (λ stepped.
+        ComesBack stepped frame.old frame.new (mind_of process.old) (mind_of process.new)) }
+    ensures locks { process.new.locks ≡ process.old.locks }
+    ensures count { process.new.openings ≡ process.old.openings }
 {
-    match end {
-        None => Stepped::Went,
-        Some(end) => Stepped::Halts(end),
+    match frame.outer.pop_front() {
+        None => Ok(Stepped::Over),
+        Some(waiting) => {
+            let Waiting {
+                name,
+                code,
+                place,
+                blocks,
+            } = waiting;
+            process.vars.set_rcfile(&name)?;
+            process.rcfile = name;
+            frame.code = code;
+            frame.place = place;
+            frame.blocks = blocks;
+            Ok(Stepped::Went)
+        }
+    }
+}
+
+fn stepped_by(turned: Turned) -> Stepped
+    ensures { result ≡ stepped_of turned }
+{
+    match turned {
+        Turned::Goes => Stepped::Went,
+        Turned::Halts(end) => Stepped::Halts(end),
+        Turned::Includes(name) => Stepped::Includes(name),
+        Turned::Switches(name) => Stepped::Switches(name),
+        Turned::EndsFile => Stepped::EndsFile,
     }
 }

@@ -1,18 +1,17 @@
-use Rattle.std.proofs.Common.{length}
 use Rattle.pm_journal.specs.Held.{Keeping}
 use Rattle.pm_journal.specs.Walking.{Reaches}
 use Rattle.pm_meaning.specs.Minds.{mind_of}
 use Rattle.pm_meaning.specs.Running.{Leaving, step}
 use Rattle.pm_meaning.specs.declared.process.Ending.{Ending}
-use Rattle.pm_run.specs.Frames.{block_locks}
+use Rattle.pm_run.specs.Frames.{all_locks, left_in}
 use Rattle.pm_run.proofs.leaving.leave_blocks.Given as goal
 
 abbrev pub invariant-loop-open : goal.invariant-loop-open
 invariant-loop-open g l = record {
-  reaches : Reaches {X = Ending} step (Leaving (block_locks l.fn.blocks.items) l.fn.end (mind_of l.fn.process)) (Leaving (block_locks l.blocks.items) l.fn.end (mind_of l.process))
+  reaches : Reaches {X = Ending} step (Leaving (all_locks l.fn.frame) l.fn.end (mind_of l.fn.process)) (Leaving (all_locks l.frame) l.fn.end (mind_of l.process))
       l.fn.journal l.journal (g.D.Outside.told l.fn.outside) (g.D.Outside.told l.outside);
   keeping : Keeping l.journal l.process.locks.names;
 }
 
 abbrev pub decreases-loop-open : goal.decreases-loop-open
-decreases-loop-open g l = length l.blocks.items
+decreases-loop-open g l = left_in l.frame

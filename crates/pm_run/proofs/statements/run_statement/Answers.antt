@@ -17,7 +17,13 @@ returns-in-Unset-clause-carries g c =
 
 pub returns-in-Plain-clause-carries : goal.returns-in-Plain-clause-carries
 returns-in-Plain-clause-carries g c =
-    (ok_map _ _ _ (λ end k. by_step c.args.step.now _ (mind_of c.args.process.now) _ _ _ _ _ c.in-Plain.is k) c.run_recipe.ensures.carries.0, err_map _ _ _ (λ k. by_step_out c.args.step.now _ (mind_of c.args.process.now) _ _ _ _ c.in-Plain.is k) c.run_recipe.ensures.carries.1)
+    let h = c.turned_by.ensures _ _ _ _ _ _ c.run_recipe.ensures.carries in
+    (ok_map _ _ _ (λ end k. by_step c.args.step.now _ (mind_of c.args.process.now) _ _ _ _ _ c.in-Plain.is k) h.0, err_map _ _ _ (λ k. by_step_out c.args.step.now _ (mind_of c.args.process.now) _ _ _ _ c.in-Plain.is k) h.1)
+
+pub returns-in-Defect-clause-carries : goal.returns-in-Defect-clause-carries
+returns-in-Defect-clause-carries g c =
+    let h = rw c.as_slice-in-Defect.ensures at (c.turned_by-in-Defect.ensures _ _ _ _ _ _ c.skip_line.ensures.carries) in
+    (ok_map _ _ _ (λ end k. by_step c.args.step.now _ (mind_of c.args.process.now) _ _ _ _ _ c.in-Defect.is k) h.0, err_map _ _ _ (λ k. by_step_out c.args.step.now _ (mind_of c.args.process.now) _ _ _ _ c.in-Defect.is k) h.1)
 
 pub returns-in-Enter-clause-carries : goal.returns-in-Enter-clause-carries
 returns-in-Enter-clause-carries g c = (no_statement c.args.step.now _ (mind_of c.args.process.now) _ _ (ap flat_of c.in-Enter.is) refl, tt)

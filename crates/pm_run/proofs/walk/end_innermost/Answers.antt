@@ -1,14 +1,39 @@
-use Rattle.std.proofs.Common.{◌≡◌, [], rules, refl, ap}
+use Rattle.std.proofs.Common.{◌≡◌, ◌≤◌, ◌+◌, ◌-◌, ◌*◌, [], length, drop, rules, refl, sym, ap, subst}
+use Rattle.pm_code.specs.Ahead.{lists_of}
+use Rattle.pm_journal.specs.Walking.{Reaches}
 use Rattle.pm_journal.proofs.WantsMemory.{on_err}
 use Rattle.pm_meaning.specs.Chains.{with_chain}
 use Rattle.pm_meaning.specs.Minds.{mind_of}
-use Rattle.pm_run.proofs.WalkLemmas.{block_wants, block_reaches, file_reaches}
+use Rattle.pm_meaning.specs.Running.{Running, step}
+use Rattle.pm_meaning.specs.declared.process.Ending.{Ending}
+use Rattle.pm_actions.proofs.Choices.{ok_map}
+use Rattle.pm_run.specs.Frames.{weave, steps_of, items_of, outer_items, left_outside, left_in}
+use Rattle.pm_run.specs.Walk.{less_by, stands}
+use Rattle.pm_run.proofs.WalkLemmas.{block_wants, block_reaches, back_reaches, back_wants, back_falls, over_falls}
 use Rattle.pm_run.proofs.walk.end_innermost.Goals as goal
 
 pub returns-in-None-clause-walks : goal.returns-in-None-clause-walks
 returns-in-None-clause-walks g c =
-    let none : c.args.frame.now.blocks.items ≡ [] = search rules in
-    (file_reaches c.args.frame.now c.args.next (mind_of c.args.process.now) _ _ c.requires.ends none, tt)
+    let old = c.args.frame.now in
+    let f = record old { blocks = c.pop_front.new.self } in
+    let p = mind_of c.args.process.now in
+    let same : old.blocks.items ≡ c.pop_front.new.self.items = search rules in
+    let none : f.blocks.items ≡ [] = search rules in
+    let items : items_of f ≡ items_of old = ap (λ l. weave (lists_of (drop old.place (steps_of old))) l (outer_items old.outer.items)) (sym same) in (
+      ok_map c.come_back.result _ _ (λ s h. subst (λ l. Reaches {X = Ending} step (Running l p) (stands s c.come_back.new.frame (mind_of c.come_back.new.process)) c.args.journal.now c.args.journal.now (g.D.Outside.told c.args.outside.now) (g.D.Outside.told c.args.outside.now))
+          items (back_reaches s f c.come_back.new.frame c.args.next p (mind_of c.come_back.new.process) _ _ c.requires.ends none h)) c.come_back.ensures.back,
+      on_err c.come_back.result _ (back_wants old p _ _),
+    )
+
+pub returns-in-None-clause-falls : goal.returns-in-None-clause-falls
+returns-in-None-clause-falls g c =
+    let old = c.args.frame.now in
+    let f = record old { blocks = c.pop_front.new.self } in
+    let same : old.blocks.items ≡ c.pop_front.new.self.items = search rules in
+    let none : f.blocks.items ≡ [] = search rules in
+    let left : left_in f ≡ left_in old = ap (λ l. 2 * (length old.code.steps.items - old.place) + length l + left_outside old.outer.items) (sym same) in
+    ok_map c.come_back.result _ _ (λ s h. over_falls c.args.process.now.openings c.come_back.new.process.openings (less_by s) old c.come_back.new.frame c.come_back.ensures.count
+    (subst (λ n. left_in c.come_back.new.frame + less_by s ≤ n) left (back_falls s f c.come_back.new.frame (mind_of c.args.process.now) (mind_of c.come_back.new.process) none h))) c.come_back.ensures.back
 
 pub returns-in_err-give_maybe-in-Some-clause-walks : goal.returns-in_err-give_maybe-in-Some-clause-walks
 returns-in_err-give_maybe-in-Some-clause-walks g c =
@@ -17,6 +42,6 @@ returns-in_err-give_maybe-in-Some-clause-walks g c =
 pub returns-in_ok-give_maybe-in-Some-clause-walks : goal.returns-in_ok-give_maybe-in-Some-clause-walks
 returns-in_ok-give_maybe-in-Some-clause-walks g c =
     let q = mind_of c.give_maybe.new.process in (
-      block_reaches c.args.frame.now c.in-Some.open c.pop_front.new.self.items c.args.next (mind_of c.args.process.now) c.requires.ends c.in-Some.ensures.items (record c.args.frame.now { place = c.args.next; blocks = c.pop_front.new.self }) q (with_chain c.succeed-process.result q) _ _ _ _ refl refl refl (ap (λ chain. with_chain chain q) c.succeed-process.ensures) c.in_ok-give_maybe-in-Some.ensures.carries.0,
+      block_reaches c.args.frame.now c.in-Some.open c.pop_front.new.self.items c.args.next (mind_of c.args.process.now) c.requires.ends c.in-Some.ensures.items (record c.args.frame.now { place = c.args.next; blocks = c.pop_front.new.self }) q (with_chain c.succeed-process.result q) _ _ _ _ refl refl refl refl (ap (λ chain. with_chain chain q) c.succeed-process.ensures) c.in_ok-give_maybe-in-Some.ensures.carries.0,
       tt,
     )

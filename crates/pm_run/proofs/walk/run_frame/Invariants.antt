@@ -3,7 +3,7 @@ use Rattle.pm_journal.specs.Walking.{Reaches}
 use Rattle.pm_meaning.specs.Minds.{mind_of}
 use Rattle.pm_meaning.specs.Running.{Running, step}
 use Rattle.pm_meaning.specs.declared.process.Ending.{Ending}
-use Rattle.pm_run.specs.Frames.{items_of, left_in}
+use Rattle.pm_run.specs.Frames.{items_of, left_over}
 use Rattle.pm_run.proofs.walk.run_frame.Given as goal
 
 abbrev pub invariant-loop-end : goal.invariant-loop-end
@@ -14,4 +14,4 @@ invariant-loop-end g l = record {
 }
 
 abbrev pub decreases-loop-end : goal.decreases-loop-end
-decreases-loop-end g l = left_in l.frame
+decreases-loop-end g l = left_over l.process.openings l.frame

@@ -1,14 +1,15 @@
-use Rattle.std.proofs.Common.{◌<◌, ◌≤◌, ◌+◌, subst, sym, ap, length, arith}
+use Rattle.std.proofs.Common.{◌<◌, ◌≤◌, ◌+◌, refl, subst, sym, ap, length, arith}
 use Rattle.pm_recipe.specs.View.{top_of}
 use Rattle.pm_journal.specs.Walking.{Reaches}
+use Rattle.pm_meaning.specs.Changes.{with_openings}
 use Rattle.pm_meaning.specs.Minds.{mind_of}
 use Rattle.pm_meaning.specs.Running.{Running, step}
 use Rattle.pm_meaning.specs.declared.process.Ending.{Ending}
 use Rattle.pm_actions.proofs.Choices.{ok_map}
 use Rattle.pm_run.specs.Frames.{steps_of, items_of}
-use Rattle.pm_run.specs.Walk.{stands, gate_turn}
+use Rattle.pm_run.specs.Walk.{stands, gate_turn, less_by}
 use Rattle.pm_journal.proofs.WantsMemory.{on_err}
-use Rattle.pm_run.proofs.WalkLemmas.{ends_stop, step_in, none_in, enter_at, jump_at, jump_fits, gate_wants, gate_reaches, gate_then_wants, entered_falls, one_falls, one_wants, one_reaches, does_one}
+use Rattle.pm_run.proofs.WalkLemmas.{ends_stop, step_in, none_in, enter_at, jump_at, jump_fits, gate_wants, gate_reaches, gate_then_wants, entered_falls, over_falls, one_falls, one_wants, one_reaches, does_one}
 use Rattle.pm_run.proofs.walk.step_frame.Goals as goal
 
 pub end_innermost-requires-clause-ends : goal.end_innermost-requires-clause-ends
@@ -70,7 +71,8 @@ returns-in-Ok-clause-falls g c =
     let jump = jump_at f (top_of c.in-Enter.recipe) c.in-Enter.end e in
     let further : f.place < c.in-Enter.end + 1 = omega (arith, jump.further) in
     let within : c.in-Enter.end + 1 ≤ length f.code.steps.items = omega (arith, jump_fits f c.in-Enter.end _ jump) in
-    ok_map c.enter_block.result _ _ (λ s h. entered_falls (c.in-Enter.end + 1) c.in-Ok.gate s f c.enter_block.new.frame (mind_of c.pass_gate.new.process) (mind_of c.enter_block.new.process) h further within) c.enter_block.ensures.entered
+    ok_map c.enter_block.result _ _ (λ s h. over_falls c.args.process.now.openings c.enter_block.new.process.openings (less_by s) f c.enter_block.new.frame c.enter_block.ensures.count
+    (entered_falls (c.in-Enter.end + 1) c.in-Ok.gate s f c.enter_block.new.frame (with_openings c.args.process.now.openings (mind_of c.pass_gate.new.process)) (mind_of c.enter_block.new.process) h further within)) c.enter_block.ensures.entered
 
 pub returns-in-Err-run_statement : goal.returns-in-Err-run_statement
 returns-in-Err-run_statement g c =
@@ -84,18 +86,20 @@ returns-in-Err-run_statement g c =
     }
 
 pub returns-in-Ok-run_statement : goal.returns-in-Ok-run_statement
-returns-in-Ok-run_statement g c =
+returns-in-Ok-run_statement goals c =
     let f = c.args.frame.now in
     let at = step_in c.in-Some.step.now f.code.steps.items c.deref.result.now f.place c.in-Some.ensures c.deref.ensures.value in
     let d = does_one c.in-Some.step.now c.in_default.not-Enter c.in_default.not-Leave in
     let p = mind_of c.args.process.now in
     let q = mind_of c.run_statement.new.process in
+    let g = record f { place = f.place + 1 } in
+    let r = with_openings c.args.process.now.openings q in
     record {
       walks = (
-        subst (λ s. Reaches {X = Ending} step (Running (items_of f) p) (stands s (record f { place = f.place + 1 }) q) c.args.journal.now c.run_statement.new.journal (g.D.Outside.told c.args.outside.now) (g.D.Outside.told c.run_statement.new.outside))
-            (sym c.stepped_by.ensures) (one_reaches f c.in-Some.step.now p at d c.in-Ok-run_statement.end q _ _ _ _ c.in-Ok-run_statement.ensures.carries.0),
+        subst (λ s. Reaches {X = Ending} step (Running (items_of f) p) (stands s g r) c.args.journal.now c.run_statement.new.journal (goals.D.Outside.told c.args.outside.now) (goals.D.Outside.told c.run_statement.new.outside))
+            (sym c.stepped_by.ensures) (one_reaches f c.in-Some.step.now p at d c.in-Ok-run_statement.turned q _ _ _ _ c.in-Ok-run_statement.ensures.carries.0),
         tt,
       );
       keeping = c.in-Ok-run_statement.ensures.keeping;
-      falls = one_falls f c.in-Ok-run_statement.end c.stepped_by.result c.stepped_by.ensures at.fits;
+      falls = over_falls c.args.process.now.openings c.args.process.now.openings (less_by c.stepped_by.result) f g refl (one_falls f c.in-Ok-run_statement.turned c.stepped_by.result c.stepped_by.ensures at.fits);
     }

@@ -1,0 +1,53 @@
+use Rattle.std.proofs.Common.{subst, ap}
+use Rattle.pm_journal.specs.Walking.{Reaches}
+use Rattle.pm_journal.proofs.WalkJoin.{interrupted_at_once, interrupted_reached}
+use Rattle.pm_meaning.specs.Blocks.{begun_block}
+use Rattle.pm_meaning.specs.Changes.{with_rcfile}
+use Rattle.pm_meaning.specs.Minds.{mind_of}
+use Rattle.pm_meaning.specs.Running.{Running, Switching, LeavingFile, switched, ahead, step}
+use Rattle.pm_meaning.specs.declared.process.Ending.{Ending}
+use Rattle.pm_actions.proofs.Choices.{ok_map, err_map}
+use Rattle.pm_run.specs.Frames.{items_of, outer_items, block_locks}
+use Rattle.pm_run.proofs.ProcessLemmas.{reaches_reached}
+use Rattle.pm_run.proofs.RcfileLemmas.{ok_both, none_switched, none_falls, some_switched, place_taken, place_falls}
+use Rattle.pm_run.proofs.rcfiles.switch.Goals as goal
+
+pub returns-in-Err-clause-walks : goal.returns-in-Err-clause-walks
+returns-in-Err-clause-walks g c =
+    let items = items_of c.args.frame.now in
+    (tt, interrupted_at_once step (Switching c.args.name items (mind_of c.args.process.now)) _ _ _ _ (c.in-Err.ensures.memory items (switched c.args.name items)))
+
+pub returns-in-None-clause-walks : goal.returns-in-None-clause-walks
+returns-in-None-clause-walks g c =
+    let p = mind_of c.args.process.now in
+    let q = mind_of c.open_code.new.process in
+    (none_switched c.args.name (items_of c.args.frame.now) p q _ _ _ _ (rw c.in-None.is at c.in-Ok.ensures.opens), tt)
+
+pub returns-in-None-clause-falls : goal.returns-in-None-clause-falls
+returns-in-None-clause-falls g c =
+    let opens = rw c.in-None.is at c.in-Ok.ensures.opens in
+    none_falls c.args.process.now.openings c.open_code.new.process.openings c.args.frame.now opens.counted
+
+pub returns-in-Some-clause-walks : goal.returns-in-Some-clause-walks
+returns-in-Some-clause-walks g c =
+    let f = c.args.frame.now in
+    let name = c.args.name in
+    let code = c.in-Some.code in
+    let p = mind_of c.args.process.now in
+    let q = mind_of c.open_code.new.process in
+    let r = mind_of c.take_place.new.process in
+    let opens = rw c.in-Some.is at c.in-Ok.ensures.opens in
+    let items = ahead opens.trees (outer_items f.outer.items) in
+    let start = Switching name (items_of f) p in
+    let middle = LeavingFile (block_locks f.blocks.items) items (begun_block (with_rcfile name q)) in
+    let first = some_switched name code f p q c.args.journal.now c.open_code.new.journal (g.D.Outside.told c.args.outside.now) (g.D.Outside.told c.open_code.new.outside) opens in (
+      ok_both c.take_place.result _ _ _ (λ _ h takes. subst (λ l. Reaches {X = Ending} step start (Running l r) c.args.journal.now c.take_place.new.journal (g.D.Outside.told c.args.outside.now) (g.D.Outside.told c.take_place.new.outside))
+          (place_taken name code f p q c.args.journal.now c.open_code.new.journal (g.D.Outside.told c.args.outside.now) (g.D.Outside.told c.open_code.new.outside) opens c.take_place.new.frame takes)
+          (reaches_reached start middle (Running items r) _ _ _ _ _ _ first h)) (c.take_place.ensures.walks items).0 c.take_place.ensures.takes,
+      err_map c.take_place.result _ _ (λ h. interrupted_reached step start middle _ _ _ _ _ _ first h) (c.take_place.ensures.walks items).1,
+    )
+
+pub returns-in-Some-clause-falls : goal.returns-in-Some-clause-falls
+returns-in-Some-clause-falls g c =
+    let opens = rw c.in-Some.is at c.in-Ok.ensures.opens in
+    ok_map c.take_place.result _ _ (λ _ takes. place_falls c.args.name c.in-Some.code c.args.frame.now (mind_of c.args.process.now) (mind_of c.open_code.new.process) _ _ _ _ opens c.take_place.new.frame c.take_place.new.process.openings c.take_place.ensures.count takes) c.take_place.ensures.takes

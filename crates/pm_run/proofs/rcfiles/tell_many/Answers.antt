@@ -1,0 +1,16 @@
+use Rattle.std.proofs.Common.{refl}
+use Rattle.pm_journal.specs.LogText.{too_many_rcfiles_line}
+use Rattle.pm_journal.proofs.WantsMemory.{out_anywhere}
+use Rattle.pm_meaning.specs.Minds.{mind_of}
+use Rattle.pm_meaning.specs.Turns.{say_then}
+use Rattle.pm_actions.proofs.Choices.{line_told, line_out}
+use Rattle.pm_run.proofs.rcfiles.tell_many.Goals as goal
+
+pub returns-in-Err-clause-carries : goal.returns-in-Err-clause-carries
+returns-in-Err-clause-carries g c = λ next. (tt, out_anywhere (say_then (mind_of c.args.process.now) (too_many_rcfiles_line c.args.name.now) next) _ _ _ refl)
+
+pub returns-in-Err-say-clause-carries : goal.returns-in-Err-say-clause-carries
+returns-in-Err-say-clause-carries g c = λ next. (tt, line_out (mind_of c.args.process.now) (too_many_rcfiles_line c.args.name.now) c.in-Ok.line next _ _ _ _ c.in-Ok.ensures c.in-Err-say.ensures.memory)
+
+pub returns-in-Ok-say-clause-carries : goal.returns-in-Ok-say-clause-carries
+returns-in-Ok-say-clause-carries g c = λ next. (line_told (mind_of c.args.process.now) (too_many_rcfiles_line c.args.name.now) c.in-Ok.line next _ _ _ _ c.in-Ok.ensures c.in-Ok-say.ensures.ok, tt)
