@@ -142,8 +142,9 @@ fn run_mail<'a, H: Host, O: Sink, E: Sink>(
     ensures out { objects.new.out.ghost_name ≡ objects.old.out.ghost_name }
     ensures err { objects.new.err.ghost_name ≡ objects.old.err.ghost_name }
 {
+    let softly = line.fails_softly;
     match run_objects(alloc, line, env, bytes, objects, journal) {
-        Ok(ending) => finish(&mut *objects.err, ending),
+        Ok(ending) => finish(&mut *objects.err, softly, ending),
         Err(Memory) => refuse(&mut *objects.err, Status::SystemError),
     }
 }
@@ -174,14 +175,14 @@ fn run_objects<'a, H: Host, O: Sink, E: Sink>(
     run_process(alloc, line, env, bytes, objects, journal)
 }
 
-// The status of a run that ended so; a mail filter without its rcfile says so.
-fn finish<E: Sink>(err: &mut E, ending: Ending) -> u8
-    ensures status { result ≡ status_number (end_status ending.end) }
+// The status of a run that ended so, softly or not; a mail filter without its rcfile says so.
+fn finish<E: Sink>(err: &mut E, softly: bool, ending: Ending) -> u8
+    ensures status { result ≡ status_number (end_status softly ending.end) }
     ensures last { LastLine ending.end (E.told err.old) (E.told err.new) }
 {
     match ending.end {
         End::NoRc => refuse(err, Status::NoInput),
-        other => status_of(other).number(),
+        other => status_of(softly, other).number(),
     }
 }
 
@@ -205,6 +206,7 @@ fn line_of(status: Status) -> &'static [u8]
         Status::InputOutput => b"procmail: Couldn't read the message\n",
         Status::Success => b"",
         Status::CannotCreate => b"",
+        Status::TemporaryFailure => b"",
         Status::NotBuilt => b"",
     }
 }
