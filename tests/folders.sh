@@ -118,6 +118,31 @@ grep -q "Couldn't write to \"bad\"" said || fail "a maildir whose new is a file:
 [ ! -e bad/tmp ] || [ -z "$(ls -A bad/tmp)" ] || fail "a maildir whose new is a file has a file left in tmp"
 echo "folders: a maildir whose new is a file takes nothing, and has nothing left"
 
+# A file system that is full in the middle of the message.
+{ message large; head -c 1048576 /dev/zero | tr '\0' 'x'; } > large
+mkdir small
+if mount -t tmpfs -o size=600k tmpfs small 2> /dev/null; then
+    trap 'umount "$folder/small" 2> /dev/null || true; rm -rf "$folder"' EXIT
+    mkdir small/plain
+    for word in small/md/ small/inbox/. small/plain; do
+        printf ':0\n%s\n' "$word" > rc
+        status=0
+        "$program" -m rc < large 2> said || status=$?
+        [ $status -eq 73 ] || fail "a full file system: $word ended with status $status"
+        place=${word%/.}
+        [ "$(head -n 1 said)" = "procmail: Couldn't write to \"${place%/}\"" ] || fail "a full file system: $word: said $(cat said)"
+        [ -z "$(find small -type f)" ] || fail "a full file system: $word has left $(find small -type f)"
+        "$program" -m rc < message1 || fail "a full file system: $word then takes no small message"
+        find small -type f -exec cmp -s {} message1 \; -delete
+        [ -z "$(find small -type f)" ] || fail "a full file system: $word then has a small message with other bytes"
+    done
+    umount small
+    trap 'rm -rf "$folder"' EXIT
+    echo "folders: a full file system leaves nothing in a folder of any kind, and the failure is told"
+else
+    echo "folders: no small file system can be made here: skipped"
+fi
+
 # A folder without write permission; the superuser may write everywhere.
 as_other=()
 if [ "$(id -u)" -eq 0 ]; then

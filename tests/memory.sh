@@ -1,6 +1,7 @@
 #!/usr/bin/env bash
 # Want of memory at each place where the program asks for some, in a run under a lock file, in one that ends in the default
-# mailbox, and in one with LOCKFILE: no lock file is left, the status is 71 or 0, and the mailbox has all of the mail or
+# mailbox, in one with LOCKFILE, and in one with a filter and a capture: no lock file is left, the status is 71 or 0, and the
+# mailbox has all of the mail or none of it.
 set -eu
 . "$(dirname "$0")/common.bash"
 compiler=$(command -v cc || command -v gcc || command -v clang || true)
@@ -108,4 +109,7 @@ else
 fi
 printf 'LOCKFILE=global.lock\n\n:0:\n* ^A: b\nmbox\n' > global
 each "LOCKFILE" -m global
+# The programs themselves get all memory.
+printf 'LD_PRELOAD=\n:0 fw:filter.lock\n| /bin/cat\n:0 w:capture.lock\nN=| /bin/echo 1\n:0:\nmbox\n' > programs
+each "a filter and a capture under lock files" -m programs
 echo "memory: passed"
