@@ -57,6 +57,7 @@ bench:
 	@bash bench/deliver.sh
 	@bash bench/conditions.sh
 	@bash bench/recipes.sh
+	@bash bench/programs.sh
 	@bash bench/formail.sh
 
 # The merge gate.
