@@ -112,6 +112,11 @@ run 'a forward without SENDMAIL' 'SENDMAIL=./no-such-sendmail\n:0\n! a@x\n:0\nun
 run 'a forward whose program fails under w' 'SENDMAIL=/bin/false\n:0 wi\n! a@x\n' 73
 grep -q 'Program failure (1)' said || fail 'nothing was said of a code of SENDMAIL'
 
+# For readers that mind it, formail takes the line `From ` off before a maildir gets the mail.
+printf "PATH=%s:/usr/bin:/bin\n:0 fhw\n| formail -f -I 'From '\n:0\nmd/\n" "$programs" > rc.lined
+"$program" -m rc.lined < message || fail 'a mail without its line From was not filed'
+sed 1d message | cmp -s - md/new/* || fail 'the file in the maildir is another mail'
+
 # A hundred programs in one run; the last of them finds no other that is left.
 : > hundred
 for number in $(seq 33); do
