@@ -1,6 +1,6 @@
 -- The last of some entries.
 use Rattle.std.proofs.Common.{◌≡◌, ◌-◌, suc, List, [], ◌∷◌, length, Some, ap, subst, arith, slice_get}
-use Rattle.pm_journal.specs.Outcomes.{output_in, last_output, file_in, last_file}
+use Rattle.pm_journal.specs.Outcomes.{output_in, last_output, file_in, last_file, is_missing, last_missing}
 use Rattle.pm_journal.specs.declared.acts.Entry.{Entry}
 
 some_is : (x e : Entry) → Some x ≡ Some e → e ≡ x
@@ -20,3 +20,8 @@ pub file_of_last : (es : List Entry) (e : Entry) → slice_get es (length es - 1
 file_of_last [] e h = absurd (cc)
 file_of_last (x ∷ []) e h = ap (λ k. file_in k.reply) (some_is x e h)
 file_of_last (x ∷ (y ∷ ys)) e h = file_of_last (y ∷ ys) e (one_further x y ys e h)
+
+pub missing_of_last : (es : List Entry) (e : Entry) → slice_get es (length es - 1) ≡ Some e → is_missing e.reply ≡ last_missing es
+missing_of_last [] e h = absurd (cc)
+missing_of_last (x ∷ []) e h = ap (λ k. is_missing k.reply) (some_is x e h)
+missing_of_last (x ∷ (y ∷ ys)) e h = missing_of_last (y ∷ ys) e (one_further x y ys e h)

@@ -15,6 +15,7 @@ pub mod PlanJoin
 pub mod ActPlans
 pub mod WantsMemory
 pub mod WalkJoin
+pub mod WalkLift
 pub mod PlanLeads
 pub mod FirstActs
 pub mod KeepingActs

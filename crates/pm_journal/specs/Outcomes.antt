@@ -1,7 +1,8 @@
--- What a reply says of a program that was run or of a piece that was filed, without the bytes that it carries.
-use Rattle.std.specs.Prelude.{ℕ, List, [], ◌∷◌, Option, Some, None}
+-- What a reply says of a program that was run, of a piece that was filed or of a file that was to be read, without the bytes that it
+-- carries.
+use Rattle.std.specs.Prelude.{ℕ, Bool, true, false, List, [], ◌∷◌, Option, Some, None}
 use Rattle.pm_journal.specs.declared.acts.Reply.{Reply}
-use Rattle.pm_journal.specs.declared.acts.Reply.TheVariants.{Ended, NotStarted, TooLong, Placed, TornAt, NamesOut}
+use Rattle.pm_journal.specs.declared.acts.Reply.TheVariants.{Ended, NotStarted, TooLong, Placed, TornAt, NamesOut, Missing}
 use Rattle.pm_journal.specs.declared.acts.Entry.{Entry}
 use Rattle.pm_journal.specs.declared.children.RunEnd.{RunEnd}
 use Rattle.pm_journal.specs.declared.children.RunEnd.TheVariants.{Ended as RunEnded, NotStarted as RunNotStarted, Broken as RunBroken, TooLong as RunTooLong}
@@ -44,3 +45,14 @@ abbrev pub last_file : List Entry → Option (List ℕ)
 last_file [] = None
 last_file (e ∷ []) = file_in e.reply
 last_file (e ∷ (f ∷ fs)) = last_file (f ∷ fs)
+
+-- nothing stood at the name that was read
+abbrev pub is_missing : Reply → Bool
+is_missing Missing = true
+is_missing other = false
+
+-- the last entry is of a file that was to be read, and wasn't there
+abbrev pub last_missing : List Entry → Bool
+last_missing [] = false
+last_missing (e ∷ []) = is_missing e.reply
+last_missing (e ∷ (f ∷ fs)) = last_missing (f ∷ fs)

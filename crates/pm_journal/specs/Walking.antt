@@ -42,6 +42,7 @@ pub record IsUnfinished {S X : Type 0} (step : S → Plan (Next S X)) (s : S) (e
 pub record Reaches {S X : Type 0} (step : S → Plan (Next S X)) (s t : S) (old new : JournalState) (before after : View) : Type 0 where
   pub more : List Entry
   pub entries : new.entries ≡ old.entries ++ more
+  pub arrives : ArrivesAt {X = X} step s more t
   pub means : (later : List Entry) (end : X) → Means step t later end → Means step s (more ++ later) end
   pub unfinished : (later : List Entry) (calls : List Logged) → IsUnfinished step t later calls → IsUnfinished step s (more ++ later) calls
   pub accounts : Accounts more before after
