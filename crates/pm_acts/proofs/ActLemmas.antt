@@ -1,5 +1,5 @@
 -- Acts after room was made, a file that was read in one act or in part, and locks that are given back.
-use Rattle.std.proofs.Common.{◌≡◌, ◌≤◌, ◌+◌, List, [], ◌∷◌, ◌++◌, ℕ, Bool, length, Option, Result, Ok, Err, IfOk, OnErr, refl, sym, ap, ◌∙◌, subst, append_assoc, append-nil, arith}
+use Rattle.std.proofs.Common.{◌≡◌, ◌≤◌, ◌+◌, List, [], ◌∷◌, ◌++◌, ℕ, Bool, length, Option, Some, None, Result, Ok, Err, IfOk, OnErr, refl, sym, ap, ◌∙◌, subst, append_assoc, append-nil, arith}
 use Rattle.pm_bytes.specs.declared.error.Memory.{Memory}
 use Rattle.pm_journal.specs.JournalState.{JournalState}
 use Rattle.pm_journal.specs.Entries.{View, Accounts}
@@ -15,22 +15,37 @@ use Rattle.pm_journal.specs.declared.locking.LockEnd.TheVariants.{Held, Busy, Fa
 use Rattle.pm_journal.specs.declared.acts.Reply.{Reply}
 use Rattle.pm_journal.specs.declared.acts.Act.{Act}
 use Rattle.pm_journal.specs.declared.acts.Act.TheVariants.{ReadFile, Run, Unlock}
-use Rattle.pm_journal.specs.Outcomes.{output_in, last_output, file_in, last_file}
+use Rattle.pm_journal.specs.Outcomes.{output_in, last_output, file_in, last_file, is_missing, last_missing}
 use Rattle.pm_journal.specs.declared.children.RunEnd.{RunEnd}
 use Rattle.pm_journal.specs.declared.placing.FolderEnd.{FolderEnd}
 use Rattle.pm_host.specs.declared.command.Command.{Command}
 use Rattle.pm_journal.specs.declared.acts.Entry.{Entry}
 use Rattle.pm_journal.proofs.AccountsJoin.{accounts_join, accounts_none}
 use Rattle.pm_journal.proofs.FirstActs.{act_after_room}
-use Rattle.pm_journal.proofs.KeepingActs.{keeping_plain, keeping_unlock}
+use Rattle.pm_journal.proofs.KeepingActs.{IsPlain, keeping_plain, keeping_unlock}
 use Rattle.pm_journal.proofs.KeepsJoin.{keeping_same}
 use Rattle.pm_journal.proofs.WantsMemory.{out_left_off}
-use Rattle.pm_acts.specs.Acts.{NotesRead, ReadsWhole, LeavesAct, NotesPlace, Places, NotesRun, Runs, place_act, after_taking}
+use Rattle.pm_acts.specs.Acts.{say_act, NotesRead, ReadsWhole, LeavesAct, NotesPlace, Places, NotesRun, Runs, place_act, after_taking}
 use Rattle.pm_acts.specs.declared.outside.Filing.{Filing}
+
+last_missing-end : (es : List Entry) (e : Entry) → last_missing (es ++ e ∷ []) ≡ is_missing e.reply
+last_missing-end [] e = refl
+last_missing-end (x ∷ []) e = refl
+last_missing-end (x ∷ (y ∷ ys)) e = last_missing-end (y ∷ ys) e
+
+-- a text that is said takes and gives no lock
+pub said_plain : (to : Option (List ℕ)) (text : List ℕ) → IsPlain (say_act to text)
+said_plain None text = tt
+said_plain (Some name) text = tt
 
 pub file_read : (name : List ℕ) (result : Result (Option (List ℕ)) Memory) (x w y : JournalState) (a b : View) → w.entries ≡ x.entries
     → IfOk result (λ content. NotesRead name content w y a b) → IfOk result (λ content. ReadsWhole name content x y a b)
-file_read name (Ok content) x w y a b e h = record { reply = h.reply; content_is = h.content_is; executes = act_after_room (ReadFile name) h.reply x w y a b e h.notes }
+file_read name (Ok content) x w y a b e h = record {
+  reply = h.reply;
+  content_is = h.content_is;
+  missing = ap last_missing h.notes.entries ∙ last_missing-end w.entries h.notes.entry ∙ ap is_missing h.notes.reply_is;
+  executes = act_after_room (ReadFile name) h.reply x w y a b e h.notes;
+}
 file_read name (Err f) x w y a b e h = tt
 
 pub file_left : (name : List ℕ) (result : Result (Option (List ℕ)) Memory) (x w y : JournalState) (a b : View) → w.entries ≡ x.entries → OnErr result (LeavesAct (ReadFile name) a b) → OnErr result (y ≡ w)

@@ -14,7 +14,7 @@ use Rattle.pm_journal.specs.declared.locking.LockEnd.{LockEnd}
 use Rattle.pm_journal.specs.declared.locking.LockEnd.TheVariants.{Held}
 use Rattle.pm_append.specs.ReadsFile.{content_of}
 use Rattle.pm_host.specs.declared.command.Command.{Command}
-use Rattle.pm_journal.specs.Outcomes.{run_end, output_in, last_output, folder_end, file_in, last_file}
+use Rattle.pm_journal.specs.Outcomes.{run_end, output_in, last_output, folder_end, file_in, last_file, is_missing, last_missing}
 use Rattle.pm_journal.specs.declared.children.RunEnd.{RunEnd}
 use Rattle.pm_journal.specs.declared.placing.FolderEnd.{FolderEnd}
 use Rattle.pm_acts.specs.declared.outside.Filing.{Filing}
@@ -40,10 +40,16 @@ pub record Says (text : List ℕ) (old new : JournalState) (before after : View)
   pub reply : Reply
   pub executes : Executes (ask (SayErr text)) reply old new before after
 
--- the file was read, with some reply that has this content
+-- the text was said in a file, or on `err`, with some reply
+pub record SaysTo (to : Option (List ℕ)) (text : List ℕ) (old new : JournalState) (before after : View) : Type 0 where
+  pub reply : Reply
+  pub executes : Executes (ask (say_act to text)) reply old new before after
+
+-- the file was read, with some reply that has this content: the entry of the reply is the journal's last one
 pub record ReadsWhole (name : List ℕ) (content : Option (List ℕ)) (old new : JournalState) (before after : View) : Type 0 where
   pub reply : Reply
   pub content_is : content ≡ content_of reply
+  pub missing : last_missing new.entries ≡ is_missing reply
   pub executes : Executes (ask (ReadFile name)) reply old new before after
 
 -- the act that files a piece in a folder

@@ -12,7 +12,7 @@ ghost use Rattle.pm_journal.specs.Noted.{NotesAct};
 ghost use Rattle.pm_journal.specs.Executed.{Carries, OutOfMemory, GivesEach};
 ghost use Rattle.pm_journal.specs.Held.{Keeping, holds_name, held_by, without};
 ghost use Rattle.pm_journal.specs.Plan.{ask};
-ghost use Rattle.pm_acts.specs.Acts.{Says, ReadsWhole, Places, Runs, place_act, after_taking};
+ghost use Rattle.pm_acts.specs.Acts.{Says, SaysTo, ReadsWhole, Places, Runs, say_act, place_act, after_taking};
 
 use crate::{Filing, Outside};
 use pm_append::WriteEnd;
@@ -38,6 +38,27 @@ pub fn say<D: Outside>(
 {
     journal.reserve(held.len() + 1)?;
     outside.say(journal, None, line);
+    Ok(())
+}
+
+/// Says a line in the file `to`, or on `err` where there is none.
+pub fn say_to<D: Outside>(
+    held: &HeldLocks,
+    to: Option<Name>,
+    line: Blob,
+    outside: &mut D,
+    journal: &mut Journal,
+) -> Result<(), Memory>
+    requires keeping { Keeping journal.old held.now.names }
+    ensures ok { IfOk result (λ _. SaysTo to line
+        journal.old journal.new (D.told outside.old) (D.told outside.new)) }
+    ensures memory { OnErr result (OutOfMemory (ask (say_act to line))
+        journal.old journal.new (D.told outside.old) (D.told outside.new)) }
+    ensures untouched { OnErr result (journal.new.entries ≡ journal.old.entries) }
+    ensures keeping { Keeping journal.new held.now.names }
+{
+    journal.reserve(held.len() + 1)?;
+    outside.say(journal, to, line);
     Ok(())
 }
 

@@ -6,6 +6,6 @@ pub mod acts;
 pub mod objects;
 pub mod outside;
 
-pub use acts::{ask_moment, give, give_all, place, probe, read, run, say, take, write_out};
+pub use acts::{ask_moment, give, give_all, place, probe, read, run, say, say_to, take, write_out};
 pub use objects::{Objects, lend};
 pub use outside::{Filing, Outside};
