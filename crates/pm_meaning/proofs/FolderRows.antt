@@ -1,6 +1,6 @@
 -- Worked rows: what words ask for, and deliveries to folders.
 use Rattle.std.proofs.Common.{◌≡◌, ◌+◌, ℕ, false, List, [], ◌∷◌, ◌++◌, Some, None, refl}
-use Rattle.std.specs.Prelude.{codes, pos}
+use Rattle.std.specs.Prelude.{codes, length, pos}
 use Rattle.pm_bytes.specs.Path.{full_name}
 use Rattle.pm_recipe.specs.declared.tree.Flags.{Flags}
 use Rattle.pm_journal.specs.LogText.{quoted}
@@ -55,7 +55,7 @@ two_folders : (flags : Flags) (p : Mind) (first second : List ℕ)
     ∷ entry Moment (Now (pos 7))
     ∷ entry (Place Maildir (full_name p.base (codes "two")) [] (folder_piece flags p) (record { moment = pos 7; pid = p.vars.marks.pid; serial = p.placed + 1 + 1; host_name = p.host_name })) (Placed second)
     ∷ []
-    ) (record { filed = Stored; mind = stored_in second (counted (stored_in first (counted p))) })
+    ) (record { filed = Stored; mind = stored_in second (length (folder_piece flags p)) (counted (stored_in first (length (folder_piece flags p)) (counted p))) })
 two_folders flags p first second = (refl, tt, (refl, tt, (refl, tt, (refl, tt, refl))))
 
 -- behind a folder that doesn't get the mail the next one isn't tried; what was begun is counted

@@ -1,6 +1,6 @@
 -- One destination: what it leaves of the process, and by which entries it got the mail.
 use Rattle.std.proofs.Common.{◌≡◌, ◌⊎◌, inl, inr, ℕ, Bool, true, false, List, [], ◌∷◌, Option, Some, None, refl, sym, ap, ◌∙◌, subst}
-use Rattle.std.specs.Prelude.{codes, cond, bytes_eq, if◌then◌else◌}
+use Rattle.std.specs.Prelude.{codes, length, cond, bytes_eq, if◌then◌else◌}
 use Rattle.pm_bytes.specs.Name.{is_usable}
 use Rattle.pm_bytes.specs.Path.{full_name}
 use Rattle.pm_host.proofs.Put.{same_name}
@@ -16,7 +16,7 @@ use Rattle.pm_journal.specs.Replies.{IsReplyTo}
 use Rattle.pm_vars.specs.Table.{Table}
 use Rattle.pm_vars.specs.Variables.{Variable, with_value}
 use Rattle.pm_meaning.specs.Changes.{counted, stored_in}
-use Rattle.pm_meaning.specs.Delivering.{Filing, mailbox_piece, folder_piece, next_stamp, placed_by, placed_at, in_folder, plain_prefix, in_plain, appended_by, to_file, file_as, file_one}
+use Rattle.pm_meaning.specs.Delivering.{Filing, mailbox_piece, folder_piece, next_stamp, placed_by, placed_at, in_folder, plain_prefix, in_plain, appended_by, to_file, file_size, file_as, file_one}
 use Rattle.pm_meaning.specs.Destinations.{full_of}
 use Rattle.pm_meaning.specs.Laws.{IsPlaced, IsAppended, HasMail}
 use Rattle.pm_meaning.specs.Locks.{is_nothing}
@@ -37,7 +37,7 @@ with_value_again name first second (v ∷ vs) =
 
 -- the variables once a destination is remembered
 abbrev pub remembering : List ℕ → Mind → Table
-remembering word p = (stored_in word p).vars
+remembering word p = (stored_in word 0 p).vars
 
 -- what stays of a process while it delivers: all but what it remembers, and how much it filed in folders
 pub record StaysSo (p q : Mind) : Type 0 where
@@ -48,14 +48,14 @@ pub record StaysSo (p q : Mind) : Type 0 where
 pub stays_itself : (p : Mind) → StaysSo p p
 stays_itself p = record { base = refl; message = refl; vars = λ word. refl }
 
-pub stays_stored : (before : List ℕ) (p : Mind) → StaysSo p (stored_in before p)
-stays_stored before p = record { base = refl; message = refl; vars = λ word. ap (λ vs. record p.vars { variables = vs }) (with_value_again (codes "LASTFOLDER") before word p.vars.variables) }
+pub stays_stored : (before : List ℕ) (size : ℕ) (p : Mind) → StaysSo p (stored_in before size p)
+stays_stored before size p = record { base = refl; message = refl; vars = λ word. ap (λ vs. record p.vars { variables = vs }) (with_value_again (codes "LASTFOLDER") before word p.vars.variables) }
 
 stays_counted : (p : Mind) → StaysSo p (counted p)
 stays_counted p = record { base = refl; message = refl; vars = λ word. refl }
 
-stays_placed : (before : List ℕ) (p : Mind) → StaysSo p (stored_in before (counted p))
-stays_placed before p = record { base = refl; message = refl; vars = λ word. ap (λ vs. record p.vars { variables = vs }) (with_value_again (codes "LASTFOLDER") before word p.vars.variables) }
+stays_placed : (before : List ℕ) (size : ℕ) (p : Mind) → StaysSo p (stored_in before size (counted p))
+stays_placed before size p = record { base = refl; message = refl; vars = λ word. ap (λ vs. record p.vars { variables = vs }) (with_value_again (codes "LASTFOLDER") before word p.vars.variables) }
 
 -- nothing was stored
 stays_out : (q : Mind) (filed : Filed) (p : Mind) (filing : Filing) → StaysSo p q → filing ≡ record { filed = filed; mind = q } → StaysSo p filing.mind
@@ -69,11 +69,11 @@ record AfterPlace (reply : Reply) (p : Mind) (filing : Filing) : Type 0 where
   same : StaysSo p filing.mind
   done : filing.filed ≡ Stored → (name : List ℕ) × (reply ≡ Placed name)
 
-placed : (folder : List ℕ) (p : Mind) (reply : Reply) (filing : Filing) → filing ≡ placed_by folder (counted p) reply → AfterPlace reply p filing
-placed folder p (Placed name) filing is = record { same = stays_out (stored_in name (counted p)) Stored p filing (stays_placed name p) is; done = λ s. (name, refl) }
-placed folder p (TornAt name count) filing is = record { same = stays_out (counted p) (Left name count) p filing (stays_counted p) is; done = λ s. not_stored (Left name count) (counted p) filing (λ e. cc) is s }
-placed folder p NamesOut filing is = record { same = stays_out (counted p) (Crowded folder) p filing (stays_counted p) is; done = λ s. not_stored (Crowded folder) (counted p) filing (λ e. cc) is s }
-placed folder p other filing is = record { same = stays_out (counted p) (Unwritten folder) p filing (stays_counted p) is; done = λ s. not_stored (Unwritten folder) (counted p) filing (λ e. cc) is s }
+placed : (folder : List ℕ) (size : ℕ) (p : Mind) (reply : Reply) (filing : Filing) → filing ≡ placed_by folder size (counted p) reply → AfterPlace reply p filing
+placed folder size p (Placed name) filing is = record { same = stays_out (stored_in name size (counted p)) Stored p filing (stays_placed name size p) is; done = λ s. (name, refl) }
+placed folder size p (TornAt name count) filing is = record { same = stays_out (counted p) (Left name count) p filing (stays_counted p) is; done = λ s. not_stored (Left name count) (counted p) filing (λ e. cc) is s }
+placed folder size p NamesOut filing is = record { same = stays_out (counted p) (Crowded folder) p filing (stays_counted p) is; done = λ s. not_stored (Crowded folder) (counted p) filing (λ e. cc) is s }
+placed folder size p other filing is = record { same = stays_out (counted p) (Unwritten folder) p filing (stays_counted p) is; done = λ s. not_stored (Unwritten folder) (counted p) filing (λ e. cc) is s }
 
 -- what was done in a folder
 record InFolder (kind : FolderKind) (folder piece : List ℕ) (es : List Entry) (p : Mind) (filing : Filing) : Type 0 where
@@ -84,7 +84,7 @@ at_moment : (kind : FolderKind) (folder prefix piece : List ℕ) (p : Mind) (m :
     → Plays (placed_at kind folder prefix piece p reply) es filing → InFolder kind folder piece (m ∷ es) p filing
 at_moment kind folder prefix piece p m (Now moment) [] filing act fits h = absurd h
 at_moment kind folder prefix piece p m (Now moment) (e ∷ []) filing act fits h =
-    let k = placed folder p e.reply filing h.2 in
+    let k = placed folder (length piece) p e.reply filing h.2 in
     record { same = k.same; done = λ s. let d = k.done s in (prefix, next_stamp p moment, d.0, act, h.0, d.1) }
 at_moment kind folder prefix piece p m (Now moment) (e ∷ f ∷ es) filing act fits h = absurd h.2
 at_moment kind folder prefix piece p m other es filing act fits h = absurd fits
@@ -143,7 +143,7 @@ filed_as : (kind : Option FolderKind) (flags : Flags) (name : List ℕ) (p : Min
     → AtOne kind (full_name p.base name) (mailbox_piece flags p) (folder_piece flags p) es p filing
 filed_as None flags name p es filing h =
     let full = full_name p.base name in
-    let k = file_only (is_nothing full) flags full (mailbox_piece flags p) (stored_in name p) p es filing (stays_stored name p) h in
+    let k = file_only (is_nothing full) flags full (mailbox_piece flags p) (stored_in name (file_size full flags p) p) p es filing (stays_stored name (file_size full flags p) p) h in
     record { same = k.same; done = k.done }
 filed_as (Some kind) flags name p es filing h =
     let k = in_one kind (full_name p.base name) [] (folder_piece flags p) p es filing h in

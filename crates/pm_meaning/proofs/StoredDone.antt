@@ -13,7 +13,7 @@ use Rattle.pm_meaning.specs.Minds.{Mind}
 use Rattle.pm_meaning.specs.declared.process.Destination.{Destination}
 use Rattle.pm_meaning.specs.declared.process.Filed.{Filed}
 use Rattle.pm_meaning.specs.declared.process.Filed.TheVariants.{Stored, Unwritten, Left, Crowded, Unnamed}
-use Rattle.pm_meaning.proofs.NoDelivery.{parts_of}
+use Rattle.pm_journal.proofs.WalkJoin.{parts_of}
 use Rattle.pm_meaning.proofs.OneFiled.{StaysSo, one_filed}
 
 -- all have the mail, and the test says so

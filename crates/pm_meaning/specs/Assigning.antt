@@ -1,6 +1,6 @@
 -- What assignments, unsettings and defects do.
-use Rattle.std.specs.Prelude.{ℕ, Bool, List, [], ◌∷◌, codes, bytes_eq, if◌then◌else◌}
-use Rattle.std.specs.List.{list_any}
+use Rattle.std.specs.Prelude.{ℕ, List, [], ◌∷◌, codes, bytes_eq, drop, if◌then◌else◌}
+use Rattle.pm_bytes.specs.Number.{count_of}
 use Rattle.pm_bytes.specs.Path.{full_name}
 use Rattle.pm_host.specs.declared.answers.Looked.TheVariants.{Folder}
 use Rattle.pm_vars.specs.Table.{Table}
@@ -13,22 +13,13 @@ use Rattle.pm_journal.specs.declared.acts.Act.TheVariants.{Probe}
 use Rattle.pm_journal.specs.declared.acts.Reply.{Reply}
 use Rattle.pm_journal.specs.declared.acts.Reply.TheVariants.{Found}
 use Rattle.pm_journal.specs.Plan.{Plan, Ends, and_then, ask}
-use Rattle.pm_meaning.specs.Changes.{with_variable, without_variable, with_base}
+use Rattle.pm_meaning.specs.Changes.{with_variable, without_variable, with_base, with_arguments}
 use Rattle.pm_meaning.specs.GlobalLock.{drop_lock, change_lock}
+use Rattle.pm_meaning.specs.Locks.{count_or}
 use Rattle.pm_meaning.specs.Outputs.{outputs_of}
-use Rattle.pm_meaning.specs.Turns.{Turn, GoesOn, Halts, Includes, Switches, EndsFile, not_built, say_then, refuse_name, is_too_long, skip_value}
+use Rattle.pm_meaning.specs.Turns.{Turn, GoesOn, Halts, Includes, Switches, EndsFile, say_then, refuse_name, is_too_long, skip_value}
 use Rattle.pm_meaning.specs.Minds.{Mind}
 use Rattle.pm_meaning.specs.declared.process.End.TheVariants.{HostOff}
-
--- the name is among these
-abbrev pub is_one_of : List ℕ → List (List ℕ) → Bool
-is_one_of name names = list_any (λ other. bytes_eq name other) names
-
--- the log, and what happens at the end: assignments that aren't built yet
-abbrev pub is_later : List ℕ → Bool
-is_later name =
-    is_one_of name
-    (codes "LOGFILE" ∷ codes "LOGABSTRACT" ∷ codes "TRAP" ∷ codes "EXITCODE" ∷ codes "DELIVERED" ∷ codes "LOG" ∷ codes "SHIFT" ∷ [])
 
 -- a text as one word
 abbrev pub first_word : List (List ℕ) → List ℕ
@@ -77,12 +68,23 @@ change_rcfile name value p =
     else if bytes_eq name (codes "HOST") then change_host value p
     else Ends (GoesOn p)
 
+-- SHIFT got this value: so many arguments are dropped, and none where it is no number
+abbrev pub shift_arguments : List ℕ → Mind → Mind
+shift_arguments value p = with_arguments (drop (count_or 0 (count_of value)) p.vars.arguments) p
+
+-- LOG's value is logged, and SHIFT drops arguments
+abbrev pub change_other : List ℕ → List ℕ → Mind → Plan Turn
+change_other name value p =
+    if bytes_eq name (codes "LOG") then say_then p value (GoesOn p)
+    else if bytes_eq name (codes "SHIFT") then Ends (GoesOn (shift_arguments value p))
+    else change_rcfile name value p
+
 -- the variable is set, and then its effect comes
 abbrev pub assigned : List ℕ → List ℕ → Mind → Plan Turn
 assigned name value p =
     if bytes_eq name (codes "MAILDIR") then change_folder value (with_variable name value p)
     else if bytes_eq name (codes "LOCKFILE") then change_lock value (with_variable name value p)
-    else change_rcfile name value (with_variable name value p)
+    else change_other name value (with_variable name value p)
 
 -- the value is expanded with these outputs of its commands, by the variables as they stand
 abbrev pub assign_with : List ℕ → List ℕ → List (List ℕ) → Mind → Plan Turn
@@ -92,9 +94,7 @@ assign_with name text outputs p =
 
 -- the commands of the value are run before it is expanded
 abbrev pub assign : List ℕ → List ℕ → Mind → Plan Turn
-assign name text p =
-    if is_later name then not_built p
-    else and_then (outputs_of (commands_in One text) p) (λ ran. assign_with name text ran.outputs ran.mind)
+assign name text p = and_then (outputs_of (commands_in One text) p) (λ ran. assign_with name text ran.outputs ran.mind)
 
 -- the rcfile that is being read is over without SWITCHRC; LOCKFILE's lock is given back
 abbrev pub unset : List ℕ → Mind → Plan Turn

@@ -19,7 +19,7 @@ use Rattle.pm_meaning.specs.Locks.{rule_of, with_lock}
 use Rattle.pm_meaning.specs.Outputs.{outputs_of}
 use Rattle.pm_meaning.specs.Texts.{is_empty, is_file_text}
 use Rattle.pm_meaning.specs.Minds.{Mind}
-use Rattle.pm_meaning.specs.Turns.{Turn, GoesOn, Enters, not_built, say_then, refuse_name, is_too_long, skip_value}
+use Rattle.pm_meaning.specs.Turns.{Turn, GoesOn, Enters, Clones, say_then, refuse_name, is_too_long, skip_value}
 use Rattle.pm_meaning.specs.declared.chain.Chain.{Chain}
 
 -- the block is entered under its lock; that it was forced, or that it wasn't got, is told
@@ -52,9 +52,9 @@ abbrev pub enter : Option (List ℕ) → Mind → Plan Turn
 enter None p = Ends (Enters None p)
 enter (Some text) p = enter_under text p
 
--- a block as a copy of the process isn't built yet
+-- under the flag c a block is for a copy of the process, and its lock isn't taken
 abbrev pub enter_block : Top → Mind → Plan Turn
-enter_block top p = if top.flags.copy then not_built p else enter top.lock p
+enter_block top p = if top.flags.copy then Ends (Clones p) else enter top.lock p
 
 -- what a recipe does that is executed
 abbrev pub carry_out : Top → Act → Mind → Plan Turn

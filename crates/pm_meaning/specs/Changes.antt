@@ -1,6 +1,5 @@
 -- How a process changes.
-use Rattle.std.specs.Prelude.{ℕ, ◌+◌, Bool, not, List, codes, nat_eq, if◌then◌else◌}
-use Rattle.std.specs.List.{starts_with}
+use Rattle.std.specs.Prelude.{ℕ, ◌+◌, Bool, not, List, codes}
 use Rattle.pm_message.specs.declared.head.Message.{Message}
 use Rattle.pm_vars.specs.Variables.{value_of, with_value, without}
 use Rattle.pm_meaning.specs.Texts.{is_unset_or_empty}
@@ -34,12 +33,6 @@ with_openings count p = record p { openings = count }
 abbrev pub opened : Mind → Mind
 opened p = with_openings (p.openings + 1) p
 
--- an rcfile of the working folder is run from there
-abbrev pub entered : List ℕ → Mind → Mind
-entered name p =
-    if starts_with nat_eq name (codes "./") then with_base (codes ".") (with_variable (codes "MAILDIR") (codes ".") (with_rcfile name p))
-    else with_rcfile name p
-
 -- a value was too long
 abbrev pub overflowed : Mind → Mind
 overflowed p = with_variable (codes "PROCMAIL_OVERFLOW") (codes "yes") p
@@ -48,9 +41,14 @@ overflowed p = with_variable (codes "PROCMAIL_OVERFLOW") (codes "yes") p
 abbrev pub counted : Mind → Mind
 counted p = record p { placed = p.placed + 1 }
 
--- the mail was delivered to this destination
-abbrev pub stored_in : List ℕ → Mind → Mind
-stored_in destination p = with_variable (codes "LASTFOLDER") destination p
+-- so many bytes of the mail were delivered to this destination
+abbrev pub stored_in : List ℕ → ℕ → Mind → Mind
+stored_in destination size p =
+    record p { vars = record p.vars { variables = with_value (codes "LASTFOLDER") destination p.vars.variables }; stored = record { folder = destination; size = size } }
+
+-- these are its arguments
+abbrev pub with_arguments : List (List ℕ) → Mind → Mind
+with_arguments arguments p = record p { vars = record p.vars { arguments = arguments } }
 
 -- the variable is set and not empty
 abbrev pub is_given : List ℕ → Mind → Bool

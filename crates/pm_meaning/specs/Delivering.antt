@@ -1,5 +1,5 @@
 -- What a recipe does that delivers to mailboxes.
-use Rattle.std.specs.Prelude.{ℕ, ℤ, ◌+◌, Bool, true, false, not, ◌&&◌, ◌||◌, List, [], ◌∷◌, ◌++◌, Option, Some, None, map, codes, nat_lt, if◌then◌else◌}
+use Rattle.std.specs.Prelude.{ℕ, ℤ, ◌+◌, Bool, true, false, not, ◌&&◌, ◌||◌, List, [], ◌∷◌, ◌++◌, Option, Some, None, map, length, codes, nat_lt, if◌then◌else◌}
 use Rattle.pm_bytes.specs.Name.{is_usable}
 use Rattle.pm_bytes.specs.Path.{full_name}
 use Rattle.pm_message.specs.Piece.{piece_of}
@@ -25,7 +25,9 @@ use Rattle.pm_meaning.specs.Changes.{counted, stored_in}
 use Rattle.pm_meaning.specs.Destinations.{destination_of, full_of, are_file_texts}
 use Rattle.pm_meaning.specs.Locks.{is_fault, text_or, value_or, rule_of, is_nothing, lock_word, blamed_text, is_lock_word, full_lock, is_taken, any_held, with_lock}
 use Rattle.pm_meaning.specs.Outputs.{outputs_of}
-use Rattle.pm_meaning.specs.Turns.{Turn, GoesOn, Halts, log_act, refuse_name, is_too_long, skip_value}
+use Rattle.pm_meaning.specs.Abstracts.{copy_lines}
+use Rattle.pm_meaning.specs.Logging.{log}
+use Rattle.pm_meaning.specs.Turns.{Turn, GoesOn, Halts, refuse_name, is_too_long, skip_value}
 use Rattle.pm_meaning.specs.Assigning.{value_in}
 use Rattle.pm_meaning.specs.Minds.{Mind}
 use Rattle.pm_meaning.specs.declared.process.Destination.{Destination}
@@ -60,16 +62,16 @@ abbrev pub next_stamp : Mind → ℤ → Stamp
 next_stamp p moment = record { moment = moment; pid = p.vars.marks.pid; serial = p.placed + 1; host_name = p.host_name }
 
 -- what came of filing in this folder; the file with the mail is remembered
-abbrev pub placed_by : List ℕ → Mind → Reply → Filing
-placed_by folder p (Placed name) = record { filed = Stored; mind = stored_in name p }
-placed_by folder p (TornAt name count) = record { filed = Left name count; mind = p }
-placed_by folder p NamesOut = record { filed = Crowded folder; mind = p }
-placed_by folder p other = record { filed = Unwritten folder; mind = p }
+abbrev pub placed_by : List ℕ → ℕ → Mind → Reply → Filing
+placed_by folder size p (Placed name) = record { filed = Stored; mind = stored_in name size p }
+placed_by folder size p (TornAt name count) = record { filed = Left name count; mind = p }
+placed_by folder size p NamesOut = record { filed = Crowded folder; mind = p }
+placed_by folder size p other = record { filed = Unwritten folder; mind = p }
 
 -- the moment was told, and the piece is filed under it
 abbrev pub placed_at : FolderKind → List ℕ → List ℕ → List ℕ → Mind → Reply → Plan Filing
 placed_at kind folder prefix piece p (Now moment) =
-    and_then (ask (Place kind folder prefix piece (next_stamp p moment))) (λ reply. Ends (placed_by folder (counted p) reply))
+    and_then (ask (Place kind folder prefix piece (next_stamp p moment))) (λ reply. Ends (placed_by folder (length piece) (counted p) reply))
 placed_at kind folder prefix piece p other = Ends (record { filed = Unwritten folder; mind = p })
 
 -- a folder gets the piece as a file of its own
@@ -99,9 +101,14 @@ to_file flags name piece stored p =
     if is_nothing name then Ends (record { filed = Stored; mind = stored })
     else and_then (ask (Append name piece)) (appended_by flags name stored p)
 
+-- how many bytes a file of this name gets: `/dev/null` gets those of no mailbox
+abbrev pub file_size : List ℕ → Flags → Mind → ℕ
+file_size name flags p = if is_nothing name then length (folder_piece flags p) else length (mailbox_piece flags p)
+
 -- one destination; a file is remembered by its name as written
 abbrev pub file_as : Option FolderKind → Flags → List ℕ → Mind → Plan Filing
-file_as None flags name p = to_file flags (full_name p.base name) (mailbox_piece flags p) (stored_in name p) p
+file_as None flags name p =
+    to_file flags (full_name p.base name) (mailbox_piece flags p) (stored_in name (file_size (full_name p.base name) flags p) p) p
 file_as (Some kind) flags name p = in_folder kind (full_name p.base name) [] (folder_piece flags p) p
 
 abbrev pub file_one : Flags → Destination → Mind → Plan Filing
@@ -177,7 +184,7 @@ attempt_turn flags (Locked name forced filed stuck) p = filed_turn flags filed p
 -- each line is told, and then this comes
 abbrev pub say_each : Mind → List (List ℕ) → Turn → Plan Turn
 say_each p [] turn = Ends turn
-say_each p (line ∷ lines) turn = and_then (ask (log_act p line)) (λ reply. say_each p lines turn)
+say_each p (line ∷ lines) turn = and_then (log line p) (λ done. say_each p lines turn)
 
 -- the attempt got the mail to each destination
 abbrev pub is_done : Attempt → Bool
@@ -189,9 +196,9 @@ is_done (Locked name forced filed stuck) = is_stored filed
 abbrev pub settled : Attempt → Mind → Mind
 settled attempt p = if is_done attempt then succeeded p else p
 
--- what is told of an attempt, and what comes behind it
+-- what is told of an attempt, with the abstract of a copy, and what comes behind it
 abbrev pub told : Flags → List ℕ → Attempt → Mind → Plan Turn
-told flags text attempt p = say_each p (attempt_lines text attempt) (attempt_turn flags attempt p)
+told flags text attempt p = say_each p (attempt_lines text attempt ++ copy_lines (is_done attempt) flags p) (attempt_turn flags attempt p)
 
 -- what comes behind an attempt, once it is known whether the recipe succeeded
 abbrev pub after_attempt : Flags → List ℕ → Attempted → Plan Turn
@@ -255,3 +262,27 @@ make_ready lock_commands commands p =
 abbrev pub deliver : Flags → Option (List ℕ) → List ℕ → Mind → Plan Turn
 deliver flags lock text p =
     and_then (make_ready (commands_in One (text_or [] lock)) (commands_in Many text) p) (λ ready. deliver_with flags lock text ready)
+
+-- the flags of a recipe that has no letters
+abbrev pub no_flags : Flags
+no_flags = record {
+  search_head = false;
+  search_body = false;
+  distinguish = false;
+  feed_head = false;
+  feed_body = false;
+  filter = false;
+  copy = false;
+  wait = false;
+  wait_quiet = false;
+  ignore = false;
+  raw = false;
+  and_chain = false;
+  and_ok = false;
+  or_else = false;
+  on_error = false;
+}
+
+-- the mail goes to this mailbox as by a recipe `:0:`, under its automatic lock file
+abbrev pub deliver_default : List ℕ → Mind → Plan Turn
+deliver_default mailbox p = deliver_to no_flags (Some []) [] mailbox (mailbox ∷ []) p

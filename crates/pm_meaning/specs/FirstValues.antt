@@ -1,5 +1,5 @@
 -- The variables with which a process begins.
-use Rattle.std.specs.Prelude.{ℕ, Bool, not, ◌&&◌, List, [], ◌∷◌, ◌++◌, Option, Some, None, codes, map, nat_le, pos, if◌then◌else◌}
+use Rattle.std.specs.Prelude.{ℕ, Bool, false, not, ◌&&◌, List, [], ◌∷◌, ◌++◌, Option, Some, None, codes, map, nat_le, pos, if◌then◌else◌}
 use Rattle.std.specs.List.{list_all}
 use Rattle.pm_bytes.specs.declared.environment.Environ.{Environ}
 use Rattle.pm_message.specs.declared.head.Message.{Message}
@@ -104,9 +104,10 @@ first_table filter arguments env = record {
 }
 
 -- a process that begins with these arguments and this message
-abbrev pub first_process : Bool → List (List ℕ) → Environ → Message → Mind
-first_process filter arguments env message = record {
+abbrev pub first_process : Bool → Bool → List (List ℕ) → Environ → Message → Mind
+first_process filter softly arguments env message = record {
   filter = filter;
+  fails_softly = softly;
   message = message;
   vars = first_table filter arguments env;
   base = first_folder filter env;
@@ -117,4 +118,7 @@ first_process filter arguments env message = record {
   placed = 0;
   rcfile = [];
   openings = 0;
+  is_clone = false;
+  later = [];
+  stored = record { folder = []; size = 0 };
 }

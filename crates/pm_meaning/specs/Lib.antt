@@ -6,6 +6,8 @@ pub mod Changes
 pub mod Turns
 pub mod Destinations
 pub mod Locks
+pub mod Logging
+pub mod Abstracts
 pub mod Programs
 pub mod Forwards
 pub mod Outputs
@@ -16,6 +18,4 @@ pub mod ProgramActions
 pub mod Acting
 pub mod Blocks
 pub mod Judging
-pub mod Running
-pub mod Status
 pub mod Laws

@@ -4,13 +4,16 @@ use Rattle.pm_message.specs.declared.head.Message.{Message}
 use Rattle.pm_vars.specs.Table.{Table}
 use Rattle.pm_meaning.specs.declared.chain.Chain.{Chain}
 use Rattle.pm_meaning.specs.declared.process.Process.{Process}
+use Rattle.pm_meaning.specs.declared.process.Stored.{Stored}
 
--- The state of a process: the message that it delivers, its variables, the folder from which names are seen, the host's
--- name, whether it is a mail filter, the locks that it holds, the last taken first, which of them is LOCKFILE's, what came of
--- the recipes before, how many times the run has filed mail in a folder, or tried to, the rcfile that is being read, and how
--- many rcfiles the run has opened, or tried to.
+-- The state of a process: whether it is a mail filter, and whether a mail that isn't delivered shall be tried again later, the message
+-- that it delivers, its variables, the folder from which names are seen, the host's name, the locks that it holds, the last taken
+-- first, which of them is LOCKFILE's, what came of the recipes before, how many times the run has filed mail in a folder, or tried
+-- to, the rcfile that is being read, how many rcfiles the run has opened, or tried to, whether this is a copy of a process that was
+-- made for a block, the rcfiles of the command line that are left, and where the mail was last delivered to.
 pub record Mind : Type 0 where
   pub filter : Bool
+  pub fails_softly : Bool
   pub message : Message
   pub vars : Table
   pub base : List ℕ
@@ -21,11 +24,15 @@ pub record Mind : Type 0 where
   pub placed : ℕ
   pub rcfile : List ℕ
   pub openings : ℕ
+  pub is_clone : Bool
+  pub later : List (List ℕ)
+  pub stored : Stored
 
 -- how much room there is for more locks isn't spoken of
 abbrev pub mind_of : Process → Mind
 mind_of p = record {
   filter = p.filter;
+  fails_softly = p.fails_softly;
   message = p.message;
   vars = p.vars;
   base = p.base;
@@ -36,4 +43,7 @@ mind_of p = record {
   placed = p.placed;
   rcfile = p.rcfile;
   openings = p.openings;
+  is_clone = p.is_clone;
+  later = p.later.items;
+  stored = p.stored;
 }

@@ -36,7 +36,9 @@ use Rattle.pm_meaning.specs.Minds.{Mind}
 use Rattle.pm_meaning.specs.Programs.{Reading, line_reading, code_of, with_exit_code}
 use Rattle.pm_meaning.specs.Forwards.{forward_reading}
 use Rattle.pm_meaning.specs.Texts.{is_empty}
-use Rattle.pm_meaning.specs.Turns.{Turn, GoesOn, Halts, log_act, say_then, refuse_name, is_too_long, skip_value}
+use Rattle.pm_meaning.specs.Abstracts.{copy_lines}
+use Rattle.pm_meaning.specs.Logging.{log}
+use Rattle.pm_meaning.specs.Turns.{Turn, GoesOn, Halts, say_then, refuse_name, is_too_long, skip_value}
 use Rattle.pm_meaning.specs.declared.process.End.TheVariants.{Delivered}
 use Rattle.pm_meaning.specs.declared.process.Outcome.{Outcome}
 use Rattle.pm_meaning.specs.declared.process.Outcome.TheVariants.{Done, NotStarted, Lost, Closed, Code, TooLong, Overflow, Unwritten}
@@ -93,12 +95,12 @@ feed_outcome flags count RunBroken = Lost
 feed_outcome flags count RunTooLong = TooLong
 
 -- where it was done the mail went to this destination
-abbrev pub stored_if : Outcome → List ℕ → Mind → Mind
-stored_if outcome folder p = if is_fine outcome then stored_in folder p else p
+abbrev pub stored_if : Outcome → List ℕ → ℕ → Mind → Mind
+stored_if outcome folder size p = if is_fine outcome then stored_in folder size p else p
 
 -- a program was run that got so many bytes of the mail
 abbrev pub fed : Flags → List ℕ → ℕ → RunEnd → Mind → Tried
-fed flags folder count end p = record { outcome = feed_outcome flags count end; mind = stored_if (feed_outcome flags count end) folder (with_exit_code (code_of end) p) }
+fed flags folder count end p = record { outcome = feed_outcome flags count end; mind = stored_if (feed_outcome flags count end) folder count (with_exit_code (code_of end) p) }
 
 -- the program gets these bytes of the mail, which is then at this destination
 abbrev pub feed : Flags → List ℕ → Command → List ℕ → Mind → Plan Tried
@@ -174,7 +176,7 @@ write_outcome other = Unwritten
 
 -- the mail is written to standard output, which is its destination `|`
 abbrev pub write : List ℕ → Mind → Plan Tried
-write piece p = and_then (ask (WriteOut piece)) (λ reply. Ends (record { outcome = write_outcome reply; mind = stored_if (write_outcome reply) (codes "|") p }))
+write piece p = and_then (ask (WriteOut piece)) (λ reply. Ends (record { outcome = write_outcome reply; mind = stored_if (write_outcome reply) (codes "|") (length piece) p }))
 
 -- the lock is given back behind what was tried
 abbrev pub unlock_behind : List ℕ → ℕ → Tried → Plan Trying
@@ -223,9 +225,14 @@ settled_by trial p = if is_fine_trial trial then succeeded p else p
 abbrev pub trial_turn : Bool → Trial → Mind → Turn
 trial_turn last trial p = if last && is_fine_trial trial then Halts Delivered p else GoesOn p
 
--- what is told, and what comes behind it, once it is known whether the recipe succeeded
+-- the mail is delivered, for good or as a copy
+abbrev pub is_delivery : Purpose → Bool
+is_delivery (Delivers destination) = true
+is_delivery other = false
+
+-- what is told, with the abstract of a copy, and what comes behind it, once it is known whether the recipe succeeded
 abbrev pub after_trial : Task → Trying → Plan Turn
-after_trial t done = let q = settled_by done.trial done.mind in say_each q (trial_lines t.flags t.text done.trial) (trial_turn (is_final t.purpose t.flags) done.trial q)
+after_trial t done = let q = settled_by done.trial done.mind in say_each q (trial_lines t.flags t.text done.trial ++ copy_lines (is_delivery t.purpose && is_fine_trial done.trial) t.flags q) (trial_turn (is_final t.purpose t.flags) done.trial q)
 
 -- this is tried, and what came of it is told
 abbrev pub try_and_say : Task → Option (List ℕ) → (Mind → Plan Tried) → Mind → Plan Turn
@@ -274,7 +281,7 @@ named_lock t value p =
 
 -- that there is no automatic lock file is told before this
 abbrev pub told_first : Task → Mind → Plan Turn → Plan Turn
-told_first t p next = if lacks_lock t then and_then (ask (log_act p (no_lock_line t.text))) (λ reply. next) else next
+told_first t p next = if lacks_lock t then and_then (log (no_lock_line t.text) p) (λ done. next) else next
 
 -- the lock file isn't held yet
 abbrev pub do_under : Task → Option (List ℕ) → (Mind → Plan Tried) → Mind → Plan Turn

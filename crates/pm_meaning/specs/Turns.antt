@@ -1,20 +1,17 @@
 -- What comes of a statement, and what every statement may ask for.
-use Rattle.std.specs.Prelude.{ℕ, Bool, not, ◌-◌, ◌^◌, min, nat_eq, nat_lt, length, List, Option}
+use Rattle.std.specs.Prelude.{ℕ, Bool, ◌-◌, ◌^◌, min, nat_lt, List, Option}
 use Rattle.pm_vars.specs.Table.{Table}
-use Rattle.pm_subst.specs.Commands.{commands_in}
 use Rattle.pm_subst.specs.Words.{size_in}
 use Rattle.pm_subst.specs.declared.kinds.Mode.{Mode}
 use Rattle.pm_journal.specs.LogText.{value_too_long_line, unusable_name_line}
-use Rattle.pm_journal.specs.declared.acts.Act.{Act}
-use Rattle.pm_journal.specs.declared.acts.Act.TheVariants.{SayErr}
-use Rattle.pm_journal.specs.Plan.{Plan, Ends, and_then, ask}
+use Rattle.pm_journal.specs.Plan.{Plan, Ends, and_then}
 use Rattle.pm_meaning.specs.Changes.{overflowed}
+use Rattle.pm_meaning.specs.Logging.{log}
 use Rattle.pm_meaning.specs.Minds.{Mind}
 use Rattle.pm_meaning.specs.declared.process.End.{End}
-use Rattle.pm_meaning.specs.declared.process.End.TheVariants.{NotBuilt}
 
 -- the next statement comes, the process ends, a block is entered under this lock, this rcfile is asked for before the next
--- statement, or in the place of the one that is being read, or that one is over
+-- statement, or in the place of the one that is being read, that one is over, or a copy of the process is wanted for a block
 pub data Turn : Type 0 where
   GoesOn : Mind → Turn
   Halts : End → Mind → Turn
@@ -22,26 +19,15 @@ pub data Turn : Type 0 where
   Includes : List ℕ → Mind → Turn
   Switches : List ℕ → Mind → Turn
   EndsFile : Mind → Turn
-
--- the statement has a form that isn't built yet
-abbrev pub not_built : Mind → Plan Turn
-not_built p = Ends (Halts NotBuilt p)
-
--- the log of a process is `err`: log files aren't built yet
-abbrev pub log_act : Mind → List ℕ → Act
-log_act p text = SayErr text
+  Clones : Mind → Turn
 
 -- the text is logged, and then this comes
 abbrev pub say_then : {R : Type 0} → Mind → List ℕ → R → Plan R
-say_then p text next = and_then (ask (log_act p text)) (λ reply. Ends next)
+say_then p text next = and_then (log text p) (λ done. Ends next)
 
 -- a name can't be used: this is told, and the process goes on
 abbrev pub refuse_name : List ℕ → Mind → Plan Turn
 refuse_name text p = say_then p (unusable_name_line text) (GoesOn p)
-
--- running programs isn't built yet
-abbrev pub has_command : Mode → List ℕ → Bool
-has_command mode text = not (nat_eq (length (commands_in mode text)) 0)
 
 -- a text with these outputs of its commands is expanded to more than 1,048,576 bytes
 abbrev pub is_too_long : Mode → List ℕ → Table → List (List ℕ) → Bool

@@ -1,19 +1,23 @@
 //! A process that runs recipes, what comes of a delivery, and how a process ends.
 use crate::Chain;
-use pm_bytes::Name;
+use pm_bytes::{Blob, Name};
 use pm_host::Command;
 use pm_journal::{FolderKind, HeldLocks};
 use pm_message::Message;
 use pm_vars::Vars;
+use std::collections::VecDeque;
 
 /// The state of a process: the message that it delivers, its variables, the folder `base` from which names are seen
-/// (MAILDIR, procmailrc(5)), the host's name, whether the program is a mail filter (`-m`, procmail(1)), the locks that
+/// (MAILDIR, procmailrc(5)), the host's name, whether the program is a mail filter (`-m`, procmail(1)), whether a mail
+/// that isn't delivered shall be tried again later (`-t`), the locks that
 /// it holds, which of them LOCKFILE names, what came of the recipes before, how many times the run has filed mail in a
-/// folder, or tried to, the name of the rcfile that is being read, empty before the first one, and how many rcfiles the
-/// run has opened, or tried to.
+/// folder, or tried to, the name of the rcfile that is being read, empty before the first one, how many rcfiles the run
+/// has opened, or tried to, whether this is a copy of a process that was made for a block, which rcfiles of the command
+/// line are left, and where the mail was last delivered to.
 #[derive(Drop)]
 pub struct Process {
     pub filter: bool,
+    pub fails_softly: bool,
     pub message: Message,
     pub vars: Vars,
     pub base: Name,
@@ -24,6 +28,16 @@ pub struct Process {
     pub placed: u64,
     pub rcfile: Name,
     pub openings: u64,
+    pub is_clone: bool,
+    pub later: VecDeque<Name>,
+    pub stored: Stored,
+}
+
+/// Where the mail was last delivered to, as LASTFOLDER has it, and how many bytes were (procmailrc(5), "Environment").
+#[derive(Debug, Drop)]
+pub struct Stored {
+    pub folder: Blob,
+    pub size: u64,
 }
 
 /// How a process ended.
@@ -35,16 +49,8 @@ pub enum End {
     FellOff,
     /// The rcfile of a mail filter wasn't read.
     NoRc,
-    /// HOST got another name than the host's.
+    /// HOST got another name than the host's, and no rcfile of the command line was left.
     HostOff,
-    /// The next step has a form that isn't built yet.
-    NotBuilt,
-}
-
-/// How a run ended, of which its exit status comes.
-#[derive(Clone, Copy, Debug, PartialEq, Eq)]
-pub struct Ending {
-    pub end: End,
 }
 
 /// A destination of a recipe (procmailrc(5), "Recipe action line"): its name, and the kind of folder that its ending asks

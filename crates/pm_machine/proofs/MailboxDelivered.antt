@@ -1,5 +1,5 @@
 -- A recipe delivers to mailboxes for good only where each of them got the mail.
-use Rattle.std.proofs.Common.{◌≡◌, ℕ, Bool, true, false, not, List, [], ◌∷◌, ◌++◌, Option, Some, None, refl, sym, ap, ◌∙◌, append_assoc}
+use Rattle.std.proofs.Common.{◌≡◌, ℕ, Bool, true, false, not, List, [], ◌∷◌, ◌++◌, Option, Some, None, refl, sym, ap, ◌∙◌, append_assoc, subst}
 use Rattle.std.specs.Prelude.{if◌then◌else◌, map}
 use Rattle.pm_recipe.specs.declared.tree.Flags.{Flags}
 use Rattle.pm_subst.specs.Commands.{commands_in}
@@ -13,20 +13,24 @@ use Rattle.pm_journal.specs.declared.locking.LockRule.{LockRule}
 use Rattle.pm_journal.specs.declared.acts.Reply.{Reply}
 use Rattle.pm_journal.specs.declared.acts.Reply.TheVariants.{Held}
 use Rattle.pm_journal.specs.Plan.{Plan, Ends, Plays}
+use Rattle.pm_meaning.specs.Abstracts.{copy_lines}
 use Rattle.pm_meaning.specs.Minds.{Mind}
 use Rattle.pm_meaning.specs.Turns.{Turn, GoesOn, Halts, refuse_name, is_too_long, skip_value}
 use Rattle.pm_meaning.specs.Assigning.{value_in}
 use Rattle.pm_meaning.specs.Locks.{is_fault, text_or, rule_of, lock_word, blamed_text, is_lock_word, full_lock, is_taken, any_held, with_lock}
-use Rattle.pm_meaning.specs.Delivering.{mailbox_piece, folder_piece, Filing, file_all, Attempted, give_back, under_lock, attempt, attempt_lines, filed_turn, attempt_turn, say_each, settled, after_attempt, file_and_say, deliver_at, deliver_named, is_without, deliver_to, deliver_text, Ready, deliver_with, make_ready, deliver}
+use Rattle.pm_meaning.specs.Delivering.{mailbox_piece, folder_piece, Filing, file_all, Attempted, give_back, under_lock, attempt, attempt_lines, filed_turn, attempt_turn, say_each, is_done, settled, after_attempt, file_and_say, deliver_at, deliver_named, is_without, deliver_to, deliver_text, Ready, deliver_with, make_ready, deliver}
 use Rattle.pm_meaning.specs.Destinations.{destination_of, full_of, are_file_texts}
-use Rattle.pm_meaning.specs.Laws.{AllHave, IsGot, IsGiven, AreLines, IsFiled}
+use Rattle.pm_meaning.specs.Laws.{AllHave}
+use Rattle.pm_machine.specs.Laws.{IsGot, IsGiven, AreLines, IsFiled}
 use Rattle.pm_meaning.specs.declared.process.Destination.{Destination}
 use Rattle.pm_meaning.specs.declared.process.Attempt.TheVariants.{Unlocked, Locked}
 use Rattle.pm_meaning.specs.declared.process.Filed.{Filed}
 use Rattle.pm_meaning.specs.declared.process.Filed.TheVariants.{Stored, Unwritten, Left, Crowded, Unnamed}
 use Rattle.pm_meaning.specs.declared.process.End.TheVariants.{Delivered}
+use Rattle.pm_journal.proofs.WalkJoin.{parts_of}
 use Rattle.pm_meaning.proofs.StoredDone.{stored_is_done}
-use Rattle.pm_meaning.proofs.NoDelivery.{parts_of, delivers, never_told, never_skipped}
+use Rattle.pm_machine.proofs.Lines.{told_of, lines_join}
+use Rattle.pm_machine.proofs.NoDelivery.{delivers, never_told, never_skipped}
 
 -- what a delivery for good did, in its own entries
 pub record DeliversHere (flags : Flags) (words : List (List ℕ)) (p : Mind) (es : List Entry) : Type 0 where
@@ -67,10 +71,10 @@ pub record IsSaid (turn last : Turn) (es : List Entry) : Type 0 where
 pub all_said : (p : Mind) (lines : List (List ℕ)) (turn last : Turn) (es : List Entry) → Plays (say_each p lines turn) es last → IsSaid turn last es
 all_said p [] turn last [] h = record { lines = tt; same = h }
 all_said p [] turn last (e ∷ es) h = absurd h
-all_said p (line ∷ lines) turn last [] h = absurd h
-all_said p (line ∷ lines) turn last (e ∷ es) h =
-    let k = all_said p lines turn last es h.2 in
-    record { lines = (line, h.0, k.lines); same = k.same }
+all_said p (line ∷ lines) turn last es h =
+    let k = told_of line p (λ done. say_each p lines turn) es last h in
+    let l = all_said p lines turn last k.rest k.plays in
+    record { lines = subst AreLines (sym k.whole) (lines_join k.told k.rest k.are_lines l.lines); same = l.same }
 
 -- what an attempt did whose turn delivers for good
 record Files (flags : Flags) (ds : List Destination) (p : Mind) (es : List Entry) : Type 0 where
@@ -134,12 +138,17 @@ attempt_files None flags ds p es done h passes = unlocked_files flags ds p es do
 attempt_files (Some name) flags ds p [] done h passes = absurd h
 attempt_files (Some name) flags ds p (e ∷ es) done h passes = locked_end flags ds p name (rule_of p.vars) e es done e.reply h.0 refl h.2 passes
 
+regroup : (es front rest got deliveries given : List Entry) → es ≡ front ++ rest → front ≡ got ++ (deliveries ++ given) → es ≡ got ++ (deliveries ++ (given ++ rest))
+regroup es front rest got deliveries given whole parts =
+    whole ∙ ap (λ l. l ++ rest) parts ∙ append_assoc got (deliveries ++ given) rest ∙ ap (λ l. got ++ l) (append_assoc deliveries given rest)
+
 filed_and_said : (flags : Flags) (lock : Option (List ℕ)) (text : List ℕ) (words : List (List ℕ)) (p : Mind) (es : List Entry) (turn : Turn) → are_file_texts words ≡ true
     → Plays (file_and_say flags lock text (map destination_of words) p) es turn → delivers turn ≡ true → DeliversHere flags words p es
 filed_and_said flags lock text words p es turn usable h passes =
     let ds = map destination_of words in
     let k = parts_of (attempt lock flags ds p) (after_attempt flags text) es turn h in
-    let said = all_said (settled k.middle.attempt k.middle.mind) (attempt_lines text k.middle.attempt) (turn_after flags k.middle) turn k.rest k.plays_rest in
+    let q = settled k.middle.attempt k.middle.mind in
+    let said = all_said q (attempt_lines text k.middle.attempt ++ copy_lines (is_done k.middle.attempt) flags q) (turn_after flags k.middle) turn k.rest k.plays_rest in
     let files = attempt_files lock flags ds p k.front k.middle k.plays_front (ap delivers (sym said.same) ∙ passes) in
     record {
       final = files.final;
@@ -150,7 +159,7 @@ filed_and_said flags lock text words p es turn usable h passes =
         deliveries = files.deliveries;
         given = files.given;
         lines = k.rest;
-        whole = k.whole ∙ ap (λ l. l ++ k.rest) files.whole ∙ append_assoc files.got (files.deliveries ++ files.given) k.rest ∙ ap (λ l. files.got ++ l) (append_assoc files.deliveries files.given k.rest);
+        whole = regroup es k.front k.rest files.got files.deliveries files.given k.whole files.whole;
         is_got = files.is_got;
         done = files.done;
         is_given = files.is_given;

@@ -1,26 +1,27 @@
 -- A program or standard output gets the mail for good only by one act that was done.
 use Rattle.std.proofs.Common.{◌≡◌, ℕ, Bool, true, false, not, ◌&&◌, List, [], ◌∷◌, ◌++◌, Option, Some, None, length, refl, sym, ap, ◌∙◌, append_assoc, subst}
-use Rattle.std.specs.Prelude.{if◌then◌else◌, ◌||◌}
+use Rattle.std.specs.Prelude.{if◌then◌else◌}
 use Rattle.pm_host.specs.declared.command.Command.{Command}
 use Rattle.pm_recipe.specs.declared.tree.Flags.{Flags}
 use Rattle.pm_subst.specs.Words.{words_in}
 use Rattle.pm_journal.specs.LogText.{unusable_name_line, no_lock_line, value_too_long_line}
 use Rattle.pm_journal.specs.Locking.{lock_act}
 use Rattle.pm_journal.specs.Outcomes.{run_end}
-use Rattle.pm_journal.specs.Plan.{Plan, Ends, and_then, ask, Plays}
-use Rattle.pm_journal.specs.declared.acts.Act.TheVariants.{SayErr}
+use Rattle.pm_journal.specs.Plan.{Plan, Ends, and_then, Plays}
 use Rattle.pm_journal.specs.declared.acts.Entry.{Entry}
 use Rattle.pm_journal.specs.declared.acts.Reply.{Reply}
 use Rattle.pm_journal.specs.declared.acts.Reply.TheVariants.{Held, Wrote}
 use Rattle.pm_journal.specs.declared.locking.LockRule.{LockRule}
 use Rattle.pm_meaning.specs.Assigning.{first_word}
 use Rattle.pm_meaning.specs.Changes.{overflowed}
-use Rattle.pm_meaning.specs.Delivering.{Ready, make_ready, say_each}
-use Rattle.pm_meaning.specs.Laws.{IsGot, IsGiven, AreLines, IsOneAct, IsFed, IsWritten}
+use Rattle.pm_meaning.specs.Delivering.{Ready, make_ready}
+use Rattle.pm_machine.specs.Laws.{IsGot, IsGiven, AreLines, IsOneAct, IsFed, IsWritten}
 use Rattle.pm_meaning.specs.Locks.{rule_of, blamed_text, is_lock_word, full_lock, is_taken, with_lock}
+use Rattle.pm_meaning.specs.Abstracts.{copy_lines}
+use Rattle.pm_meaning.specs.Logging.{log}
 use Rattle.pm_meaning.specs.Minds.{Mind}
 use Rattle.pm_meaning.specs.Forwards.{forward_reading}
-use Rattle.pm_meaning.specs.ProgramActions.{Purpose, Delivers, Filters, Captures, Task, is_final, Tried, Trying, is_fine, feed_outcome, feed, work_of, write_outcome, write, unlock_behind, try_locked, try_under, trial_lines, is_fine_trial, settled_by, trial_turn, after_trial, try_and_say, lacks_lock, lock_source, lock_mode, lock_commands, named_lock, told_first, do_under, do_named, unusable_text, do_line, lock_first, fed_piece, program_with, do_program, pipe_task, pipe, capture_task, capture_line, forward_task, forward, write_task, write_with, write_out}
+use Rattle.pm_meaning.specs.ProgramActions.{Purpose, Delivers, Filters, Captures, Task, is_final, Tried, Trying, is_fine, feed_outcome, feed, work_of, write_outcome, write, unlock_behind, try_locked, try_under, trial_lines, is_fine_trial, settled_by, trial_turn, is_delivery, after_trial, try_and_say, lacks_lock, lock_source, lock_mode, lock_commands, named_lock, told_first, do_under, do_named, unusable_text, do_line, lock_first, fed_piece, program_with, do_program, pipe_task, pipe, capture_task, capture_line, forward_task, forward, write_task, write_with, write_out}
 use Rattle.pm_meaning.specs.Programs.{Reading, line_reading}
 use Rattle.pm_meaning.specs.Turns.{Turn, GoesOn, Halts, refuse_name, is_too_long, skip_value}
 use Rattle.pm_meaning.specs.declared.process.End.TheVariants.{Delivered}
@@ -29,8 +30,10 @@ use Rattle.pm_meaning.specs.declared.process.Outcome.TheVariants.{Done}
 use Rattle.pm_meaning.specs.declared.process.ProgramLine.{ProgramLine}
 use Rattle.pm_meaning.specs.declared.process.ProgramLine.TheVariants.{Runs, NoWords, Unusable, TooLong}
 use Rattle.pm_meaning.specs.declared.process.Trial.TheVariants.{Unlocked}
-use Rattle.pm_meaning.proofs.MailboxDelivered.{IsSaid, all_said, if_last}
-use Rattle.pm_meaning.proofs.NoDelivery.{parts_of, delivers, never_said, never_told, never_skipped}
+use Rattle.pm_journal.proofs.WalkJoin.{parts_of}
+use Rattle.pm_machine.proofs.MailboxDelivered.{all_said, if_last}
+use Rattle.pm_machine.proofs.Lines.{told_of}
+use Rattle.pm_machine.proofs.NoDelivery.{delivers, never_said, never_told, never_skipped}
 
 fine_is : (outcome : Outcome) → is_fine outcome ≡ true → outcome ≡ Done
 fine_is Done h = refl
@@ -139,12 +142,16 @@ record IsDone (t : Task) (Passes : Entry → Type 0) (es : List Entry) : Type 0 
   last_is : is_final t.purpose t.flags ≡ true
   one : IsOneAct Passes es
 
+regroup : (all told es front rest got given : List Entry) (act : Entry) → all ≡ told ++ es → es ≡ front ++ rest → front ≡ got ++ (act ∷ given) → all ≡ told ++ (got ++ (act ∷ (given ++ rest)))
+regroup all told es front rest got given act joined whole parts = joined ∙ ap (λ l. told ++ l) (whole ∙ ap (λ l. l ++ rest) parts ∙ append_assoc got (act ∷ given) rest)
+
 tried_end : (t : Task) (Passes : Entry → Type 0) (lock : Option (List ℕ)) (work : Mind → Plan Tried) (p : Mind) (told es all : List Entry) (turn : Turn) → OneOf Passes work → AreLines told → all ≡ told ++ es
     → Plays (try_and_say t lock work p) es turn → delivers turn ≡ true → IsDone t Passes all
 tried_end t Passes lock work p told es all turn one are_told joined h passes =
     let k = parts_of (try_under lock work p) (after_trial t) es turn h in
     let q = settled_by k.middle.trial k.middle.mind in
-    let said = all_said q (trial_lines t.flags t.text k.middle.trial) (trial_turn (is_final t.purpose t.flags) k.middle.trial q) turn k.rest k.plays_rest in
+    let lines = trial_lines t.flags t.text k.middle.trial ++ copy_lines (is_delivery t.purpose && is_fine_trial k.middle.trial) t.flags q in
+    let said = all_said q lines (trial_turn (is_final t.purpose t.flags) k.middle.trial q) turn k.rest k.plays_rest in
     let last = last_is (is_final t.purpose t.flags) (is_fine_trial k.middle.trial) q (ap delivers (sym said.same) ∙ passes) in
     let under = under_end Passes lock work p k.front k.middle one k.plays_front last.1 in
     record {
@@ -156,7 +163,7 @@ tried_end t Passes lock work p told es all turn one are_told joined h passes =
         act = under.act;
         given = under.given;
         lines = k.rest;
-        whole = joined ∙ ap (λ l. told ++ l) (k.whole ∙ ap (λ l. l ++ k.rest) under.whole ∙ append_assoc under.got (under.act ∷ under.given) k.rest);
+        whole = regroup all told es k.front k.rest under.got under.given under.act joined k.whole under.whole;
         are_told = are_told;
         is_got = under.is_got;
         passes = under.passes;
@@ -166,9 +173,10 @@ tried_end t Passes lock work p told es all turn one are_told joined h passes =
     }
 
 told_end : (t : Task) (Passes : Entry → Type 0) (lock : Option (List ℕ)) (work : Mind → Plan Tried) (p : Mind) (b : Bool) (es : List Entry) (turn : Turn) → OneOf Passes work
-    → Plays (if b then and_then (ask (SayErr (no_lock_line t.text))) (λ reply. try_and_say t lock work p) else try_and_say t lock work p) es turn → delivers turn ≡ true → IsDone t Passes es
-told_end t Passes lock work p true [] turn one h passes = absurd h
-told_end t Passes lock work p true (e ∷ es) turn one h passes = tried_end t Passes lock work p (e ∷ []) es (e ∷ es) turn one (no_lock_line t.text, h.0, tt) refl h.2 passes
+    → Plays (if b then and_then (log (no_lock_line t.text) p) (λ done. try_and_say t lock work p) else try_and_say t lock work p) es turn → delivers turn ≡ true → IsDone t Passes es
+told_end t Passes lock work p true es turn one h passes =
+    let k = told_of (no_lock_line t.text) p (λ done. try_and_say t lock work p) es turn h in
+    tried_end t Passes lock work p k.told k.rest es turn one k.are_lines k.whole k.plays passes
 told_end t Passes lock work p false es turn one h passes = tried_end t Passes lock work p [] es es turn one tt refl h passes
 
 named_end : (t : Task) (Passes : Entry → Type 0) (word : Option (List ℕ)) (work : Mind → Plan Tried) (p : Mind) (es : List Entry) (turn : Turn) → OneOf Passes work

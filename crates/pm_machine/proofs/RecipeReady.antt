@@ -7,7 +7,7 @@ use Rattle.pm_journal.specs.declared.acts.Entry.{Entry}
 use Rattle.pm_meaning.specs.Chains.{is_admitted, executed}
 use Rattle.pm_meaning.specs.Delivering.{Ready, make_ready}
 use Rattle.pm_meaning.specs.Judging.{judge, judged_with}
-use Rattle.pm_meaning.specs.Laws.{IsReady, IsRead}
+use Rattle.pm_machine.specs.Laws.{IsReady, IsRead}
 use Rattle.pm_meaning.specs.Minds.{Mind}
 use Rattle.pm_meaning.specs.ProgramActions.{Task, lock_commands}
 use Rattle.pm_meaning.specs.Programs.{Reading}

@@ -1,8 +1,8 @@
 //! The exit status, under the names of sysexits(3).
 ghost use Rattle.std.specs.Prelude.{◌≡◌};
-ghost use Rattle.pm_meaning.specs.Status.{status_number, end_status};
+ghost use Rattle.pm_machine.specs.Status.{status_number, end_status};
 
-use crate::End;
+use pm_meaning::End;
 
 /// An exit status of the program.
 #[derive(Clone, Copy, Debug, PartialEq, Eq)]
@@ -22,8 +22,6 @@ pub enum Status {
     InputOutput,
     /// No delivery was made, and the mail shall be tried again later.
     TemporaryFailure,
-    /// The rcfile or the message asks for what isn't built yet.
-    NotBuilt,
 }
 
 impl Status {
@@ -40,12 +38,11 @@ impl Status {
             Status::CannotCreate => 73,
             Status::InputOutput => 74,
             Status::TemporaryFailure => 75,
-            Status::NotBuilt => 78,
         }
     }
 }
 
-/// The exit status of a run whose process ended so, softly or not (`-t`).
+/// The exit status of a process that ended so, softly or not (`-t`), unless EXITCODE, TRAP or DELIVERED says otherwise.
 pub fn status_of(softly: bool, end: End) -> Status
     ensures { result ≡ end_status softly end }
 {
@@ -55,6 +52,5 @@ pub fn status_of(softly: bool, end: End) -> Status
         End::FellOff => Status::CannotCreate,
         End::NoRc => Status::NoInput,
         End::HostOff => Status::Success,
-        End::NotBuilt => Status::NotBuilt,
     }
 }

@@ -1,0 +1,15 @@
+pub mod OneOutcome
+pub mod Lines
+pub mod Unlocks
+pub mod Closings
+pub mod NoDelivery
+pub mod NoLast
+pub mod RecipeReady
+pub mod MailboxDelivered
+pub mod ProgramDelivered
+pub mod TreeDelivered
+pub mod LastStep
+pub mod FirstKept
+pub mod DeliveredLast
+pub mod Lifting
+mod StatusRows

@@ -1,0 +1,98 @@
+-- Steps behind which a process isn't over as delivered.
+use Rattle.std.proofs.Common.{◌≡◌, ℕ, Bool, true, false, ◌&&◌, List, [], ◌∷◌, Option, refl}
+use Rattle.std.specs.Prelude.{if◌then◌else◌, nat_le}
+use Rattle.pm_bytes.specs.declared.environment.Environ.{Environ}
+use Rattle.pm_bytes.specs.declared.environment.Pair.{Pair}
+use Rattle.pm_message.specs.FromLine.{makes_line, prepared_of}
+use Rattle.pm_message.specs.Split.{split_of}
+use Rattle.pm_recipe.specs.Listed.{rc_of}
+use Rattle.pm_recipe.specs.Tree.{Trees}
+use Rattle.pm_journal.specs.LogText.{couldnt_read_line, too_many_rcfiles_line, too_many_clones_line, no_delivery_line}
+use Rattle.pm_journal.specs.declared.acts.Act.TheVariants.{Moment, ReadFile}
+use Rattle.pm_journal.specs.declared.acts.Reply.{Reply}
+use Rattle.pm_journal.specs.declared.acts.Reply.TheVariants.{Content, Now}
+use Rattle.pm_journal.specs.Plan.{Plan, Ends, and_then, ask}
+use Rattle.pm_journal.specs.Walking.{Next, Stop, Go}
+use Rattle.pm_meaning.specs.Blocks.{begun_block, give_maybe}
+use Rattle.pm_meaning.specs.Changes.{opened}
+use Rattle.pm_meaning.specs.FirstValues.{login_name}
+use Rattle.pm_meaning.specs.Minds.{Mind}
+use Rattle.pm_meaning.specs.Turns.{say_then}
+use Rattle.pm_meaning.specs.declared.process.End.TheVariants.{FellOff, NoRc, HostOff}
+use Rattle.pm_machine.specs.Ends.{is_delivered}
+use Rattle.pm_machine.specs.Running.{State, Setting, Opening, Running, LeavingFile, Leaving, Over, Trapping, Unlocking, Closing, Item, OpeningRule, Event, Ended, WantsClone, begun, dated, prepare, set_by_word, mind_in, rcfiles_of, opening_of, setting, ahead, is_first, entered, with_later, is_missing, pass_over, after_read, without_rcfile, open_next, Reading, with_statements, open_rcfile, leaving_file}
+use Rattle.pm_machine.specs.declared.command_line.CommandLine.{CommandLine}
+use Rattle.pm_machine.proofs.NoDelivery.{Never, never_ends, never_asked, never_then, never_said, never_if}
+
+-- the process is over as delivered, or has ended so
+abbrev pub is_last : Next State Event → Bool
+is_last (Stop (Ended ending p)) = is_delivered ending.end
+is_last (Stop (WantsClone trees items p)) = false
+is_last (Go (Leaving locks end p)) = is_delivered end
+is_last (Go (Over end p)) = is_delivered end
+is_last (Go (Trapping end p)) = is_delivered end
+is_last (Go (Unlocking ending p)) = is_delivered ending.end
+is_last (Go (Closing ending p)) = is_delivered ending.end
+is_last (Go other) = false
+
+never_dated : (line : CommandLine) (env : Environ) (bytes : List ℕ) (reply : Reply) → Never is_last (dated line env bytes reply)
+never_dated line env bytes (Now moment) = never_ends is_last (begun line env (prepared_of bytes line.renew (login_name env) moment)) refl
+never_dated line env bytes other = never_ends is_last (begun line env (split_of bytes)) refl
+
+pub never_prepared : (line : CommandLine) (env : Environ) (bytes : List ℕ) → Never is_last (prepare line env bytes)
+never_prepared line env bytes =
+    never_if is_last (makes_line bytes line.renew) (and_then (ask Moment) (dated line env bytes)) (Ends (begun line env (split_of bytes)))
+    (never_asked is_last Moment (dated line env bytes) (never_dated line env bytes)) (never_ends is_last (begun line env (split_of bytes)) refl)
+
+pub never_setting : (pairs : List Pair) (line : CommandLine) (home : List ℕ) (p : Mind) → Never is_last (setting pairs line home p)
+never_setting [] line home p = never_ends is_last (Go (Opening (opening_of line) (rcfiles_of line home) p)) refl
+never_setting (pair ∷ pairs) line home p =
+    never_then is_last (set_by_word pair p) (λ turn. Ends (Go (Setting pairs line home (mind_in turn)))) (λ turn. never_ends is_last (Go (Setting pairs line home (mind_in turn))) refl)
+
+never_passed : (o : OpeningRule) (name : List ℕ) (names : List (List ℕ)) (missing : Bool) (p : Mind) → Never is_last (pass_over o name names missing p)
+never_passed o name names missing p =
+    let next : Next State Event = Go (Opening o names p) in
+    let told : Plan (Next State Event) = say_then p (couldnt_read_line name) next in
+    let other : Plan (Next State Event) = if o.is_implied && missing then Ends next else told in
+    never_if is_last p.filter (Ends (Go (Over NoRc p))) other (never_ends is_last (Go (Over NoRc p)) refl)
+    (never_if is_last (o.is_implied && missing) (Ends next) told (never_ends is_last next refl) (never_said is_last p (couldnt_read_line name) next refl))
+
+never_after : (o : OpeningRule) (name : List ℕ) (names : List (List ℕ)) (p : Mind) (reply : Reply) → Never is_last (after_read o name names p reply)
+never_after o name names p (Content bytes) = never_ends is_last (Go (Running (ahead (rc_of bytes) []) (begun_block (entered o name (with_later names p))))) refl
+never_after o name names p other = never_passed o name names (is_missing other) p
+
+-- without another rcfile a process falls off its end, or isn't on its host
+lost_by : (b : Bool) (p : Mind) → is_last (Go (if b then Running [] p else Over HostOff p)) ≡ false
+lost_by true p = refl
+lost_by false p = refl
+
+pub never_opening : (o : OpeningRule) (names : List (List ℕ)) (p : Mind) → Never is_last (open_next o names p)
+never_opening o [] p = never_ends is_last (Go (without_rcfile p)) (lost_by (is_first p) p)
+never_opening o (name ∷ names) p =
+    let next : Next State Event = Go (Opening o names p) in
+    let read = and_then (ask (ReadFile name)) (after_read o name names (opened p)) in
+    never_if is_last (nat_le 256 p.openings) (say_then p (too_many_rcfiles_line name) next) read (never_said is_last p (too_many_rcfiles_line name) next refl)
+    (never_asked is_last (ReadFile name) (after_read o name names (opened p)) (never_after o name names (opened p)))
+
+-- an rcfile that is opened, whatever it has, when what comes then isn't the end
+never_with : (name : List ℕ) (rest : List Item) (p : Mind) (go : Reading) (reply : Reply) → ((trees : Trees) (q : Mind) → is_last (go trees q) ≡ false) → Never is_last (with_statements name rest p go reply)
+never_with name rest p go (Content bytes) goes = never_ends is_last (go (rc_of bytes) p) (goes (rc_of bytes) p)
+never_with name rest p go other goes = never_said is_last p (couldnt_read_line name) (Go (Running rest p)) refl
+
+pub never_opened : (name : List ℕ) (rest : List Item) (p : Mind) (go : Reading) → ((trees : Trees) (q : Mind) → is_last (go trees q) ≡ false) → Never is_last (open_rcfile name rest p go)
+never_opened name rest p go goes =
+    let read = and_then (ask (ReadFile name)) (with_statements name rest (opened p) go) in
+    never_if is_last (nat_le 256 p.openings) (say_then p (too_many_rcfiles_line name) (Go (Running rest p))) read
+    (never_said is_last p (too_many_rcfiles_line name) (Go (Running rest p)) refl)
+    (never_asked is_last (ReadFile name) (with_statements name rest (opened p) go) (λ reply. never_with name rest (opened p) go reply goes))
+
+pub never_left : (locks : List (Option (List ℕ))) (items : List Item) (p : Mind) → Never is_last (leaving_file locks items p)
+never_left [] items p = never_ends is_last (Go (Running items p)) refl
+never_left (lock ∷ locks) items p =
+    never_then is_last (give_maybe lock p) (λ q. Ends (Go (LeavingFile locks items q))) (λ q. never_ends is_last (Go (LeavingFile locks items q)) refl)
+
+pub never_refused : (items : List Item) (p : Mind) → Never is_last (say_then p too_many_clones_line (Go (Running items p)))
+never_refused items p = never_said is_last p too_many_clones_line (Go (Running items p)) refl
+
+pub never_lost : (p : Mind) → Never is_last (say_then p no_delivery_line (Go (Over FellOff p)))
+never_lost p = never_said is_last p no_delivery_line (Go (Over FellOff p)) refl

@@ -1,0 +1,5 @@
+pub mod Status
+pub mod Ends
+pub mod Running
+pub mod Courses
+pub mod Laws

@@ -1,0 +1,20 @@
+//! Laws of a run, each as the contract of a call that does nothing.
+ghost use Rattle.pm_machine.specs.Laws.{EndsOrWants, OneEnd, DeliveredIsDone};
+
+/// Over the same entries a step that ends wants no act.
+pub fn ends_or_wants()
+    ensures { EndsOrWants }
+{}
+
+/// Over the same entries a run has one end at most, and so one exit status.
+pub fn one_end()
+    ensures { OneEnd }
+{}
+
+/// The first process ends as delivered only where it came to a recipe or a default mailbox that delivers for good, and
+/// its acts there are done appends to each file, and placed pieces in each folder, among the destinations, a run of the
+/// program with the piece that didn't fail, or the writing of the whole piece to standard output. Behind them the
+/// process only gives locks back, logs lines and runs programs, and then only copies of it made for blocks go on.
+pub fn delivered_is_done()
+    ensures { DeliveredIsDone }
+{}
