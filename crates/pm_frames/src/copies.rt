@@ -1,0 +1,147 @@
+//! Copies of a process for blocks with the flag c (procmailrc(5), "Flags").
+ghost use Rattle.std.specs.Prelude.{◌≡◌, List, [], drop, map, None, IfOk};
+ghost use Rattle.pm_code.specs.Ahead.{lists_of, others};
+ghost use Rattle.pm_meaning.specs.Blocks.{begun_block};
+ghost use Rattle.pm_meaning.specs.Minds.{mind_of};
+ghost use Rattle.pm_machine.specs.Running.{Item, clone_of, copied, inside, unlocked};
+ghost use Rattle.pm_frames.specs.Frames.{items_of, steps_of, weave};
+ghost use Rattle.pm_frames.specs.declared.frames.Open.{Open as OpenBlock};
+ghost use Rattle.pm_frames.specs.Copies.{task_of, block_at, left_of, unlocked_block, unlocked_left};
+
+use crate::frames::{Open, RcFrame, Waiting};
+use crate::queue::Copy;
+use pm_bytes::Memory;
+use pm_journal::HeldLocks;
+use pm_meaning::{Chain, Process, Stored, new_chain};
+use pm_message::Message;
+use std::alloc::Global;
+use std::collections::VecDeque;
+
+/// The copy of a process that runs the block whose first statement stands at this place, and goes on as the process does
+/// behind the block, where that stands now. It holds no lock, and gives none back.
+pub fn copy_for_block(
+    alloc: Global,
+    place: usize,
+    frame: &RcFrame,
+    process: &Process,
+) -> Result<Copy, Memory>
+    requires behind { (blocks : List OpenBlock) (rest : List Item) →
+        weave (others (lists_of (drop place (steps_of frame.now)))) blocks rest
+        ≡ weave (lists_of (drop frame.now.place (steps_of frame.now))) blocks rest }
+    ensures { IfOk result (λ copy. task_of copy
+        ≡ clone_of (block_at place frame.now) (items_of frame.now) (mind_of process.now)) }
+{
+    Ok(Copy {
+        frame: copy_frame(alloc, place, process.chain, frame)?,
+        process: copy_process(alloc, process)?,
+    })
+}
+
+// The rcfile at the place, in a block whose recipe has this chain.
+fn copy_frame(alloc: Global, place: usize, chain: Chain, frame: &RcFrame) -> Result<RcFrame, Memory>
+    requires behind { (blocks : List OpenBlock) (rest : List Item) →
+        weave (others (lists_of (drop place (steps_of frame.now)))) blocks rest
+        ≡ weave (lists_of (drop frame.now.place (steps_of frame.now))) blocks rest }
+    ensures { IfOk result (λ copy. items_of copy
+        ≡ unlocked (inside (block_at place frame.now) chain None (items_of frame.now))) }
+{
+    let code = frame.code.copy(alloc)?;
+    let mut blocks = copy_blocks(alloc, &frame.blocks)?;
+    let block = Open {
+        saved: chain,
+        lock: None,
+    };
+    blocks.push_front(block)?;
+    let outer = copy_outer(alloc, &frame.outer)?;
+    Ok(RcFrame {
+        code,
+        place,
+        blocks,
+        outer,
+    })
+}
+
+// The blocks, with no lock.
+fn copy_blocks(alloc: Global, blocks: &VecDeque<Open>) -> Result<VecDeque<Open>, Memory>
+    ensures { IfOk result (λ copies. copies.items ≡ map unlocked_block blocks.now.items) }
+{
+    let mut copies = VecDeque::new(alloc);
+    for index in 0..blocks.len() {
+        let saved = blocks[index].saved;
+        copies.push_back(Open { saved, lock: None })?;
+    }
+    Ok(copies)
+}
+
+// The rcfiles that wait, with no lock.
+fn copy_outer(alloc: Global, outer: &VecDeque<Waiting>) -> Result<VecDeque<Waiting>, Memory>
+    ensures { IfOk result (λ copies. map left_of copies.items ≡ map unlocked_left outer.now.items) }
+{
+    let mut copies = VecDeque::new(alloc);
+    for index in 0..outer.len() {
+        copies.push_back(copy_waiting(alloc, &outer[index])?)?;
+    }
+    Ok(copies)
+}
+
+fn copy_waiting(alloc: Global, waiting: &Waiting) -> Result<Waiting, Memory>
+    ensures { IfOk result (λ copy. left_of copy ≡ unlocked_left waiting.now) }
+{
+    let name = waiting.name.copy(alloc)?;
+    let code = waiting.code.copy(alloc)?;
+    let blocks = copy_blocks(alloc, &waiting.blocks)?;
+    Ok(Waiting {
+        name,
+        code,
+        place: waiting.place,
+        blocks,
+    })
+}
+
+// The process as it begins a block, with no lock, and none of the command line's rcfiles.
+fn copy_process(alloc: Global, process: &Process) -> Result<Process, Memory>
+    ensures mind { IfOk result (λ copy. mind_of copy ≡ begun_block (copied (mind_of process.now))) }
+    ensures free { IfOk result (λ copy. copy.locks.names ≡ []) }
+{
+    let message = copy_message(alloc, &process.message)?;
+    let vars = process.vars.copy(alloc)?;
+    let base = process.base.copy(alloc)?;
+    let host_name = process.host_name.copy(alloc)?;
+    let rcfile = process.rcfile.copy(alloc)?;
+    let stored = copy_stored(alloc, &process.stored)?;
+    Ok(Process {
+        filter: process.filter,
+        fails_softly: process.fails_softly,
+        message,
+        vars,
+        base,
+        host_name,
+        locks: HeldLocks::new(alloc),
+        global: None,
+        chain: new_chain(),
+        placed: process.placed,
+        rcfile,
+        openings: process.openings,
+        is_clone: true,
+        later: VecDeque::new(alloc),
+        stored,
+    })
+}
+
+fn copy_message(alloc: Global, message: &Message) -> Result<Message, Memory>
+    ensures { IfOk result (λ copy. copy ≡ message.now) }
+{
+    let head = message.head.copy(alloc)?;
+    let body = message.body.copy(alloc)?;
+    Ok(Message { head, body })
+}
+
+fn copy_stored(alloc: Global, stored: &Stored) -> Result<Stored, Memory>
+    ensures { IfOk result (λ copy. copy ≡ stored.now) }
+{
+    let folder = stored.folder.copy(alloc)?;
+    Ok(Stored {
+        folder,
+        size: stored.size,
+    })
+}

@@ -1,0 +1,33 @@
+//! The copies of a process that wait for its end.
+ghost use Rattle.std.specs.Prelude.{◌≡◌, []};
+
+use crate::frames::RcFrame;
+use pm_meaning::Process;
+use std::alloc::Global;
+use std::collections::VecDeque;
+
+/// A copy of a process that waits for the end of the one that runs. It holds no lock.
+#[derive(Drop)]
+pub struct Copy {
+    pub frame: RcFrame,
+    pub process: Process,
+    ghost free: { process.locks.names ≡ [] },
+}
+
+/// The copies that wait, the first one first, and how many the run has made.
+#[derive(Drop)]
+pub struct Queue {
+    pub copies: VecDeque<Copy>,
+    pub made: u64,
+}
+
+/// No copy waits, and none was made. It takes no memory.
+pub fn new_queue(alloc: Global) -> Queue
+    ensures empty { result.copies.items ≡ [] }
+    ensures none { result.made ≡ 0 }
+{
+    Queue {
+        copies: VecDeque::new(alloc),
+        made: 0,
+    }
+}
