@@ -3,14 +3,13 @@ use Rattle.std.proofs.Common.{◌≡◌, Bool, true, false, List, ℕ, Result, O
 use Rattle.std.specs.Prelude.{if◌then◌else◌}
 use Rattle.pm_journal.specs.JournalState.{JournalState}
 use Rattle.pm_journal.specs.Entries.{View}
-use Rattle.pm_journal.specs.declared.acts.Act.TheVariants.{SayErr}
-use Rattle.pm_journal.specs.Plan.{Plan, Ends, ask}
+use Rattle.pm_journal.specs.Plan.{Plan, Ends}
 use Rattle.pm_journal.specs.Executed.{Executes, OutOfMemory}
+use Rattle.pm_meaning.specs.Logging.{log, logged}
 use Rattle.pm_meaning.specs.Minds.{Mind}
 use Rattle.pm_meaning.specs.Turns.{say_then}
 use Rattle.pm_journal.proofs.ActPlans.{executes_then}
-use Rattle.pm_journal.proofs.WantsMemory.{executes_nothing, out_front}
-use Rattle.pm_acts.specs.Acts.{Says}
+use Rattle.pm_journal.proofs.WantsMemory.{executes_nothing, out_front, out_then, out_anywhere}
 
 pub choose_then : {R : Type 0} (b : Bool) (p q : Plan R) (end : R) (x y : JournalState) (s t : View) → b ≡ true → Executes p end x y s t → Executes (if b then p else q) end x y s t
 choose_then b p q end x y s t e h = subst (λ v. Executes (if v then p else q) end x y s t) (sym e) h
@@ -25,12 +24,17 @@ pub else_out : {R : Type 0} (b : Bool) (p q : Plan R) (x y : JournalState) (s t 
 else_out b p q x y s t e h = subst (λ v. OutOfMemory (if v then p else q) x y s t) (sym e) h
 
 -- a text was said, and then this comes
-pub line_told : {R : Type 0} (p : Mind) (line text : List ℕ) (next : R) (x y : JournalState) (a b : View) → text ≡ line → Says text x y a b → Executes (say_then p line next) next x y a b
+pub line_told : {R : Type 0} (p : Mind) (line text : List ℕ) (next : R) (x y : JournalState) (a b : View) → text ≡ line → Executes (log text p) logged x y a b → Executes (say_then p line next) next x y a b
 line_told p line text next x y a b t h =
-    executes_then (ask (SayErr line)) (λ reply. Ends next) h.reply next x y y a b b (subst (λ l. Executes (ask (SayErr l)) h.reply x y a b) t h.executes) (executes_nothing next y y b refl)
+    executes_then (log line p) (λ done. Ends next) logged next x y y a b b (subst (λ l. Executes (log l p) logged x y a b) t h) (executes_nothing next y y b refl)
 
-pub line_out : {R : Type 0} (p : Mind) (line text : List ℕ) (next : R) (x y : JournalState) (a b : View) → text ≡ line → OutOfMemory (ask (SayErr text)) x y a b → OutOfMemory (say_then p line next) x y a b
-line_out p line text next x y a b t h = out_front (ask (SayErr line)) (λ reply. Ends next) x y a b (subst (λ l. OutOfMemory (ask (SayErr l)) x y a b) t h)
+pub line_out : {R : Type 0} (p : Mind) (line text : List ℕ) (next : R) (x y : JournalState) (a b : View) → text ≡ line → OutOfMemory (log text p) x y a b → OutOfMemory (say_then p line next) x y a b
+line_out p line text next x y a b t h = out_front (log line p) (λ done. Ends next) x y a b (subst (λ l. OutOfMemory (log l p) x y a b) t h)
+
+-- memory was wanting behind the text
+pub line_then_out : {R : Type 0} (p : Mind) (line text : List ℕ) (next : R) (x y : JournalState) (a b : View) → text ≡ line → Executes (log text p) logged x y a b → OutOfMemory (say_then p line next) x y a b
+line_then_out p line text next x y a b t h =
+    out_then (log line p) (λ done. Ends next) logged x y y a b b (subst (λ l. Executes (log l p) logged x y a b) t h) (out_anywhere (Ends next) y y b refl)
 
 -- what holds of an answer, and what follows from it
 pub ok_map : {T E : Type 0} (r : Result T E) (P Q : T → Type 0) → ((x : T) → P x → Q x) → IfOk r P → IfOk r Q

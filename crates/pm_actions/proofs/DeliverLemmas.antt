@@ -1,14 +1,14 @@
 -- The choices of a delivery: what the plan is in each case.
-use Rattle.std.proofs.Common.{◌≡◌, ◌≢◌, Bool, true, false, not, List, ℕ, Option, Some, None, [], ◌∷◌, map, length, refl, sym, ap, ◌∙◌, subst}
+use Rattle.std.proofs.Common.{◌≡◌, Bool, true, false, not, List, ℕ, Option, Some, None, [], ◌∷◌, ◌++◌, map, length, refl, sym, ap, ◌∙◌, subst}
 use Rattle.std.specs.Prelude.{if◌then◌else◌, ◌||◌, Result}
 use Rattle.pm_bytes.specs.declared.error.Memory.{Memory}
 use Rattle.pm_journal.specs.JournalState.{JournalState}
 use Rattle.pm_journal.specs.Entries.{View}
 use Rattle.pm_journal.specs.Held.{holds_name}
-use Rattle.pm_journal.specs.Plan.{Plan, and_then}
+use Rattle.pm_journal.specs.Plan.{Plan, Ends, and_then}
 use Rattle.pm_journal.specs.Executed.{Executes, OutOfMemory, Carries}
 use Rattle.pm_journal.proofs.ActPlans.{executes_then}
-use Rattle.pm_journal.proofs.WantsMemory.{executes_nothing, out_then, out_anywhere}
+use Rattle.pm_journal.proofs.WantsMemory.{executes_nothing, out_then}
 use Rattle.pm_recipe.specs.Tree.{Top}
 use Rattle.pm_recipe.specs.View.{act_of}
 use Rattle.pm_recipe.specs.declared.tree.Flags.{Flags}
@@ -18,16 +18,15 @@ use Rattle.pm_recipe.specs.declared.tree.Action.TheVariants.{Mailbox, Pipe, Capt
 use Rattle.pm_subst.specs.Commands.{commands_in}
 use Rattle.pm_subst.specs.Words.{words_in}
 use Rattle.pm_subst.specs.declared.kinds.Mode.TheVariants.{One, Many}
+use Rattle.pm_meaning.specs.Abstracts.{copy_lines}
 use Rattle.pm_meaning.specs.Assigning.{value_in}
 use Rattle.pm_meaning.specs.Locks.{text_or, lock_word, blamed_text, is_lock_word, full_lock, is_taken, any_held}
-use Rattle.pm_meaning.specs.Turns.{Turn, Halts, not_built, refuse_name, is_too_long, skip_value}
+use Rattle.pm_meaning.specs.Turns.{Turn, GoesOn, refuse_name, is_too_long, skip_value}
 use Rattle.pm_meaning.specs.Acting.{act_on}
 use Rattle.pm_meaning.specs.ProgramActions.{pipe, capture_line, forward, write_out}
-use Rattle.pm_meaning.specs.Delivering.{Attempted, attempt, attempt_lines, attempt_turn, say_each, settled, told, after_attempt, file_and_say, deliver_at, deliver_named, is_without, deliver_to, deliver_text, Ready, deliver_with, make_ready, deliver}
+use Rattle.pm_meaning.specs.Delivering.{Attempted, attempt, attempt_lines, attempt_turn, say_each, is_done, settled, told, after_attempt, file_and_say, deliver_at, deliver_named, is_without, deliver_to, deliver_text, Ready, deliver_with, make_ready, deliver, no_flags, deliver_default}
 use Rattle.pm_meaning.specs.Destinations.{destination_of, full_of, are_file_texts}
 use Rattle.pm_meaning.specs.Minds.{Mind}
-use Rattle.pm_meaning.specs.Running.{no_flags, deliver_default}
-use Rattle.pm_meaning.specs.declared.process.End.TheVariants.{NotBuilt}
 use Rattle.pm_meaning.specs.declared.process.Attempt.{Attempt}
 use Rattle.pm_meaning.specs.declared.process.Destination.{Destination}
 use Rattle.pm_actions.specs.Copies.{IsFreeLock, attempted_of}
@@ -51,12 +50,12 @@ no_words (word ∷ words) h = absurd (cc)
 pub carried : {R A : Type 0} (p q : Plan R) (end : A → R) (answer : Result A Memory) (x y : JournalState) (a b : View) → p ≡ q → Carries p end answer x y a b → Carries q end answer x y a b
 carried p q end answer x y a b e h = subst (λ plan. Carries plan end answer x y a b) e h
 
--- a form that isn't built yet ends at once
-pub ends_unbuilt : (p : Mind) (plan : Plan Turn) (x : JournalState) (s : View) → not_built p ≡ plan → Executes plan (Halts NotBuilt p) x x s s
-ends_unbuilt p plan x s e = subst (λ q. Executes q (Halts NotBuilt p) x x s s) e (executes_nothing (Halts NotBuilt p) x x s refl)
+-- nothing is done, and the process goes on
+pub goes_on : (p : Mind) (plan : Plan Turn) (x : JournalState) (s : View) → Ends (GoesOn p) ≡ plan → Executes plan (GoesOn p) x x s s
+goes_on p plan x s e = subst (λ q. Executes q (GoesOn p) x x s s) e (executes_nothing (GoesOn p) x x s refl)
 
 -- what the action of a recipe is
-pub acts_block : (top : Top) (action : Action) (statements : Statements) (p : Mind) → action ≡ Block statements → not_built p ≡ act_on top (act_of action) p
+pub acts_block : (top : Top) (action : Action) (statements : Statements) (p : Mind) → action ≡ Block statements → Ends (GoesOn p) ≡ act_on top (act_of action) p
 acts_block top action statements p is = ap (λ act. act_on top (act_of act) p) (sym is)
 
 pub writes_out : (top : Top) (action : Action) (p : Mind) → action ≡ WriteOut → write_out top.flags top.lock p ≡ act_on top (act_of action) p
@@ -182,9 +181,12 @@ pub attempt_then_out : (flags : Flags) (lock : Option (List ℕ)) (text : List �
 attempt_then_out flags lock text ds p done x y z a b c h k = out_then (attempt lock flags ds p) (after_attempt flags text) done x y z a b c h k
 
 -- what is told behind an attempt, and what comes then
-pub said_after : (flags : Flags) (text : List ℕ) (a : Attempt) (m q : Mind) (lines : List (List ℕ)) (turn : Turn) → lines ≡ attempt_lines text a → q ≡ settled a m → attempt_turn flags a q ≡ turn
-    → say_each q lines turn ≡ after_attempt flags text (attempted_of a m)
-said_after flags text a m q lines turn e is f = ap (λ l. say_each q l turn) e ∙ (ap (say_each q (attempt_lines text a)) (sym f) ∙ ap (told flags text a) is)
+pub said_after : (flags : Flags) (text : List ℕ) (a : Attempt) (m q : Mind) (first lines : List (List ℕ)) (done : Bool) (turn : Turn) → lines ≡ first ++ copy_lines done flags q → first ≡ attempt_lines text a → done ≡ is_done a
+    → q ≡ settled a m → attempt_turn flags a q ≡ turn → say_each q lines turn ≡ after_attempt flags text (attempted_of a m)
+said_after flags text a m q first lines done turn e g d is f =
+    let all : lines ≡ attempt_lines text a ++ copy_lines (is_done a) flags q =
+    e ∙ (ap (λ l. l ++ copy_lines done flags q) g ∙ ap (λ b. attempt_lines text a ++ copy_lines b flags q) d) in
+    ap (λ l. say_each q l turn) all ∙ (ap (say_each q (attempt_lines text a ++ copy_lines (is_done a) flags q)) (sym f) ∙ ap (told flags text a) is)
 
 -- what is handed on for a default mailbox
 pub default_is : (mailbox text word lock value : List ℕ) (flags : Flags) (p : Mind) → text ≡ mailbox → word ≡ mailbox → lock ≡ [] → value ≡ [] → flags ≡ no_flags

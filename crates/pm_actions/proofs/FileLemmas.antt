@@ -1,5 +1,5 @@
 -- Deliveries to files and folders in plans.
-use Rattle.std.proofs.Common.{◌≡◌, ◌<◌, ◌+◌, Bool, true, false, Option, Some, None, List, ℕ, [], ◌∷◌, length, map, drop, get_or, refl, sym, ap, ◌∙◌, subst}
+use Rattle.std.proofs.Common.{◌≡◌, ◌<◌, ◌+◌, true, false, Option, Some, None, List, ℕ, [], ◌∷◌, length, map, drop, get_or, refl, sym, ap, ◌∙◌, subst}
 use Rattle.std.proofs.lemmas.List.{at_drop_more}
 use Rattle.std.specs.Prelude.{if◌then◌else◌}
 use Rattle.pm_bytes.specs.Name.{is_usable}
@@ -9,7 +9,6 @@ use Rattle.pm_message.specs.declared.head.Message.{Message}
 use Rattle.pm_message.specs.declared.pieces.Kind.TheVariants.{MailboxFile, Other}
 use Rattle.pm_journal.specs.JournalState.{JournalState}
 use Rattle.pm_journal.specs.Entries.{View}
-use Rattle.pm_journal.specs.Appending.{append_reply}
 use Rattle.pm_journal.specs.Noted.{NotesAct}
 use Rattle.pm_journal.specs.declared.acts.Act.TheVariants.{Append}
 use Rattle.pm_journal.specs.declared.acts.Reply.{Reply}
@@ -23,16 +22,17 @@ use Rattle.pm_journal.proofs.PlanLeads.{leads_itself, leads_on, leads_to_end, le
 use Rattle.pm_journal.proofs.WantsMemory.{executes_nothing, out_front}
 use Rattle.pm_recipe.specs.declared.tree.Flags.{Flags}
 use Rattle.pm_vars.specs.Table.{Table}
-use Rattle.pm_meaning.specs.Delivering.{Filing, feed_of, mailbox_piece, folder_piece, is_stored, in_folder, plain_prefix, in_plain, appended_by, to_file, file_as, file_one, file_all}
+use Rattle.pm_meaning.specs.Delivering.{Filing, feed_of, folder_piece, is_stored, in_folder, plain_prefix, in_plain, appended_by, to_file, file_as, file_one, file_all}
 use Rattle.pm_meaning.specs.Locks.{is_nothing}
 use Rattle.pm_meaning.specs.Minds.{Mind}
 use Rattle.pm_meaning.specs.declared.process.Destination.{Destination}
 use Rattle.pm_meaning.specs.declared.process.Filed.{Filed}
 use Rattle.pm_meaning.specs.declared.process.Filed.TheVariants.{Stored, Unnamed}
 use Rattle.pm_meaning.proofs.OneFiled.{StaysSo, remembering, one_filed}
-use Rattle.pm_actions.specs.Copies.{file_copy_for, folder_copy_for, copy_as, copy_for, file_copy, filing_of, with_vars, IsShown, AllShown}
+use Rattle.pm_actions.specs.Copies.{copy_as, copy_for, file_copy, filing_of, with_kept, IsShown, AllShown}
 use Rattle.pm_actions.specs.Filing.{is_folder_there, filed_by, mind_after}
 use Rattle.pm_actions.specs.Names.{prefix_of}
+use Rattle.pm_actions.specs.declared.kept.Kept.{Kept}
 use Rattle.pm_actions.specs.declared.filing.Copy.{Copy}
 use Rattle.pm_actions.specs.declared.filing.Copy.TheVariants.{ToFile, ToFolder}
 use Rattle.pm_actions.proofs.Choices.{choose_then, choose_else, then_out, else_out}
@@ -50,9 +50,14 @@ copy_as_files (Some kind) flags name p = refl
 copy_files : (flags : Flags) (d : Destination) (copy : Copy) (p : Mind) → copy ≡ copy_for flags p d → file_copy flags copy p ≡ file_one flags d p
 copy_files flags d copy p is = ap (λ c. file_copy flags c p) is ∙ copy_as_files d.kind flags d.name p
 
+-- how many bytes of this mail a file gets
+abbrev size_with : Flags → List ℕ → Message → ℕ
+size_with flags name message =
+    if is_nothing name then length (piece_of message (feed_of flags) Other flags.raw) else length (piece_of message (feed_of flags) MailboxFile flags.raw)
+
 -- what is wanted stays the same while the process delivers
 abbrev file_with : Flags → List ℕ → List ℕ → Message → Table → Copy
-file_with flags name base message vars = ToFile (record { name = full_name base name; shown = full_name base name; piece = piece_of message (feed_of flags) MailboxFile flags.raw; vars = vars })
+file_with flags name base message vars = ToFile (record { name = full_name base name; shown = full_name base name; piece = piece_of message (feed_of flags) MailboxFile flags.raw; kept = record { vars = vars; stored = record { folder = name; size = size_with flags (full_name base name) message } } })
 
 abbrev folder_with : FolderKind → Flags → List ℕ → List ℕ → Message → Copy
 folder_with kind flags name base message = ToFolder (record { kind = kind; folder = full_name base name; shown = full_name base name; prefix = []; piece = piece_of message (feed_of flags) Other flags.raw })
@@ -158,26 +163,27 @@ pub copies_over : (whole : Plan Filing) (flags : Flags) (items : List Copy) (p :
 copies_over whole flags items p x y a b h e = all_over whole flags h.rest p x y a b h.leads (sym e ∙ h.copies_are)
 
 -- `/dev/null` takes the mail
-pub taken_by_nothing : (flags : Flags) (name piece : List ℕ) (stored p : Mind) (x : JournalState) (s : View) → is_nothing name ≡ true → Executes (to_file flags name piece stored p) (filing_of Stored stored) x x s s
-taken_by_nothing flags name piece stored p x s e =
-    choose_then (is_nothing name) (Ends (filing_of Stored stored)) (and_then (ask (Append name piece)) (appended_by flags name stored p)) (filing_of Stored stored) x x s s e (executes_nothing (filing_of Stored stored) x x s refl)
+pub taken_by_nothing : (flags : Flags) (name piece : List ℕ) (stored p q : Mind) (x : JournalState) (s : View) → is_nothing name ≡ true → q ≡ stored → Executes (to_file flags name piece stored p) (filing_of Stored q) x x s s
+taken_by_nothing flags name piece stored p q x s e same =
+    subst (λ m. Executes (to_file flags name piece stored p) (filing_of Stored m) x x s s) (sym same)
+    (choose_then (is_nothing name) (Ends (filing_of Stored stored)) (and_then (ask (Append name piece)) (appended_by flags name stored p)) (filing_of Stored stored) x x s s e (executes_nothing (filing_of Stored stored) x x s refl))
 
 -- what came of an append where no folder stood
-append_ends : (flags : Flags) (name : List ℕ) (vars : Table) (p : Mind) (reply : Reply) → is_folder_there reply ≡ false
-    → Ends (filing_of (filed_by name reply) (mind_after (filed_by name reply) vars p)) ≡ appended_by flags name (with_vars vars p) p reply
-append_ends flags name vars p Done h = refl
-append_ends flags name vars p IsFolder h = let e : true ≡ false = h in absurd (cc)
-append_ends flags name vars p (Torn count) h = refl
-append_ends flags name vars p other h = refl
+append_ends : (flags : Flags) (name : List ℕ) (kept : Kept) (p : Mind) (reply : Reply) → is_folder_there reply ≡ false
+    → Ends (filing_of (filed_by name reply) (mind_after (filed_by name reply) kept p)) ≡ appended_by flags name (with_kept kept p) p reply
+append_ends flags name kept p Done h = refl
+append_ends flags name kept p IsFolder h = let e : true ≡ false = h in absurd (cc)
+append_ends flags name kept p (Torn count) h = refl
+append_ends flags name kept p other h = refl
 
-pub appended : (flags : Flags) (name piece shown : List ℕ) (vars : Table) (reply : Reply) (filed : Filed) (p q : Mind) (x y : JournalState) (a b : View) → is_nothing name ≡ false → shown ≡ name → is_folder_there reply ≡ false
-    → filed ≡ filed_by shown reply → q ≡ mind_after filed vars p → NotesAct (Append name piece) reply x y a b → Executes (to_file flags name piece (with_vars vars p) p) (filing_of filed q) x y a b
-appended flags name piece shown vars reply filed p q x y a b some same free is minds n =
-    let stored = with_vars vars p in
+pub appended : (flags : Flags) (name piece shown : List ℕ) (kept : Kept) (reply : Reply) (filed : Filed) (p q : Mind) (x y : JournalState) (a b : View) → is_nothing name ≡ false → shown ≡ name → is_folder_there reply ≡ false
+    → filed ≡ filed_by shown reply → q ≡ mind_after filed kept p → NotesAct (Append name piece) reply x y a b → Executes (to_file flags name piece (with_kept kept p) p) (filing_of filed q) x y a b
+appended flags name piece shown kept reply filed p q x y a b some same free is minds n =
+    let stored = with_kept kept p in
     let as_filed : filed ≡ filed_by name reply = is ∙ ap (λ l. filed_by l reply) same in
-    let last : filing_of filed q ≡ filing_of (filed_by name reply) (mind_after (filed_by name reply) vars p) = ap (filing_of filed) minds ∙ ap (λ f. filing_of f (mind_after f vars p)) as_filed in
+    let last : filing_of filed q ≡ filing_of (filed_by name reply) (mind_after (filed_by name reply) kept p) = ap (filing_of filed) minds ∙ ap (λ f. filing_of f (mind_after f kept p)) as_filed in
     let ends : Executes (appended_by flags name stored p reply) (filing_of filed q) y y b b =
-    subst (λ plan. Executes plan (filing_of filed q) y y b b) (append_ends flags name vars p reply free) (subst (λ r. Executes (Ends r) (filing_of filed q) y y b b) last (executes_nothing (filing_of filed q) y y b refl)) in
+    subst (λ plan. Executes plan (filing_of filed q) y y b b) (append_ends flags name kept p reply free) (subst (λ r. Executes (Ends r) (filing_of filed q) y y b b) last (executes_nothing (filing_of filed q) y y b refl)) in
     choose_else (is_nothing name) (Ends (filing_of Stored stored)) (and_then (ask (Append name piece)) (appended_by flags name stored p)) (filing_of filed q) x y a b some
     (first_act (Append name piece) (appended_by flags name stored p) reply (filing_of filed q) x x y y a b b refl n ends)
 

@@ -1,4 +1,5 @@
 pub mod Choices
+mod TellLemmas
 pub mod SkipLemmas
 pub mod FileLemmas
 mod FoundLemmas

@@ -1,12 +1,13 @@
 -- Commands that are run in plans.
-use Rattle.std.proofs.Common.{◌≡◌, ◌<◌, ◌+◌, true, false, List, ℕ, [], ◌∷◌, ◌++◌, Option, Some, None, drop, length, get_or, refl, sym, ap, ◌∙◌, subst}
+use Rattle.std.proofs.Common.{◌≡◌, ◌<◌, ◌+◌, Bool, true, false, List, ℕ, [], ◌∷◌, ◌++◌, Option, Some, None, drop, length, get_or, refl, sym, ap, ◌∙◌, subst}
 use Rattle.std.proofs.lemmas.List.{at_drop_more}
+use Rattle.std.specs.Prelude.{if◌then◌else◌}
 use Rattle.pm_journal.specs.JournalState.{JournalState}
 use Rattle.pm_journal.specs.Entries.{View}
 use Rattle.pm_journal.specs.Outcomes.{run_end, output_in}
 use Rattle.pm_journal.specs.Plan.{Plan, Ends, and_then, ask}
 use Rattle.pm_journal.specs.Executed.{Executes, OutOfMemory, LeadsTo}
-use Rattle.pm_journal.specs.declared.acts.Act.TheVariants.{Run}
+use Rattle.pm_journal.specs.declared.acts.Act.TheVariants.{Run, SayFile}
 use Rattle.pm_journal.specs.declared.acts.Reply.{Reply}
 use Rattle.pm_journal.specs.declared.children.RunEnd.{RunEnd}
 use Rattle.pm_host.specs.declared.command.Command.{Command}
@@ -14,14 +15,17 @@ use Rattle.pm_message.specs.Split.{whole_of}
 use Rattle.pm_subst.specs.Commands.{commands_in}
 use Rattle.pm_subst.specs.declared.kinds.Mode.TheVariants.{Many}
 use Rattle.pm_meaning.specs.Delivering.{Ready}
+use Rattle.pm_meaning.specs.Locks.{is_nothing}
+use Rattle.pm_meaning.specs.Logging.{log, log_to, log_file, logged}
 use Rattle.pm_meaning.specs.Minds.{Mind}
 use Rattle.pm_meaning.specs.Outputs.{Output, output_with, Outputs, outputs_with, outputs_of, outputs_behind, output_of, tell_run, tell_maybe, run_fault, taken_output, run_command, Read, read_with, read_line}
+use Rattle.pm_meaning.specs.Turns.{say_then}
 use Rattle.pm_meaning.specs.Programs.{line_of_words, shell_words, needs_shell, expanded_line, code_of, with_code, with_exit_code}
 use Rattle.pm_journal.proofs.PlanLeads.{leads_itself, leads_on, leads_to_end, leads_to_want}
 use Rattle.pm_journal.proofs.ActPlans.{executes_then}
 use Rattle.pm_journal.proofs.WantsMemory.{executes_nothing, out_front, out_then, out_anywhere}
-use Rattle.pm_acts.specs.Acts.{Runs}
 use Rattle.pm_actions.specs.Outputs.{told}
+use Rattle.pm_actions.proofs.Choices.{line_told, line_out}
 use Rattle.pm_actions.proofs.DeliverLemmas.{if_yes, if_no}
 
 -- what comes behind the commands of an action's lock file, and behind those of its text
@@ -77,10 +81,21 @@ pub commands_over : (whole : Plan Outputs) (texts rest : List (List ℕ)) (p : M
 commands_over whole texts rest p outputs x y a b e h =
     leads_to_end whole (Ends (outputs_with outputs p)) (outputs_with outputs p) x y y a b b (subst (λ l. LeadsTo whole (outputs_behind outputs l p) x y a b) e h) (executes_nothing (outputs_with outputs p) y y b refl)
 
+-- a text is logged, and another end comes
+file_then : {R : Type 0} (b : Bool) (name text : List ℕ) (next : R)
+    → and_then (and_then (if b then Ends logged else and_then (ask (SayFile name text)) (λ reply. Ends logged)) (λ done. Ends told)) (λ _. Ends next)
+    ≡ and_then (if b then Ends logged else and_then (ask (SayFile name text)) (λ reply. Ends logged)) (λ done. Ends next)
+file_then true name text next = refl
+file_then false name text next = refl
+
+log_then : {R : Type 0} (to : Option (List ℕ)) (text : List ℕ) (next : R) → and_then (and_then (log_to to text) (λ done. Ends told)) (λ _. Ends next) ≡ and_then (log_to to text) (λ done. Ends next)
+log_then None text next = refl
+log_then (Some name) text next = file_then (is_nothing name) name text next
+
 -- a plan whose end doesn't matter, with another end
 pub told_then : {R : Type 0} (fault : Option (List ℕ)) (p : Mind) (next : R) → and_then (tell_maybe fault p told) (λ _. Ends next) ≡ tell_maybe fault p next
 told_then None p next = refl
-told_then (Some text) p next = refl
+told_then (Some text) p next = log_then (log_file p) text next
 
 -- what comes behind the run of a command
 abbrev pub behind_run : List ℕ → Mind → Reply → Plan Output
@@ -144,3 +159,18 @@ module _ (command : Command) (input text : List ℕ) (p : Mind) where
         → OutOfMemory (run_command command text p) x z a c
     command_then_out x y z a b c e h k =
         out_then (ask (Run command (whole_of p.message) true)) (behind_run text p) reply x y z a b c (subst (λ i. Executes (ask (Run command i true)) reply x y a b) e h) k
+
+-- what is told of a program
+pub fault_told : (end : RunEnd) (text fault : List ℕ) (p : Mind) (x y : JournalState) (a b : View) → Some fault ≡ run_fault end text → Executes (log fault p) logged x y a b → Executes (tell_run end text p told) told x y a b
+fault_told end text fault p x y a b e h = subst (λ f. Executes (tell_maybe f p told) told x y a b) e (line_told p fault fault told x y a b refl h)
+
+pub fault_untold : (end : RunEnd) (text fault : List ℕ) (p : Mind) (x y : JournalState) (a b : View) → Some fault ≡ run_fault end text → OutOfMemory (log fault p) x y a b → OutOfMemory (tell_run end text p told) x y a b
+fault_untold end text fault p x y a b e h = subst (λ f. OutOfMemory (tell_maybe f p told) x y a b) e (line_out p fault fault told x y a b refl h)
+
+-- a command that can't be run was told, and has no output
+pub nothing_came : (line shown output : List ℕ) (p q r : Mind) (x y : JournalState) (a b : View) → shown ≡ line → output ≡ [] → r ≡ q → Executes (log shown p) logged x y a b
+    → Executes (say_then p line (output_with [] q)) (output_with output r) x y a b
+nothing_came line shown output p q r x y a b is none same h =
+    let plan = say_then p line (output_with [] q) in
+    subst (λ o. Executes plan (output_with o r) x y a b) (sym none)
+    (subst (λ m. Executes plan (output_with [] m) x y a b) (sym same) (line_told p line shown (output_with [] q) x y a b is h))

@@ -1,6 +1,6 @@
 -- Actions that hand the mail on, in plans: what each of them asks for, and all their commands first.
-use Rattle.std.proofs.Common.{◌≡◌, true, false, List, ℕ, [], ◌++◌, Option, refl, sym, ap, ◌∙◌}
-use Rattle.std.specs.Prelude.{codes, if◌then◌else◌}
+use Rattle.std.proofs.Common.{◌≡◌, true, false, List, ℕ, [], ◌++◌, Option, ap, ◌∙◌}
+use Rattle.std.specs.Prelude.{codes}
 use Rattle.pm_recipe.specs.declared.tree.Flags.{Flags}
 use Rattle.pm_journal.specs.Plan.{Plan, and_then}
 use Rattle.pm_meaning.specs.Delivering.{Ready, make_ready}

@@ -2,28 +2,27 @@
 use Rattle.std.proofs.Common.{◌≡◌, List, ℕ, [], ◌∷◌, refl, subst}
 use Rattle.pm_journal.specs.JournalState.{JournalState}
 use Rattle.pm_journal.specs.Entries.{View}
-use Rattle.pm_journal.specs.declared.acts.Act.TheVariants.{SayErr}
-use Rattle.pm_journal.specs.Plan.{Plan, Ends, ask}
+use Rattle.pm_journal.specs.Plan.{Plan, Ends}
 use Rattle.pm_journal.specs.Executed.{Executes, OutOfMemory, LeadsTo}
 use Rattle.pm_journal.proofs.PlanLeads.{leads_on, leads_to_end, leads_to_want}
 use Rattle.pm_journal.proofs.WantsMemory.{executes_nothing, out_front}
-use Rattle.pm_acts.specs.Acts.{Says}
 use Rattle.pm_meaning.specs.Delivering.{say_each}
+use Rattle.pm_meaning.specs.Logging.{log, logged}
 use Rattle.pm_meaning.specs.Minds.{Mind}
 use Rattle.pm_meaning.specs.Turns.{Turn}
 
 -- a line was said, and the next comes
 pub line_on : (whole : Plan Turn) (p : Mind) (items rest : List (List ℕ)) (line : List ℕ) (turn : Turn) (x y z : JournalState) (a b c : View) → LeadsTo whole (say_each p items turn) x y a b → items ≡ line ∷ rest
-    → Says line y z b c → LeadsTo whole (say_each p rest turn) x z a c
+    → Executes (log line p) logged y z b c → LeadsTo whole (say_each p rest turn) x z a c
 line_on whole p items rest line turn x y z a b c h e k =
-    leads_on whole (ask (SayErr line)) (λ reply. say_each p rest turn) k.reply x y z a b c (subst (λ l. LeadsTo whole (say_each p l turn) x y a b) e h) k.executes
+    leads_on whole (log line p) (λ done. say_each p rest turn) logged x y z a b c (subst (λ l. LeadsTo whole (say_each p l turn) x y a b) e h) k
 
 -- memory was wanting at a line
 pub line_wants : (whole : Plan Turn) (p : Mind) (items rest : List (List ℕ)) (line : List ℕ) (turn : Turn) (x y z : JournalState) (a b c : View) → LeadsTo whole (say_each p items turn) x y a b → items ≡ line ∷ rest
-    → OutOfMemory (ask (SayErr line)) y z b c → OutOfMemory whole x z a c
+    → OutOfMemory (log line p) y z b c → OutOfMemory whole x z a c
 line_wants whole p items rest line turn x y z a b c h e k =
     leads_to_want whole (say_each p (line ∷ rest) turn) x y z a b c (subst (λ l. LeadsTo whole (say_each p l turn) x y a b) e h)
-    (out_front (ask (SayErr line)) (λ reply. say_each p rest turn) y z b c k)
+    (out_front (log line p) (λ done. say_each p rest turn) y z b c k)
 
 -- all lines were said
 pub lines_over : (whole : Plan Turn) (p : Mind) (items : List (List ℕ)) (turn : Turn) (x y : JournalState) (a b : View) → LeadsTo whole (say_each p items turn) x y a b → items ≡ [] → Executes whole turn x y a b

@@ -1,5 +1,5 @@
 -- Plans that are carried out one after the other.
-use Rattle.std.proofs.Common.{◌≡◌, List, Result, IfOk, refl, sym, subst}
+use Rattle.std.proofs.Common.{◌≡◌, Result, IfOk, refl, sym, subst}
 use Rattle.pm_bytes.specs.declared.error.Memory.{Memory}
 use Rattle.pm_journal.specs.JournalState.{JournalState}
 use Rattle.pm_journal.specs.Entries.{View}

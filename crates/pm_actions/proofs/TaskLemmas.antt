@@ -1,24 +1,24 @@
 -- Actions that hand the mail to a program or to standard output, in plans.
 use Rattle.std.proofs.Common.{◌≡◌, Bool, true, false, not, List, ℕ, [], Option, refl, sym, ap, ◌∙◌, subst}
-use Rattle.std.specs.Prelude.{if◌then◌else◌, ◌||◌}
+use Rattle.std.specs.Prelude.{if◌then◌else◌, ◌||◌, ◌&&◌, ◌++◌}
 use Rattle.pm_host.specs.declared.command.Command.{Command}
 use Rattle.pm_subst.specs.Words.{words_in}
 use Rattle.pm_journal.specs.JournalState.{JournalState}
 use Rattle.pm_journal.specs.Entries.{View}
 use Rattle.pm_journal.specs.LogText.{no_lock_line, value_too_long_line}
-use Rattle.pm_journal.specs.declared.acts.Act.TheVariants.{SayErr}
-use Rattle.pm_journal.specs.Plan.{Plan, and_then, ask}
+use Rattle.pm_journal.specs.Plan.{Plan, and_then}
 use Rattle.pm_journal.specs.Executed.{Executes, OutOfMemory, LeadsTo}
 use Rattle.pm_journal.proofs.ActPlans.{executes_then}
 use Rattle.pm_journal.proofs.PlanLeads.{leads_itself, leads_on}
 use Rattle.pm_journal.proofs.WantsMemory.{out_then, out_front}
-use Rattle.pm_acts.specs.Acts.{Says}
+use Rattle.pm_meaning.specs.Abstracts.{copy_lines}
 use Rattle.pm_meaning.specs.Assigning.{first_word}
 use Rattle.pm_meaning.specs.Changes.{overflowed}
 use Rattle.pm_meaning.specs.Delivering.{say_each}
 use Rattle.pm_meaning.specs.Locks.{blamed_text, is_lock_word, full_lock, is_taken}
+use Rattle.pm_meaning.specs.Logging.{log, logged}
 use Rattle.pm_meaning.specs.Minds.{Mind}
-use Rattle.pm_meaning.specs.ProgramActions.{Task, Tried, Trying, try_under, trial_lines, settled_by, trial_turn, after_trial, try_and_say, lacks_lock, lock_source, lock_mode, named_lock, told_first, do_under, do_named, unusable_text, do_line, lock_first, is_final}
+use Rattle.pm_meaning.specs.ProgramActions.{Task, Tried, Trying, try_under, trial_lines, settled_by, trial_turn, after_trial, try_and_say, lacks_lock, lock_source, lock_mode, named_lock, told_first, do_under, do_named, unusable_text, do_line, lock_first, is_final, is_delivery, is_fine_trial}
 use Rattle.pm_meaning.specs.Turns.{Turn, GoesOn, say_then, refuse_name, is_too_long, skip_value}
 use Rattle.pm_meaning.specs.declared.process.ProgramLine.{ProgramLine}
 use Rattle.pm_meaning.specs.declared.process.Trial.{Trial}
@@ -50,30 +50,33 @@ pub trial_out : (t : Task) (lock : Option (List ℕ)) (work : Mind → Plan Trie
 trial_out t lock work p x y a b h = out_front (try_under lock work p) (after_trial t) x y a b h
 
 -- what is told behind it, and what comes then
-pub said_after_trial : (t : Task) (last : Bool) (trial : Trial) (m q : Mind) (lines : List (List ℕ)) (turn : Turn) → last ≡ is_final t.purpose t.flags → lines ≡ trial_lines t.flags t.text trial → q ≡ settled_by trial m
-    → trial_turn last trial q ≡ turn → say_each q lines turn ≡ after_trial t (trying_of trial m)
-said_after_trial t last trial m q lines turn final e is f =
+pub said_after_trial : (t : Task) (last : Bool) (trial : Trial) (m q : Mind) (first lines : List (List ℕ)) (done : Bool) (turn : Turn) → last ≡ is_final t.purpose t.flags → lines ≡ first ++ copy_lines done t.flags q
+    → first ≡ trial_lines t.flags t.text trial → done ≡ (is_delivery t.purpose && is_fine_trial trial) → q ≡ settled_by trial m → trial_turn last trial q ≡ turn → say_each q lines turn ≡ after_trial t (trying_of trial m)
+said_after_trial t last trial m q first lines done turn final e g d is f =
+    let said : List (List ℕ) = trial_lines t.flags t.text trial in
+    let delivered : Bool = is_delivery t.purpose && is_fine_trial trial in
     let final_turn = ap (λ b. trial_turn b trial q) (sym final) ∙ f in
-    ap (λ l. say_each q l turn) e
-    ∙ (ap (say_each q (trial_lines t.flags t.text trial)) (sym final_turn) ∙ ap (λ r. say_each r (trial_lines t.flags t.text trial) (trial_turn (is_final t.purpose t.flags) trial r)) is)
+    let all : lines ≡ said ++ copy_lines delivered t.flags q = e ∙ (ap (λ l. l ++ copy_lines done t.flags q) g ∙ ap (λ b. said ++ copy_lines b t.flags q) d) in
+    ap (λ l. say_each q l turn) all
+    ∙ (ap (say_each q (said ++ copy_lines delivered t.flags q)) (sym final_turn) ∙ ap (λ r. say_each r (said ++ copy_lines delivered t.flags r) (trial_turn (is_final t.purpose t.flags) trial r)) is)
 
 -- that there is no automatic lock file was told, or needn't be
-pub was_told : (t : Task) (p : Mind) (next : Plan Turn) (line : List ℕ) (x y : JournalState) (a b : View) → lacks_lock t ≡ true → line ≡ no_lock_line t.text → Says line x y a b → LeadsTo (told_first t p next) next x y a b
+pub was_told : (t : Task) (p : Mind) (next : Plan Turn) (line : List ℕ) (x y : JournalState) (a b : View) → lacks_lock t ≡ true → line ≡ no_lock_line t.text → Executes (log line p) logged x y a b → LeadsTo (told_first t p next) next x y a b
 was_told t p next line x y a b lacks is h =
-    let whole : Plan Turn = and_then (ask (SayErr (no_lock_line t.text))) (λ reply. next) in
+    let whole : Plan Turn = and_then (log (no_lock_line t.text) p) (λ done. next) in
     subst (λ w. LeadsTo w next x y a b) (if_yes (lacks_lock t) whole next lacks)
-    (leads_on whole (ask (SayErr (no_lock_line t.text))) (λ reply. next) h.reply x x y a a b (leads_itself whole x a) (subst (λ l. Executes (ask (SayErr l)) h.reply x y a b) is h.executes))
+    (leads_on whole (log (no_lock_line t.text) p) (λ done. next) logged x x y a a b (leads_itself whole x a) (subst (λ l. Executes (log l p) logged x y a b) is h))
 
-pub wasnt_told : (t : Task) (p : Mind) (next : Plan Turn) (line : List ℕ) (x y : JournalState) (a b : View) → lacks_lock t ≡ true → line ≡ no_lock_line t.text → OutOfMemory (ask (SayErr line)) x y a b
+pub wasnt_told : (t : Task) (p : Mind) (next : Plan Turn) (line : List ℕ) (x y : JournalState) (a b : View) → lacks_lock t ≡ true → line ≡ no_lock_line t.text → OutOfMemory (log line p) x y a b
     → OutOfMemory (told_first t p next) x y a b
 wasnt_told t p next line x y a b lacks is h =
-    let whole : Plan Turn = and_then (ask (SayErr (no_lock_line t.text))) (λ reply. next) in
+    let whole : Plan Turn = and_then (log (no_lock_line t.text) p) (λ done. next) in
     subst (λ w. OutOfMemory w x y a b) (if_yes (lacks_lock t) whole next lacks)
-    (out_front (ask (SayErr (no_lock_line t.text))) (λ reply. next) x y a b (subst (λ l. OutOfMemory (ask (SayErr l)) x y a b) is h))
+    (out_front (log (no_lock_line t.text) p) (λ done. next) x y a b (subst (λ l. OutOfMemory (log l p) x y a b) is h))
 
 pub needs_no_line : (t : Task) (p : Mind) (next : Plan Turn) (x : JournalState) (a : View) → lacks_lock t ≡ false → LeadsTo (told_first t p next) next x x a a
 needs_no_line t p next x a has =
-    subst (λ w. LeadsTo w next x x a a) (if_no (lacks_lock t) (and_then (ask (SayErr (no_lock_line t.text))) (λ reply. next)) next has) (leads_itself next x a)
+    subst (λ w. LeadsTo w next x x a a) (if_no (lacks_lock t) (and_then (log (no_lock_line t.text) p) (λ done. next)) next has) (leads_itself next x a)
 
 -- the lock file can't be used, or can
 either_bad : (t : Task) (lock : Option (List ℕ)) (work : Mind → Plan Tried) (p : Mind) (fits taken : Bool) (blamed next : Plan Turn) → (not fits || taken) ≡ true → blamed ≡ (if not fits then blamed else if taken then blamed else next)

@@ -4,7 +4,7 @@ use Rattle.pm_bytes.specs.Path.{full_name}
 use Rattle.pm_journal.specs.Held.{holds_name}
 use Rattle.pm_journal.specs.Plan.{Plan}
 use Rattle.pm_journal.specs.declared.placing.FolderKind.{FolderKind}
-use Rattle.pm_meaning.specs.Delivering.{Attempted, Filing, mailbox_piece, folder_piece, to_file, in_folder}
+use Rattle.pm_meaning.specs.Delivering.{Attempted, Filing, mailbox_piece, folder_piece, file_size, to_file, in_folder}
 use Rattle.pm_meaning.specs.Minds.{Mind}
 use Rattle.pm_meaning.specs.declared.process.Attempt.{Attempt}
 use Rattle.pm_meaning.specs.declared.process.Destination.{Destination}
@@ -15,19 +15,23 @@ use Rattle.pm_vars.specs.Variables.{with_value}
 use Rattle.pm_actions.specs.declared.filing.Copy.{Copy}
 use Rattle.pm_actions.specs.declared.filing.Copy.TheVariants.{ToFile, ToFolder}
 use Rattle.pm_actions.specs.declared.filing.FileCopy.{FileCopy}
+use Rattle.pm_actions.specs.declared.kept.Kept.{Kept}
 use Rattle.pm_actions.specs.declared.placing.FolderCopy.{FolderCopy}
 
--- the variables once this destination has the mail
-abbrev pub remembered : List ℕ → Table → Table
-remembered word vars = record vars { variables = with_value (codes "LASTFOLDER") word vars.variables }
+-- what a process with these variables remembers once so many bytes of the mail are at this destination
+abbrev pub remembered : List ℕ → ℕ → Table → Kept
+remembered word size vars = record {
+  vars = record vars { variables = with_value (codes "LASTFOLDER") word vars.variables };
+  stored = record { folder = word; size = size };
+}
 
--- a file with its name, its piece, and the variables once it has the mail
+-- a file with its name, its piece, and what the process remembers once it has the mail
 abbrev pub file_copy_for : Flags → Mind → List ℕ → FileCopy
 file_copy_for flags p name = record {
   name = full_name p.base name;
   shown = full_name p.base name;
   piece = mailbox_piece flags p;
-  vars = remembered name p.vars;
+  kept = remembered name (file_size (full_name p.base name) flags p) p.vars;
 }
 
 -- a folder with its name and its piece; no name in it begins in a way of its own
@@ -61,13 +65,13 @@ abbrev pub IsFreeLock : Option (List ℕ) → List (List ℕ) → Type 0
 IsFreeLock None names = Unit {0}
 IsFreeLock (Some name) names = holds_name names name ≡ false
 
--- the process with these variables
-abbrev pub with_vars : Table → Mind → Mind
-with_vars vars p = record p { vars = vars }
+-- the process that remembers so
+abbrev pub with_kept : Kept → Mind → Mind
+with_kept kept p = record p { vars = kept.vars; stored = kept.stored }
 
 -- the copy goes to its destination
 abbrev pub file_copy : Flags → Copy → Mind → Plan Filing
-file_copy flags (ToFile copy) p = to_file flags copy.name copy.piece (with_vars copy.vars p) p
+file_copy flags (ToFile copy) p = to_file flags copy.name copy.piece (with_kept copy.kept p) p
 file_copy flags (ToFolder copy) p = in_folder copy.kind copy.folder copy.prefix copy.piece p
 
 -- the name for the line is that of the file or the folder

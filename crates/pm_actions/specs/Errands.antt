@@ -1,5 +1,5 @@
 -- What tasks ask of the outside, with all that is wanted for it.
-use Rattle.std.specs.Prelude.{◌≡◌, ℕ, false, true, not, ◌||◌, List, [], Option, codes, if◌then◌else◌}
+use Rattle.std.specs.Prelude.{◌≡◌, ℕ, false, true, not, ◌||◌, List, [], length, Option, codes, if◌then◌else◌}
 use Rattle.pm_recipe.specs.declared.tree.Flags.{Flags}
 use Rattle.pm_subst.specs.Words.{words_in}
 use Rattle.pm_vars.specs.Table.{Table}
@@ -11,7 +11,8 @@ use Rattle.pm_meaning.specs.ProgramActions.{Purpose, Delivers, Filters, Captures
 use Rattle.pm_meaning.specs.Turns.{is_too_long, length_in}
 use Rattle.pm_meaning.specs.declared.process.Outcome.{Outcome}
 use Rattle.pm_meaning.specs.declared.process.Trial.{Trial}
-use Rattle.pm_actions.specs.Copies.{remembered, with_vars}
+use Rattle.pm_actions.specs.Copies.{remembered, with_kept}
+use Rattle.pm_actions.specs.declared.kept.Kept.{Kept}
 use Rattle.pm_actions.specs.declared.errands.Errand.{Errand}
 use Rattle.pm_actions.specs.declared.errands.Errand.TheVariants.{Feed, Filter, Capture, Write}
 use Rattle.pm_actions.specs.declared.tasks.Purpose.{Purpose as CodePurpose}
@@ -39,16 +40,16 @@ tried_of outcome p = record { outcome = outcome; mind = p }
 abbrev pub trying_of : Trial → Mind → Trying
 trying_of trial p = record { trial = trial; mind = p }
 
--- only where it was done the process goes on with these variables
-abbrev pub kept_if : Outcome → Table → Mind → Mind
-kept_if outcome vars p = if is_fine outcome then with_vars vars p else p
+-- only where it was done the process remembers so
+abbrev pub kept_if : Outcome → Kept → Mind → Mind
+kept_if outcome kept p = if is_fine outcome then with_kept kept p else p
 
 -- with these variables the errand is this work
 abbrev pub IsWork : Flags → Errand → Table → (Mind → Plan Tried) → Type 0
-IsWork flags (Feed command input kept) vars work = (folder : List ℕ) × (kept ≡ remembered folder vars) × (work ≡ feed flags folder command input)
+IsWork flags (Feed command input kept) vars work = (folder : List ℕ) × (kept ≡ remembered folder (length input) vars) × (work ≡ feed flags folder command input)
 IsWork flags (Filter command input) vars work = work ≡ filter_mail flags command input
 IsWork flags (Capture command input name) vars work = work ≡ capture flags name command input
-IsWork flags (Write piece kept) vars work = (kept ≡ remembered (codes "|") vars) × (work ≡ write piece)
+IsWork flags (Write piece kept) vars work = (kept ≡ remembered (codes "|") (length piece) vars) × (work ≡ write piece)
 
 -- the text of the lock file, with these outputs of its commands, gives so much
 abbrev pub IsLockText : Task → List (List ℕ) → Mind → LockText → Type 0

@@ -8,9 +8,9 @@ use Rattle.pm_journal.specs.declared.acts.Reply.TheVariants.{Done, IsFolder, Tor
 use Rattle.pm_meaning.specs.Minds.{Mind}
 use Rattle.pm_meaning.specs.declared.process.Filed.{Filed}
 use Rattle.pm_meaning.specs.declared.process.Filed.TheVariants.{Stored, Unwritten, Left}
-use Rattle.pm_vars.specs.Table.{Table}
 use Rattle.pm_meaning.specs.declared.process.Destination.{Destination}
-use Rattle.pm_actions.specs.Copies.{with_vars}
+use Rattle.pm_actions.specs.Copies.{with_kept}
+use Rattle.pm_actions.specs.declared.kept.Kept.{Kept}
 use Rattle.pm_actions.specs.declared.filing.Copy.{Copy}
 use Rattle.pm_actions.specs.declared.filing.Copy.TheVariants.{ToFile, ToFolder}
 
@@ -46,6 +46,6 @@ filed_by name (Torn count) = Left name count
 filed_by name other = Unwritten name
 
 -- a destination that has the mail is remembered
-abbrev pub mind_after : Filed → Table → Mind → Mind
-mind_after Stored vars p = with_vars vars p
-mind_after other vars p = p
+abbrev pub mind_after : Filed → Kept → Mind → Mind
+mind_after Stored kept p = with_kept kept p
+mind_after other kept p = p

@@ -4,6 +4,7 @@ pub mod Expanding
 pub mod Copies
 pub mod Programs
 pub mod Outputs
+pub mod Telling
 pub mod Placing
 pub mod Filing
 pub mod Errands

@@ -15,9 +15,9 @@ HasFile Placed file = is_some file ≡ true
 HasFile (Torn count) file = is_some file ≡ true
 HasFile other file = Unit {0}
 
--- what came of a filing in this folder
-abbrev pub placed_as : FolderEnd → Option (List ℕ) → List ℕ → Mind → Filing
-placed_as Placed file folder p = filing_of Stored (stored_in (text_or [] file) p)
-placed_as Undone file folder p = filing_of (Unwritten folder) p
-placed_as (Torn count) file folder p = filing_of (Left (text_or [] file) count) p
-placed_as NamesOut file folder p = filing_of (Crowded folder) p
+-- what came of a filing of so many bytes in this folder
+abbrev pub placed_as : FolderEnd → Option (List ℕ) → List ℕ → ℕ → Mind → Filing
+placed_as Placed file folder size p = filing_of Stored (stored_in (text_or [] file) size p)
+placed_as Undone file folder size p = filing_of (Unwritten folder) p
+placed_as (Torn count) file folder size p = filing_of (Left (text_or [] file) count) p
+placed_as NamesOut file folder size p = filing_of (Crowded folder) p

@@ -13,12 +13,13 @@ ghost use Rattle.pm_meaning.specs.Turns.{refuse_name};
 ghost use Rattle.pm_meaning.specs.Delivering.{deliver_at as to_names, deliver_named as to_usable};
 ghost use Rattle.pm_meaning.specs.Delivering.{deliver_to as to_words, deliver_text as by_value, deliver_with, deliver};
 ghost use Rattle.pm_meaning.specs.Minds.{Mind, mind_of};
-ghost use Rattle.pm_meaning.specs.Running.{deliver_default as to_default, no_flags as none_flags};
+ghost use Rattle.pm_meaning.specs.Delivering.{deliver_default as to_default, no_flags as none_flags};
 ghost use Rattle.pm_actions.specs.Copies.{IsFreeLock};
 ghost use Rattle.pm_actions.specs.Names.{top_of};
 ghost use Rattle.pm_actions.specs.Outputs.{ready_of};
 ghost use Rattle.pm_actions.specs.Turning.{turn_of};
 
+use crate::abstracts::push_copy;
 use crate::attempting::attempt;
 use crate::expanding::{Expansion, expand_text, first_word};
 use crate::filing::is_stored;
@@ -30,7 +31,8 @@ use crate::outputs::{Ready, make_ready};
 use crate::pipes::{capture, forward, pipe, write_out};
 use crate::saying::{attempt_lines, say_each};
 use crate::skipping::skip_value;
-use pm_acts::{Outside, say};
+use crate::telling::tell;
+use pm_acts::Outside;
 use pm_bytes::{Blob, Memory, Name, NameRefused};
 use pm_journal::{Journal, unusable_name};
 use pm_meaning::{Attempt, Destination, End, Filed, Process, succeed};
@@ -79,7 +81,7 @@ pub fn perform<D: Outside>(
             forward(alloc, &order, process, outside, journal)
         }
         Action::WriteOut => write_out(alloc, recipe.flags, &recipe.lock, process, outside, journal),
-        Action::Block(_) => Ok(Some(End::NotBuilt)),
+        Action::Block(_) => Ok(None),
     }
 }
 
@@ -369,8 +371,9 @@ fn file_and_say<D: Outside>(
     )?;
     settle(&attempt, process);
     let end = end_of(order.flags, &attempt);
-    let lines = attempt_lines(alloc, order.text, &attempt)?;
-    say_each(lines, end, process, outside, journal)
+    let mut lines = attempt_lines(alloc, order.text, &attempt)?;
+    push_copy(alloc, is_done(&attempt), order.flags, process, &mut lines)?;
+    say_each(alloc, lines, end, process, outside, journal)
 }
 
 /// The name of a file can't be used: this is told of the text.
@@ -388,7 +391,7 @@ pub fn refuse<D: Outside>(
     ensures keeping { Keeping journal.new process.now.locks.names }
 {
     let line = unusable_name(alloc, text)?;
-    say(&process.locks, line, outside, journal)?;
+    tell(alloc, process, line, outside, journal)?;
     Ok(None)
 }
 

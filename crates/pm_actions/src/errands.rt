@@ -12,6 +12,7 @@ ghost use Rattle.pm_actions.specs.Errands.{tried_of, kept_if, purpose_of, IsWork
 use crate::ends::{feed_outcome, is_fine, write_outcome};
 use crate::filing::fed_parts;
 use crate::filtering::{capture, filter};
+use crate::kept::{Kept, keep, remembering};
 use crate::programs::note_code;
 use crate::tasks::{Purpose, Task};
 use pm_acts::Outside;
@@ -21,17 +22,16 @@ use pm_journal::Journal;
 use pm_meaning::{Outcome, Process};
 use pm_message::{Kind, piece};
 use pm_recipe::Flags;
-use pm_vars::Vars;
 use std::alloc::Global;
 
-/// What a task asks of the outside; of a delivery with the variables once that is done.
+/// What a task asks of the outside; of a delivery with what the process remembers once that is done.
 #[derive(Drop)]
 pub enum Errand {
     /// The program gets the input.
     Feed {
         command: Command,
         input: Blob,
-        vars: Vars,
+        kept: Kept,
     },
     /// The program gets the input, and its output takes the place of that in the mail.
     Filter {
@@ -47,7 +47,7 @@ pub enum Errand {
     /// The piece is written to standard output.
     Write {
         piece: Blob,
-        vars: Vars,
+        kept: Kept,
     },
 }
 
@@ -65,11 +65,11 @@ pub fn errand_for(
     let input = fed_piece(alloc, task.flags, process)?;
     match task.purpose {
         Purpose::Delivers(folder) => {
-            let vars = remembering(alloc, folder, &process.vars)?;
+            let kept = remembering(alloc, folder, input.len() as u64, &process.vars)?;
             Ok(Errand::Feed {
                 command,
                 input,
-                vars,
+                kept,
             })
         }
         Purpose::Filters => Ok(Errand::Filter { command, input }),
@@ -90,17 +90,8 @@ pub fn write_errand(alloc: Global, flags: Flags, process: &Process) -> Result<Er
         IfOk result (λ errand. IsWork flags errand p.vars (written (piece_fed flags p))) }
 {
     let piece = fed_piece(alloc, flags, process)?;
-    let vars = remembering(alloc, b"|", &process.vars)?;
-    Ok(Errand::Write { piece, vars })
-}
-
-// The variables with LASTFOLDER as this destination.
-fn remembering(alloc: Global, folder: &[u8], vars: &Vars) -> Result<Vars, Memory>
-    ensures { IfOk result (λ copy. copy ≡ remembered folder.now vars.now) }
-{
-    let mut copy = vars.copy(alloc)?;
-    copy.set(b"LASTFOLDER", Blob::from_slice(alloc, folder)?)?;
-    Ok(copy)
+    let kept = remembering(alloc, b"|", piece.len() as u64, &process.vars)?;
+    Ok(Errand::Write { piece, kept })
 }
 
 // The parts of the mail that the flags h and b feed, as they are.
@@ -137,9 +128,9 @@ pub fn carry<D: Outside>(
         Errand::Feed {
             command,
             input,
-            vars,
+            kept,
         } => Ok(feed(
-            alloc, command, input, vars, flags, process, outside, journal,
+            alloc, command, input, kept, flags, process, outside, journal,
         )),
         Errand::Filter { command, input } => {
             filter(alloc, command, input, flags, process, outside, journal)
@@ -151,7 +142,7 @@ pub fn carry<D: Outside>(
         } => capture(
             alloc, command, input, name, flags, process, outside, journal,
         ),
-        Errand::Write { piece, vars } => Ok(write(piece, vars, process, outside, journal)),
+        Errand::Write { piece, kept } => Ok(write(piece, kept, process, outside, journal)),
     }
 }
 
@@ -159,7 +150,7 @@ fn feed<D: Outside>(
     alloc: Global,
     command: Command,
     input: Blob,
-    vars: Vars,
+    kept: Kept,
     flags: Flags,
     process: &mut Process,
     outside: &mut D,
@@ -167,7 +158,7 @@ fn feed<D: Outside>(
 ) -> Outcome
     requires keeping { Keeping journal.old process.old.locks.names }
     requires room { length process.old.locks.names + 1 ≤ journal.old.room }
-    ensures feeds { (folder : List ℕ) → vars ≡ remembered folder process.old.vars
+    ensures feeds { (folder : List ℕ) → kept ≡ remembered folder (length input) process.old.vars
         → Executes (fed_by flags folder command input (mind_of process.old)) (tried_of result (mind_of process.new))
         journal.old journal.new (D.told outside.old) (D.told outside.new) }
     ensures locks { process.new.locks ≡ process.old.locks }
@@ -179,37 +170,37 @@ fn feed<D: Outside>(
         Err(Memory) => unreachable!(),
     };
     let outcome = feed_outcome(flags, count, end);
-    keep(outcome, vars, process);
+    keep_if(outcome, kept, process);
     note_code(end, process);
     outcome
 }
 
 fn write<D: Outside>(
     piece: Blob,
-    vars: Vars,
+    kept: Kept,
     process: &mut Process,
     outside: &mut D,
     journal: &mut Journal,
 ) -> Outcome
     requires keeping { Keeping journal.old process.old.locks.names }
     requires room { length process.old.locks.names + 1 ≤ journal.old.room }
-    ensures writes { vars ≡ remembered (codes "|") process.old.vars
+    ensures writes { kept ≡ remembered (codes "|") (length piece) process.old.vars
         → Executes (written piece (mind_of process.old)) (tried_of result (mind_of process.new))
         journal.old journal.new (D.told outside.old) (D.told outside.new) }
     ensures locks { process.new.locks ≡ process.old.locks }
     ensures keeping { Keeping journal.new process.new.locks.names }
 {
     let outcome = write_outcome(outside.write_out(journal, piece));
-    keep(outcome, vars, process);
+    keep_if(outcome, kept, process);
     outcome
 }
 
 // Only where it was done the mail has a new destination.
-fn keep(outcome: Outcome, vars: Vars, process: &mut Process)
-    ensures mind { mind_of process.new ≡ kept_if outcome vars (mind_of process.old) }
+fn keep_if(outcome: Outcome, kept: Kept, process: &mut Process)
+    ensures mind { mind_of process.new ≡ kept_if outcome kept (mind_of process.old) }
     ensures locks { process.new.locks ≡ process.old.locks }
 {
     if is_fine(outcome) {
-        process.vars = vars;
+        keep(kept, process);
     }
 }

@@ -5,14 +5,16 @@ ghost use Rattle.std.specs.List.{list_any};
 ghost use Rattle.pm_journal.specs.Appending.{append_reply};
 ghost use Rattle.pm_journal.specs.Executed.{Carries};
 ghost use Rattle.pm_journal.specs.Held.{Keeping};
-ghost use Rattle.pm_meaning.specs.Delivering.{feed_of, folder_piece, file_all, to_file, in_plain, is_stored as is_stored_by};
+ghost use Rattle.pm_meaning.specs.Delivering.{feed_of, folder_piece, mailbox_piece, file_size as size_of_file};
+ghost use Rattle.pm_meaning.specs.Delivering.{file_all, to_file, in_plain, is_stored as is_stored_by};
 ghost use Rattle.pm_meaning.specs.Locks.{is_nothing as is_null_device};
 ghost use Rattle.pm_meaning.specs.Minds.{mind_of};
 ghost use Rattle.pm_meaning.specs.declared.process.Destination.{Destination as Asked};
-ghost use Rattle.pm_actions.specs.Copies.{copy_for, file_copy_for, folder_copy_for, remembered, filing_of, with_vars};
+ghost use Rattle.pm_actions.specs.Copies.{copy_for, file_copy_for, folder_copy_for, filing_of, with_kept};
 ghost use Rattle.pm_actions.specs.Copies.{file_copy as copy_filed, IsShown, AllShown};
 ghost use Rattle.pm_actions.specs.Filing.{is_folder_there, filed_by, mind_after, is_folder_copy, HasFound};
 
+use crate::kept::{Kept, keep, remembering};
 use crate::names::plain_prefix;
 use crate::placing::{FolderCopy, file_in_folder};
 use pm_acts::Outside;
@@ -22,18 +24,17 @@ use pm_journal::{FolderKind, Journal};
 use pm_meaning::{Destination, Filed, Process};
 use pm_message::{Feed, Kind, piece};
 use pm_recipe::Flags;
-use pm_vars::Vars;
 use std::alloc::Global;
 use std::collections::VecDeque;
 
-/// A file with all that is wanted for it: its name for the entry and for what comes where it isn't done, the piece, and the
-/// variables once it has the mail.
+/// A file with all that is wanted for it: its name for the entry and for what comes where it isn't done, the piece, and
+/// what the process remembers once it has the mail.
 #[derive(Drop)]
 pub struct FileCopy {
     name: Name,
     shown: Name,
     piece: Blob,
-    vars: Vars,
+    kept: Kept,
 }
 
 /// One destination with all that is wanted for it.
@@ -91,13 +92,33 @@ fn file_copy_of(
     let shown = name.copy(alloc)?;
     let feed = fed_parts(flags);
     let piece = piece(alloc, &process.message, feed, Kind::MailboxFile, flags.raw)?;
-    let vars = remembering(alloc, word, &process.vars)?;
+    let size = file_size(alloc, flags, &name, &piece, process)?;
+    let kept = remembering(alloc, word.as_str().as_bytes(), size, &process.vars)?;
     Ok(FileCopy {
         name,
         shown,
         piece,
-        vars,
+        kept,
     })
+}
+
+// How many bytes the file gets of which this is the piece: `/dev/null` gets those of no mailbox.
+fn file_size(
+    alloc: Global,
+    flags: Flags,
+    name: &Name,
+    piece: &Blob,
+    process: &Process,
+) -> Result<u64, Memory>
+    requires { piece.now ≡ mailbox_piece flags (mind_of process.now) }
+    ensures { IfOk result (λ size. size ≡ size_of_file name.now flags (mind_of process.now)) }
+{
+    if is_nothing(name) {
+        let own = own_piece(alloc, flags, process)?;
+        Ok(own.len() as u64)
+    } else {
+        Ok(piece.len() as u64)
+    }
 }
 
 fn folder_copy_of(
@@ -146,16 +167,6 @@ pub fn fed_parts(flags: Flags) -> Feed
     } else {
         Feed::Both
     }
-}
-
-// The variables with LASTFOLDER as this destination.
-fn remembering(alloc: Global, word: &Name, vars: &Vars) -> Result<Vars, Memory>
-    ensures { IfOk result (λ copy. copy ≡ remembered word.now vars.now) }
-{
-    let mut copy = vars.copy(alloc)?;
-    let folder = Blob::from_slice(alloc, word.as_str().as_bytes())?;
-    copy.set(b"LASTFOLDER", folder)?;
-    Ok(copy)
 }
 
 /// Delivers to each destination in order, up to one that doesn't get the mail. Memory can be wanting only where one of them
@@ -226,7 +237,7 @@ fn append_copy<D: Outside>(
     requires room { length process.old.locks.names + 3 ≤ journal.old.room }
     requires shown { copy.shown ≡ copy.name }
     ensures carries { let p = mind_of process.old in
-        Carries (to_file flags copy.name copy.piece (with_vars copy.vars p) p)
+        Carries (to_file flags copy.name copy.piece (with_kept copy.kept p) p)
         (λ filed. filing_of filed (mind_of process.new)) result
         journal.old journal.new (D.told outside.old) (D.told outside.new) }
     ensures locks { process.new.locks ≡ process.old.locks }
@@ -238,10 +249,10 @@ fn append_copy<D: Outside>(
         name,
         shown,
         piece,
-        vars,
+        kept,
     } = copy;
     if is_nothing(&name) {
-        process.vars = vars;
+        keep(kept, process);
         return Ok(Filed::Stored);
     }
     let end = outside.append(journal, name, piece);
@@ -249,7 +260,7 @@ fn append_copy<D: Outside>(
         return file_plain(alloc, flags, shown, process, outside, journal);
     }
     let filed = filed_of(end, shown);
-    remember(&filed, vars, process);
+    remember(&filed, kept, process);
     Ok(filed)
 }
 
@@ -289,16 +300,17 @@ fn file_plain<D: Outside>(
 }
 
 // Only a destination that has the mail is remembered.
-fn remember(filed: &Filed, vars: Vars, process: &mut Process)
-    ensures mind { mind_of process.new ≡ mind_after filed.now vars (mind_of process.old) }
+fn remember(filed: &Filed, kept: Kept, process: &mut Process)
+    ensures mind { mind_of process.new ≡ mind_after filed.now kept (mind_of process.old) }
     ensures locks { process.new.locks ≡ process.old.locks }
 {
     if let Filed::Stored = filed {
-        process.vars = vars;
+        keep(kept, process);
     }
 }
 
-fn is_nothing(name: &Name) -> bool
+/// Whether it is `/dev/null`, which takes everything and is no file.
+pub fn is_nothing(name: &Name) -> bool
     ensures { result ≡ is_null_device name.now }
 {
     name.as_str() == "/dev/null"

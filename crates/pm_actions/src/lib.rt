@@ -2,6 +2,7 @@
 //! programs or to standard output, with the log lines behind it.
 #![tactic(auto)]
 
+pub mod abstracts;
 pub mod appended;
 pub mod attempting;
 pub mod delivering;
@@ -11,6 +12,7 @@ pub mod expanding;
 pub mod filing;
 pub mod filtering;
 pub mod forwards;
+pub mod kept;
 pub mod lock_texts;
 pub mod locks;
 pub mod names;
@@ -22,8 +24,10 @@ pub mod programs;
 pub mod saying;
 pub mod skipping;
 pub mod tasks;
+pub mod telling;
 pub mod trying;
 
+pub use abstracts::{abstract_of, logs_last};
 pub use attempting::is_stuck;
 pub use delivering::{deliver_default, perform, refuse};
 pub use expanding::{Expansion, expand_text, first_word};
@@ -34,3 +38,4 @@ pub use programs::{
     code_of, command_line, expanded_line, needs_shell, note_code, program_line, shell_line,
 };
 pub use skipping::skip_value;
+pub use telling::tell;

@@ -15,7 +15,8 @@ ghost use Rattle.pm_subst.specs.Commands.{commands_in};
 ghost use Rattle.pm_actions.specs.Outputs.{ready_of, told};
 
 use crate::programs::{command_line, expanded_line, needs_shell, note_code, shell_line};
-use pm_acts::{Outside, run, say};
+use crate::telling::tell;
+use pm_acts::{Outside, run};
 use pm_bytes::{Blob, Memory};
 use pm_host::Command;
 use pm_journal::{
@@ -212,7 +213,7 @@ pub fn tell_run<D: Outside>(
 {
     match run_fault(alloc, end, line)? {
         None => Ok(()),
-        Some(text) => say(&process.locks, text, outside, journal),
+        Some(text) => tell(alloc, process, text, outside, journal),
     }
 }
 
@@ -244,7 +245,7 @@ fn tell_unusable<D: Outside>(
     ensures keeping { Keeping journal.new process.now.locks.names }
 {
     let line = unusable_name(alloc, text)?;
-    say(&process.locks, line, outside, journal)?;
+    tell(alloc, process, line, outside, journal)?;
     Ok(Blob::empty(alloc))
 }
 
@@ -265,7 +266,7 @@ fn tell_long<D: Outside>(
 {
     let line = value_too_long(alloc, length)?;
     let mark = Blob::from_slice(alloc, b"yes")?;
+    tell(alloc, process, line, outside, journal)?;
     process.vars.set(b"PROCMAIL_OVERFLOW", mark)?;
-    say(&process.locks, line, outside, journal)?;
     Ok(Blob::empty(alloc))
 }

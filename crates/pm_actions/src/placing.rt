@@ -13,7 +13,7 @@ ghost use Rattle.pm_actions.specs.Placing.{HasFile, placed_as};
 use pm_acts::{Filing, Outside};
 use pm_bytes::{Blob, Memory, Name};
 use pm_journal::{FolderEnd, FolderKind, Journal, Stamp};
-use pm_meaning::{Filed, Process};
+use pm_meaning::{Filed, Process, Stored};
 use std::alloc::Global;
 
 /// A folder with all that is wanted to file a piece there: its name for the entry and for the line where that fails, how
@@ -54,6 +54,7 @@ pub fn file_in_folder<D: Outside>(
         prefix,
         piece,
     } = copy;
+    let size = piece.len() as u64;
     let stamp = Stamp {
         moment: outside.moment(journal),
         pid: process.vars.marks().pid,
@@ -69,7 +70,7 @@ pub fn file_in_folder<D: Outside>(
     };
     let end = outside.place(alloc, journal, filing)?;
     process.placed = serial;
-    conclude(alloc, end, shown, process, journal)
+    conclude(alloc, end, shown, size, process, journal)
 }
 
 // The number of the next filing of the run. One that is too great for 64 bits would be want of memory.
@@ -82,22 +83,23 @@ fn next_serial(process: &Process) -> Result<u64, Memory>
     }
 }
 
-// What came of a filing that is the last entry. The name of its file is copied out of that entry.
+// What came of a filing of so many bytes that is the last entry. The name of its file is copied out of that entry.
 fn conclude(
     alloc: Global,
     end: FolderEnd,
     folder: Name,
+    size: u64,
     process: &mut Process,
     journal: &Journal,
 ) -> Result<Filed, Memory>
     requires file { HasFile end (file_of_last journal.now.entries) }
     ensures filed { IfOk result (λ filed. filing_of filed (mind_of process.new)
-        ≡ placed_as end (file_of_last journal.now.entries) folder (mind_of process.old)) }
+        ≡ placed_as end (file_of_last journal.now.entries) folder size (mind_of process.old)) }
     ensures locks { process.new.locks ≡ process.old.locks }
 {
     match end {
         FolderEnd::Placed => {
-            remember_file(alloc, process, journal)?;
+            remember_file(alloc, size, process, journal)?;
             Ok(Filed::Stored)
         }
         FolderEnd::Undone => Ok(Filed::Unwritten(folder)),
@@ -109,15 +111,24 @@ fn conclude(
     }
 }
 
-// LASTFOLDER is the file of the last entry.
-fn remember_file(alloc: Global, process: &mut Process, journal: &Journal) -> Result<(), Memory>
+// LASTFOLDER is the file of the last entry, which has so many bytes.
+fn remember_file(
+    alloc: Global,
+    size: u64,
+    process: &mut Process,
+    journal: &Journal,
+) -> Result<(), Memory>
     requires file { is_some (file_of_last journal.now.entries) ≡ true }
     ensures mind { IfOk result (λ _. mind_of process.new
-        ≡ stored_in (text_or [] (file_of_last journal.now.entries)) (mind_of process.old)) }
+        ≡ stored_in (text_or [] (file_of_last journal.now.entries)) size (mind_of process.old)) }
     ensures locks { process.new.locks ≡ process.old.locks }
 {
-    let name = Blob::from_slice(alloc, last_file(journal).as_str().as_bytes())?;
-    process.vars.set(b"LASTFOLDER", name)
+    let name = last_file(journal).as_str().as_bytes();
+    let folder = Blob::from_slice(alloc, name)?;
+    let value = Blob::from_slice(alloc, name)?;
+    process.vars.set(b"LASTFOLDER", value)?;
+    process.stored = Stored { folder, size };
+    Ok(())
 }
 
 fn last_file(journal: &Journal) -> &Name

@@ -7,7 +7,8 @@ ghost use Rattle.pm_meaning.specs.Delivering.{filed_lines, line_if, attempt_line
 ghost use Rattle.pm_meaning.specs.Minds.{mind_of};
 ghost use Rattle.pm_actions.specs.Turning.{turn_of};
 
-use pm_acts::{Outside, say};
+use crate::telling::tell;
+use pm_acts::Outside;
 use pm_bytes::{Blob, Memory, Name};
 use pm_journal::{
     Journal, bytes_left, couldnt_lock, couldnt_unlock, couldnt_write, forcing_lock, no_free_name,
@@ -96,6 +97,7 @@ pub fn push_stuck(
 
 /// Says each line, and answers with this end.
 pub fn say_each<D: Outside>(
+    alloc: Global,
     mut lines: VecDeque<Blob>,
     end: Option<End>,
     process: &Process,
@@ -109,7 +111,7 @@ pub fn say_each<D: Outside>(
     ensures keeping { Keeping journal.new process.now.locks.names }
 {
     while let Some(line) = lines.pop_front() {
-        say(&process.locks, line, outside, journal)?;
+        tell(alloc, process, line, outside, journal)?;
     }
     Ok(end)
 }

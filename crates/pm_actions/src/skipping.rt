@@ -1,5 +1,4 @@
 //! Values that are too long.
-ghost use Rattle.pm_acts.specs.Acts.{Says};
 ghost use Rattle.pm_journal.specs.Executed.{Carries};
 ghost use Rattle.pm_journal.specs.Held.{Keeping};
 ghost use Rattle.pm_journal.specs.LogText.{value_too_long_line};
@@ -8,7 +7,8 @@ ghost use Rattle.pm_meaning.specs.Minds.{mind_of};
 ghost use Rattle.pm_meaning.specs.Turns.{GoesOn, say_then};
 ghost use Rattle.pm_actions.specs.Turning.{turn_of};
 
-use pm_acts::{Outside, say};
+use crate::telling::tell;
+use pm_acts::Outside;
 use pm_bytes::{Blob, Memory};
 use pm_journal::{Journal, value_too_long};
 use pm_meaning::{End, Process};
@@ -31,7 +31,7 @@ pub fn skip_value<D: Outside>(
 {
     let line = value_too_long(alloc, length)?;
     let mark = Blob::from_slice(alloc, b"yes")?;
+    tell(alloc, process, line, outside, journal)?;
     process.vars.set(b"PROCMAIL_OVERFLOW", mark)?;
-    say(&process.locks, line, outside, journal)?;
     Ok(None)
 }

@@ -5,7 +5,8 @@ ghost use Rattle.pm_journal.specs.Executed.{Carries, LeadsTo, OutOfMemory};
 ghost use Rattle.pm_journal.specs.Held.{Keeping};
 ghost use Rattle.pm_journal.specs.Plan.{Plan};
 ghost use Rattle.pm_meaning.specs.Minds.{Mind, mind_of};
-ghost use Rattle.pm_meaning.specs.ProgramActions.{Tried, is_final as final_purpose, work_of, fed_piece as piece_fed};
+ghost use Rattle.pm_meaning.specs.ProgramActions.{Tried, is_final as final_purpose, is_delivery as purpose_delivers};
+ghost use Rattle.pm_meaning.specs.ProgramActions.{work_of, fed_piece as piece_fed};
 ghost use Rattle.pm_meaning.specs.ProgramActions.{do_line as line_done, do_named as done_named};
 ghost use Rattle.pm_meaning.specs.ProgramActions.{unusable_text as text_unusable};
 ghost use Rattle.pm_meaning.specs.ProgramActions.{told_first, try_and_say as tried_and_said};
@@ -15,6 +16,7 @@ ghost use Rattle.pm_actions.specs.Copies.{IsFreeLock};
 ghost use Rattle.pm_actions.specs.Errands.{task_of, purpose_of, IsWork, IsLockFile};
 ghost use Rattle.pm_actions.specs.Turning.{turn_of};
 
+use crate::abstracts::push_copy;
 use crate::delivering::refuse;
 use crate::errands::{Errand, errand_for};
 use crate::lock_texts::lacks_lock;
@@ -22,8 +24,9 @@ use crate::locks::{blamed_text, full_lock, is_taken, lock_name};
 use crate::outcomes::trial_lines;
 use crate::saying::say_each;
 use crate::skipping::skip_value;
-use crate::trying::{end_of, let_go, settle, try_under};
-use pm_acts::{Outside, say};
+use crate::telling::tell;
+use crate::trying::{end_of, is_fine_trial, let_go, settle, try_under};
+use pm_acts::Outside;
 use pm_bytes::{Blob, Memory, Name, NameRefused};
 use pm_journal::{Journal, no_lock};
 use pm_meaning::{End, Process, ProgramLine};
@@ -58,6 +61,13 @@ pub fn is_final(task: &Task<'_>) -> bool
         Purpose::Delivers(_) => !task.flags.copy,
         Purpose::Filters | Purpose::Captures(_) => false,
     }
+}
+
+// Whether the task delivers the mail.
+fn is_delivery(task: &Task<'_>) -> bool
+    ensures { result ≡ purpose_delivers (purpose_of task.now.purpose) }
+{
+    matches!(task.purpose, Purpose::Delivers(_))
 }
 
 /// A lock file that can be taken, if one is asked for, or that can't be used.
@@ -225,7 +235,7 @@ fn tell_first<D: Outside>(
         return Ok(());
     }
     let line = no_lock(alloc, task.text)?;
-    say(&process.locks, line, outside, journal)
+    tell(alloc, process, line, outside, journal)
 }
 
 // Does the errand, and tells what came of it.
@@ -249,6 +259,8 @@ fn try_and_say<D: Outside>(
     let trial = try_under(alloc, lock, errand, task.flags, process, outside, journal)?;
     settle(&trial, process);
     let end = end_of(is_final(task), &trial);
-    let lines = trial_lines(alloc, task.flags, task.text, &trial)?;
-    say_each(lines, end, process, outside, journal)
+    let mut lines = trial_lines(alloc, task.flags, task.text, &trial)?;
+    let delivered = is_delivery(task) && is_fine_trial(&trial);
+    push_copy(alloc, delivered, task.flags, process, &mut lines)?;
+    say_each(alloc, lines, end, process, outside, journal)
 }

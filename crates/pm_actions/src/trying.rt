@@ -146,8 +146,8 @@ fn try_locked<D: Outside>(
 /// The errand isn't done.
 pub fn let_go(_errand: Errand) {}
 
-// Whether the errand was done.
-fn is_fine_trial(trial: &Trial) -> bool
+/// Whether the errand was done.
+pub fn is_fine_trial(trial: &Trial) -> bool
     ensures { result ≡ trial_was_done trial.now }
 {
     match trial {

@@ -2,7 +2,7 @@ use Rattle.std.proofs.Common.{Some, [], ◌∷◌, refl, rules}
 use Rattle.pm_journal.proofs.WantsMemory.{on_err, out_anywhere}
 use Rattle.pm_meaning.specs.Delivering.{deliver_to}
 use Rattle.pm_meaning.specs.Minds.{mind_of}
-use Rattle.pm_meaning.specs.Running.{deliver_default}
+use Rattle.pm_meaning.specs.Delivering.{deliver_default}
 use Rattle.pm_actions.proofs.DeliverLemmas.{carried, default_is}
 use Rattle.pm_actions.proofs.delivering.deliver_default.Goals as goal
 

@@ -1,10 +1,9 @@
-use Rattle.std.proofs.Common.{◌∙◌}
 use Rattle.pm_recipe.specs.View.{act_of}
 use Rattle.pm_meaning.specs.Acting.{act_on}
 use Rattle.pm_meaning.specs.ProgramActions.{write_out}
 use Rattle.pm_meaning.specs.Minds.{mind_of}
 use Rattle.pm_actions.specs.Names.{top_of}
-use Rattle.pm_actions.proofs.DeliverLemmas.{carried, ends_unbuilt, acts_block, stores, pipes, captures, forwards, writes_out}
+use Rattle.pm_actions.proofs.DeliverLemmas.{carried, goes_on, acts_block, stores, pipes, captures, forwards, writes_out}
 use Rattle.pm_actions.proofs.delivering.perform.Goals as goal
 
 pub returns-in-Mailbox-clause-carries : goal.returns-in-Mailbox-clause-carries
@@ -52,4 +51,4 @@ returns-in-WriteOut-clause-carries g c =
 pub returns-in-Block : goal.returns-in-Block
 returns-in-Block g c =
     let p = mind_of c.args.process.now in
-    record { carries = (ends_unbuilt p _ _ _ (acts_block (top_of c.args.recipe.now) c.args.recipe.now.action _ p c.in-Block.is), tt); keeping = c.requires.keeping }
+    record { carries = (goes_on p _ _ _ (acts_block (top_of c.args.recipe.now) c.args.recipe.now.action _ p c.in-Block.is), tt); keeping = c.requires.keeping }

@@ -7,10 +7,10 @@ use Rattle.pm_actions.proofs.errands.feed.Goals as goal
 
 pub returns-clause-feeds : goal.returns-clause-feeds
 returns-clause-feeds g c =
-    λ folder is. was_fed c.args.flags folder c.args.command c.args.input _ c.args.vars c.in-Ok.end _ (mind_of c.args.process.now) (mind_of c.keep.new.process) (mind_of c.note_code.new.process) c.args.journal.now c.run.new.journal _ _
-    c.len-count.ensures is c.in-Ok.ensures.ok c.feed_outcome-outcome.ensures c.keep.ensures.mind c.note_code.ensures.mind
+    λ folder is. was_fed c.args.flags folder c.args.command c.args.input _ c.args.kept c.in-Ok.end _ (mind_of c.args.process.now) (mind_of c.keep_if.new.process) (mind_of c.note_code.new.process) c.args.journal.now c.run.new.journal _ _
+    c.len-count.ensures is c.in-Ok.ensures.ok c.feed_outcome-outcome.ensures c.keep_if.ensures.mind c.note_code.ensures.mind
 
 pub returns-clause-keeping : goal.returns-clause-keeping
 returns-clause-keeping g c =
-    subst (λ l. Keeping c.run.new.journal l.names) (sym (c.note_code.ensures.locks ∙ c.keep.ensures.locks))
+    subst (λ l. Keeping c.run.new.journal l.names) (sym (c.note_code.ensures.locks ∙ c.keep_if.ensures.locks))
     (keeping_plain _ _ c.args.journal.now c.args.journal.now c.run.new.journal _ _ _ tt c.requires.keeping refl c.requires.room c.in-Ok.ensures.ok.notes)

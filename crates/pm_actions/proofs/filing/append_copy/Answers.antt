@@ -1,10 +1,10 @@
-use Rattle.std.proofs.Common.{refl, rules, sym, ap, ◌∙◌, subst, arith}
+use Rattle.std.proofs.Common.{refl, sym, ap, ◌∙◌, subst, arith}
 use Rattle.pm_journal.proofs.KeepingActs.{keeping_plain}
 use Rattle.pm_journal.specs.Held.{Keeping}
 use Rattle.pm_meaning.specs.Minds.{mind_of}
-use Rattle.pm_actions.specs.Copies.{filing_of, with_vars}
+use Rattle.pm_actions.specs.Copies.{filing_of, with_kept}
 use Rattle.pm_actions.proofs.Choices.{ok_map, err_map}
-use Rattle.pm_actions.proofs.FileLemmas.{taken_by_nothing, appended, appended_plain, appended_plain_out}
+use Rattle.pm_actions.proofs.FileLemmas.{taken_by_nothing, appended_plain, appended_plain_out}
 use Rattle.pm_actions.specs.Filing.{is_folder_there}
 use Rattle.pm_actions.proofs.FoundLemmas.{found_first}
 use Rattle.pm_actions.proofs.filing.append_copy.Goals as goal
@@ -12,7 +12,10 @@ use Rattle.pm_actions.proofs.filing.append_copy.Goals as goal
 pub returns-then-is_nothing-clause-carries : goal.returns-then-is_nothing-clause-carries
 returns-then-is_nothing-clause-carries g c =
     let p = mind_of c.args.process.now in
-    (taken_by_nothing c.args.flags c.args.copy.name c.args.copy.piece (with_vars c.args.copy.vars p) p _ _ (sym c.is_nothing.ensures ∙ c.if-is_nothing.true), tt)
+    (taken_by_nothing c.args.flags c.args.copy.name c.args.copy.piece (with_kept c.args.copy.kept p) p _ _ _ (sym c.is_nothing.ensures ∙ c.if-is_nothing.true) c.keep.ensures.mind, tt)
+
+pub returns-then-is_nothing-clause-keeping : goal.returns-then-is_nothing-clause-keeping
+returns-then-is_nothing-clause-keeping g c = subst (λ l. Keeping c.args.journal.now l.names) (sym c.keep.ensures.locks) c.requires.keeping
 
 pub file_plain-requires-clause-keeping : goal.file_plain-requires-clause-keeping
 file_plain-requires-clause-keeping g c =
@@ -22,7 +25,7 @@ pub returns-then-is_folder-clause-carries : goal.returns-then-is_folder-clause-c
 returns-then-is_folder-clause-carries g c =
     let p = mind_of c.args.process.now in
     let q = mind_of c.file_plain.new.process in
-    let stored = with_vars c.args.copy.vars p in
+    let stored = with_kept c.args.copy.kept p in
     let some = sym c.is_nothing.ensures ∙ c.if-is_nothing.false in
     let there = sym c.is_folder.ensures ∙ c.if-is_folder.true in (
       ok_map c.file_plain.result _ _ (λ filed h. appended_plain c.args.flags c.args.copy.name c.args.copy.piece c.args.copy.shown stored p _ (filing_of filed q) c.args.journal.now c.append-end.new.journal c.file_plain.new.journal _ _ _ some c.requires.shown there c.append-end.ensures h) c.file_plain.ensures.carries.0,

@@ -1,4 +1,4 @@
-use Rattle.std.proofs.Common.{◌≡◌, rules, refl, sym, ap, ◌∙◌, subst, w64}
+use Rattle.std.proofs.Common.{◌≡◌, rules, refl, sym, ap, subst, w64}
 use Rattle.std.proofs.Math.Facts.{to_z-of_z}
 use Rattle.pm_journal.specs.Held.{Keeping}
 use Rattle.pm_journal.proofs.WantsMemory.{on_err, out_anywhere}
@@ -35,8 +35,8 @@ returns-clause-carries g c =
     let stamp = stamped p _ c.moment.result c.marks.result.now.pid c.in_ok-serial.serial c.in_ok-host_name.host_name moment (ap (λ (m : Marks). m.pid) c.marks.ensures) c.in_ok-serial.ensures c.in_ok-host_name.ensures in
     let counts = ap (λ n. record p { placed = n }) c.in_ok-serial.ensures in
     let same : c.args.copy.shown ≡ c.args.copy.folder = c.requires.shown in (
-      ok_map c.conclude.result _ _ (λ filed is. filed_in (filing_for c.args.copy.kind c.args.copy.folder c.args.copy.prefix c.args.copy.piece _ c.marks.result.now.pid c.in_ok-serial.serial c.in_ok-host_name.host_name) c.args.copy.shown p (mind_of c.conclude.new.process) (record p { placed = c.in_ok-serial.serial }) c.moment.result c.in_ok-end.end filed
-          c.args.journal.now c.moment.new.journal c.place.new.journal _ _ _ same stamp counts c.moment.ensures c.in_ok-end.ensures.ok is) c.conclude.ensures.filed,
+      ok_map c.conclude.result _ _ (λ filed is. filed_in (filing_for c.args.copy.kind c.args.copy.folder c.args.copy.prefix c.args.copy.piece _ c.marks.result.now.pid c.in_ok-serial.serial c.in_ok-host_name.host_name) c.args.copy.shown _ p (mind_of c.conclude.new.process) (record p { placed = c.in_ok-serial.serial }) c.moment.result c.in_ok-end.end filed
+          c.args.journal.now c.moment.new.journal c.place.new.journal _ _ _ same c.len-size.ensures stamp counts c.moment.ensures c.in_ok-end.ensures.ok is) c.conclude.ensures.filed,
       on_err _ _ (filed_then_out (filing_for c.args.copy.kind c.args.copy.folder c.args.copy.prefix c.args.copy.piece _ c.marks.result.now.pid c.in_ok-serial.serial c.in_ok-host_name.host_name) p c.moment.result c.in_ok-end.end c.args.journal.now c.moment.new.journal c.place.new.journal _ _ _ stamp c.moment.ensures c.in_ok-end.ensures.ok),
     )
 

@@ -9,17 +9,17 @@ use Rattle.pm_actions.proofs.saying.say_each.Goals as goal
 pub loop-line-init : goal.loop-line-init
 loop-line-init g c = record { leads = leads_itself _ _ _; keeping = c.requires.keeping }
 
-pub returns-in_err-say-clause-carries : goal.returns-in_err-say-clause-carries
-returns-in_err-say-clause-carries g c =
+pub returns-in_err-tell-clause-carries : goal.returns-in_err-tell-clause-carries
+returns-in_err-tell-clause-carries g c =
     let p = mind_of c.args.process.now in
-    (search rules, on_err _ _ (line_wants _ p c.loop-line.lines.items c.pop_front.new.self.items c.in-Some.line (turn_of c.args.end p) _ _ _ _ _ _ c.loop-line.invariant.leads c.in-Some.ensures.items c.in_err-say.ensures.memory))
+    (search rules, on_err _ _ (line_wants _ p c.loop-line.lines.items c.pop_front.new.self.items c.in-Some.line (turn_of c.args.end p) _ _ _ _ _ _ c.loop-line.invariant.leads c.in-Some.ensures.items c.in_err-tell.ensures.carries.1))
 
 pub loop-line-preserved : goal.loop-line-preserved
 loop-line-preserved g c =
     let p = mind_of c.args.process.now in
     record {
-      leads = line_on _ p c.loop-line.lines.items c.pop_front.new.self.items c.in-Some.line (turn_of c.args.end p) _ _ _ _ _ _ c.loop-line.invariant.leads c.in-Some.ensures.items c.in_ok-say.ensures.ok;
-      keeping = c.say.ensures.keeping;
+      leads = line_on _ p c.loop-line.lines.items c.pop_front.new.self.items c.in-Some.line (turn_of c.args.end p) _ _ _ _ _ _ c.loop-line.invariant.leads c.in-Some.ensures.items c.in_ok-tell.ensures.carries.0;
+      keeping = c.tell.ensures.keeping;
     }
 
 pub returns-clause-carries : goal.returns-clause-carries

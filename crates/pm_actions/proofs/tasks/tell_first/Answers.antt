@@ -14,8 +14,8 @@ returns-in_err-line-clause-memory g c = λ next. on_err _ _ (out_anywhere _ _ _ 
 
 pub returns-clause-told : goal.returns-clause-told
 returns-clause-told g c =
-    λ next. ok_map _ _ _ (λ u h. was_told (task_of c.args.task.now) (mind_of c.args.process.now) next c.in_ok-line.line _ _ _ _ (sym c.lacks_lock.ensures ∙ c.if-not-lacks_lock.false) c.in_ok-line.ensures h) c.say.ensures.ok
+    λ next. ok_map _ _ _ (λ u h. was_told (task_of c.args.task.now) (mind_of c.args.process.now) next c.in_ok-line.line _ _ _ _ (sym c.lacks_lock.ensures ∙ c.if-not-lacks_lock.false) c.in_ok-line.ensures h) c.tell.ensures.carries.0
 
 pub returns-clause-memory : goal.returns-clause-memory
 returns-clause-memory g c =
-    λ next. err_map _ _ _ (λ h. wasnt_told (task_of c.args.task.now) (mind_of c.args.process.now) next c.in_ok-line.line _ _ _ _ (sym c.lacks_lock.ensures ∙ c.if-not-lacks_lock.false) c.in_ok-line.ensures h) c.say.ensures.memory
+    λ next. err_map _ _ _ (λ h. wasnt_told (task_of c.args.task.now) (mind_of c.args.process.now) next c.in_ok-line.line _ _ _ _ (sym c.lacks_lock.ensures ∙ c.if-not-lacks_lock.false) c.in_ok-line.ensures h) c.tell.ensures.carries.1

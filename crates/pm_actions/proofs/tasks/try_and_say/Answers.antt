@@ -21,6 +21,12 @@ returns-in_err-lines-clause-carries g c =
     let done = trying_of c.in_ok-trial.trial (mind_of c.try_under.new.process) in
     λ work is. (search rules, on_err _ _ (trial_then_out (task_of c.args.task.now) c.args.lock work p done _ c.try_under.new.journal _ _ _ _ (c.in_ok-trial.ensures.carries work is).0 (out_anywhere _ _ _ _ refl)))
 
+pub returns-in_err-push_copy-clause-carries : goal.returns-in_err-push_copy-clause-carries
+returns-in_err-push_copy-clause-carries g c =
+    let p = mind_of c.args.process.now in
+    let done = trying_of c.in_ok-trial.trial (mind_of c.try_under.new.process) in
+    λ work is. (search rules, on_err _ _ (trial_then_out (task_of c.args.task.now) c.args.lock work p done _ c.try_under.new.journal _ _ _ _ (c.in_ok-trial.ensures.carries work is).0 (out_anywhere _ _ _ _ refl)))
+
 pub returns-clause-carries : goal.returns-clause-carries
 returns-clause-carries g c =
     let t = task_of c.args.task.now in
@@ -29,7 +35,7 @@ returns-clause-carries g c =
     let q = mind_of c.settle.new.process in
     let done = trying_of c.in_ok-trial.trial m in
     let said =
-    carried (say_each q c.in_ok-lines.lines.items (turn_of c.end_of-end.result q)) (after_trial t done) _ _ _ _ _ _ (said_after_trial t _ c.in_ok-trial.trial m q _ _ c.is_final.ensures c.in_ok-lines.ensures c.settle.ensures.mind (c.end_of-end.ensures q)) c.say_each.ensures.carries in
+    carried (say_each q c.push_copy.new.lines.items (turn_of c.end_of-end.result q)) (after_trial t done) _ _ _ _ _ _ (said_after_trial t _ c.in_ok-trial.trial m q c.in_ok-lines.lines.items _ _ _ c.is_final.ensures c.in_ok-push_copy.ensures c.in_ok-lines.ensures (search rules) c.settle.ensures.mind (c.end_of-end.ensures q)) c.say_each.ensures.carries in
     λ work is. (
       ok_map _ _ _ (λ end h. trial_then t c.args.lock work p done (turn_of end q) c.args.journal.now c.try_under.new.journal c.say_each.new.journal _ _ _ (c.in_ok-trial.ensures.carries work is).0 h) said.0,
       err_map _ _ _ (λ h. trial_then_out t c.args.lock work p done c.args.journal.now c.try_under.new.journal c.say_each.new.journal _ _ _ (c.in_ok-trial.ensures.carries work is).0 h) said.1,
