@@ -7,7 +7,7 @@ use Rattle.pm_host.specs.declared.answers.Looked.TheVariants.{File as LookedFile
 use Rattle.pm_journal.specs.JournalState.{JournalState}
 use Rattle.pm_journal.specs.Entries.{View}
 use Rattle.pm_journal.specs.LogText.{couldnt_chdir_line, unusable_name_line, host_mismatched_line}
-use Rattle.pm_journal.specs.declared.acts.Act.TheVariants.{Probe, SayErr}
+use Rattle.pm_journal.specs.declared.acts.Act.TheVariants.{Probe}
 use Rattle.pm_journal.specs.declared.acts.Reply.TheVariants.{Found}
 use Rattle.pm_subst.specs.Commands.{commands_in}
 use Rattle.pm_subst.specs.declared.kinds.Mode.TheVariants.{One}
@@ -15,15 +15,15 @@ use Rattle.pm_journal.specs.Plan.{Plan, Ends, and_then, ask}
 use Rattle.pm_journal.specs.Executed.{Executes, OutOfMemory}
 use Rattle.pm_meaning.specs.Changes.{with_variable, without_variable, with_base}
 use Rattle.pm_meaning.specs.Outputs.{Outputs, outputs_of}
-use Rattle.pm_meaning.specs.Turns.{Turn, GoesOn, Halts, EndsFile, say_then, refuse_name, not_built, is_too_long, skip_value}
-use Rattle.pm_meaning.specs.Assigning.{is_later, value_in, probed, change_folder, include_rcfile, switch_rcfile, change_host, change_rcfile, assigned, assign_with, assign, unset}
+use Rattle.pm_meaning.specs.Turns.{Turn, GoesOn, Halts, EndsFile, say_then, refuse_name, is_too_long, skip_value}
+use Rattle.pm_meaning.specs.Assigning.{value_in, probed, change_folder, include_rcfile, switch_rcfile, change_host, shift_arguments, change_rcfile, change_other, assigned, assign_with, assign, unset}
 use Rattle.pm_meaning.specs.GlobalLock.{drop_lock, change_lock}
 use Rattle.pm_meaning.specs.Texts.{is_empty, is_file_text}
+use Rattle.pm_meaning.specs.Logging.{log, logged}
 use Rattle.pm_meaning.specs.Minds.{Mind}
-use Rattle.pm_meaning.specs.declared.process.End.TheVariants.{HostOff, NotBuilt}
+use Rattle.pm_meaning.specs.declared.process.End.TheVariants.{HostOff}
 use Rattle.pm_journal.proofs.ActPlans.{executes_then}
 use Rattle.pm_journal.proofs.WantsMemory.{executes_nothing, out_then, out_anywhere}
-use Rattle.pm_acts.specs.Acts.{Says}
 use Rattle.pm_actions.specs.Names.{file_name_of}
 use Rattle.pm_actions.proofs.DeliverLemmas.{if_yes, if_no}
 use Rattle.pm_actions.proofs.Choices.{choose_then, choose_else, then_out, else_out, line_told, line_out}
@@ -43,13 +43,13 @@ folder_found name folder p looked x y a b is same h =
     (subst (λ n. Executes (Ends (GoesOn (with_base n p))) (GoesOn (with_base folder p)) y y b b) same (executes_nothing (GoesOn (with_base folder p)) y y b refl)))
 
 pub folder_missed : (name folder line : List ℕ) (p : Mind) (looked : Looked) (x y z : JournalState) (a b c : View) → looked ≢ Folder → folder ≡ name → line ≡ couldnt_chdir_line folder
-    → Executes (ask (Probe name)) (Found looked) x y a b → Says line y z b c → Executes (and_then (ask (Probe name)) (probed name p)) (GoesOn p) x z a c
+    → Executes (ask (Probe name)) (Found looked) x y a b → Executes (log line p) logged y z b c → Executes (and_then (ask (Probe name)) (probed name p)) (GoesOn p) x z a c
 folder_missed name folder line p looked x y z a b c other same is h k =
     executes_then (ask (Probe name)) (probed name p) (Found looked) (GoesOn p) x y z a b c h
     (subst (λ q. Executes q (GoesOn p) y z b c) (probed_other name p looked other) (line_told p (couldnt_chdir_line name) line (GoesOn p) y z b c (is ∙ ap couldnt_chdir_line same) k))
 
 pub folder_untold : (name folder line : List ℕ) (p : Mind) (looked : Looked) (x y z : JournalState) (a b c : View) → looked ≢ Folder → folder ≡ name → line ≡ couldnt_chdir_line folder
-    → Executes (ask (Probe name)) (Found looked) x y a b → OutOfMemory (ask (SayErr line)) y z b c → OutOfMemory (and_then (ask (Probe name)) (probed name p)) x z a c
+    → Executes (ask (Probe name)) (Found looked) x y a b → OutOfMemory (log line p) y z b c → OutOfMemory (and_then (ask (Probe name)) (probed name p)) x z a c
 folder_untold name folder line p looked x y z a b c other same is h k =
     out_then (ask (Probe name)) (probed name p) (Found looked) x y z a b c h
     (subst (λ q. OutOfMemory q y z b c) (probed_other name p looked other) (line_out p (couldnt_chdir_line name) line (GoesOn p) y z b c (is ∙ ap couldnt_chdir_line same) k))
@@ -87,13 +87,13 @@ changed_out value name full p x y a b found is h =
     then_out (is_file_text value) (and_then (ask (Probe (full_name p.base value))) (probed (full_name p.base value) p)) (say_then p (unusable_name_line value) (GoesOn p)) x y a b u.0
     (subst (λ n. OutOfMemory (and_then (ask (Probe n)) (probed n p)) x y a b) (is ∙ ap (full_name p.base) u.1) h)
 
-pub unusable_told : (value line : List ℕ) (p : Mind) (x y : JournalState) (a b : View) → None ≡ file_name_of value → line ≡ unusable_name_line value → Says line x y a b
+pub unusable_told : (value line : List ℕ) (p : Mind) (x y : JournalState) (a b : View) → None ≡ file_name_of value → line ≡ unusable_name_line value → Executes (log line p) logged x y a b
     → Executes (change_folder value p) (GoesOn p) x y a b
 unusable_told value line p x y a b none is h =
     choose_else (is_file_text value) (and_then (ask (Probe (full_name p.base value))) (probed (full_name p.base value) p)) (say_then p (unusable_name_line value) (GoesOn p)) (GoesOn p) x y a b (unusable_then value none)
     (line_told p (unusable_name_line value) line (GoesOn p) x y a b is h)
 
-pub unusable_out : (value line : List ℕ) (p : Mind) (x y : JournalState) (a b : View) → None ≡ file_name_of value → line ≡ unusable_name_line value → OutOfMemory (ask (SayErr line)) x y a b
+pub unusable_out : (value line : List ℕ) (p : Mind) (x y : JournalState) (a b : View) → None ≡ file_name_of value → line ≡ unusable_name_line value → OutOfMemory (log line p) x y a b
     → OutOfMemory (change_folder value p) x y a b
 unusable_out value line p x y a b none is h =
     else_out (is_file_text value) (and_then (ask (Probe (full_name p.base value))) (probed (full_name p.base value) p)) (say_then p (unusable_name_line value) (GoesOn p)) x y a b (unusable_then value none)
@@ -105,7 +105,7 @@ ended r plan x s e = subst (λ q. Executes q r x x s s) e (executes_nothing r x 
 
 -- what an assignment does once its variable is set
 abbrev lock_effect : List ℕ → List ℕ → Mind → Plan Turn
-lock_effect name value q = if bytes_eq name (codes "LOCKFILE") then change_lock value q else change_rcfile name value q
+lock_effect name value q = if bytes_eq name (codes "LOCKFILE") then change_lock value q else change_other name value q
 
 -- that of MAILDIR, that of LOCKFILE, and another
 pub folder_changed : (name value copy : List ℕ) (p q : Mind) → bytes_eq name (codes "MAILDIR") ≡ true → copy ≡ value → q ≡ with_variable name value p → change_folder copy q ≡ assigned name value p
@@ -117,15 +117,33 @@ pub lock_changed : (name value copy : List ℕ) (p q : Mind) → bytes_eq name (
     → q ≡ with_variable name value p → change_lock copy q ≡ assigned name value p
 lock_changed name value copy p q other lock same is =
     ap (λ v. change_lock v q) same ∙ (ap (change_lock value) is
-    ∙ (if_yes (bytes_eq name (codes "LOCKFILE")) (change_lock value (with_variable name value p)) (change_rcfile name value (with_variable name value p)) lock
+    ∙ (if_yes (bytes_eq name (codes "LOCKFILE")) (change_lock value (with_variable name value p)) (change_other name value (with_variable name value p)) lock
     ∙ if_no (bytes_eq name (codes "MAILDIR")) (change_folder value (with_variable name value p)) (lock_effect name value (with_variable name value p)) other))
 
 pub set_otherwise : (name value copy : List ℕ) (p q : Mind) → bytes_eq name (codes "MAILDIR") ≡ false → bytes_eq name (codes "LOCKFILE") ≡ false → copy ≡ value
-    → q ≡ with_variable name value p → change_rcfile name copy q ≡ assigned name value p
+    → q ≡ with_variable name value p → change_other name copy q ≡ assigned name value p
 set_otherwise name value copy p q other plain same is =
-    ap (λ v. change_rcfile name v q) same ∙ (ap (change_rcfile name value) is
-    ∙ (if_no (bytes_eq name (codes "LOCKFILE")) (change_lock value (with_variable name value p)) (change_rcfile name value (with_variable name value p)) plain
+    ap (λ v. change_other name v q) same ∙ (ap (change_other name value) is
+    ∙ (if_no (bytes_eq name (codes "LOCKFILE")) (change_lock value (with_variable name value p)) (change_other name value (with_variable name value p)) plain
     ∙ if_no (bytes_eq name (codes "MAILDIR")) (change_folder value (with_variable name value p)) (lock_effect name value (with_variable name value p)) other))
+
+-- LOG, SHIFT, and another
+abbrev shift_effect : List ℕ → List ℕ → Mind → Plan Turn
+shift_effect name value p = if bytes_eq name (codes "SHIFT") then Ends (GoesOn (shift_arguments value p)) else change_rcfile name value p
+
+pub logging : (name value : List ℕ) (p : Mind) → bytes_eq name (codes "LOG") ≡ true → say_then p value (GoesOn p) ≡ change_other name value p
+logging name value p e = if_yes (bytes_eq name (codes "LOG")) (say_then p value (GoesOn p)) (shift_effect name value p) e
+
+pub shifting : (name value : List ℕ) (p q : Mind) → bytes_eq name (codes "LOG") ≡ false → bytes_eq name (codes "SHIFT") ≡ true → q ≡ shift_arguments value p → Ends (GoesOn q) ≡ change_other name value p
+shifting name value p q other e is =
+    ap (λ m. Ends (GoesOn m)) is
+    ∙ (if_yes (bytes_eq name (codes "SHIFT")) (Ends (GoesOn (shift_arguments value p))) (change_rcfile name value p) e
+    ∙ if_no (bytes_eq name (codes "LOG")) (say_then p value (GoesOn p)) (shift_effect name value p) other)
+
+pub neither : (name value : List ℕ) (p : Mind) → bytes_eq name (codes "LOG") ≡ false → bytes_eq name (codes "SHIFT") ≡ false → change_rcfile name value p ≡ change_other name value p
+neither name value p other e =
+    if_no (bytes_eq name (codes "SHIFT")) (Ends (GoesOn (shift_arguments value p))) (change_rcfile name value p) e
+    ∙ if_no (bytes_eq name (codes "LOG")) (say_then p value (GoesOn p)) (shift_effect name value p) other
 
 -- INCLUDERC, SWITCHRC, HOST, and a plain variable
 abbrev host_effect : List ℕ → List ℕ → Mind → Plan Turn
@@ -156,12 +174,12 @@ set_plainly name value p other last e = if_no (bytes_eq name (codes "HOST")) (ch
 pub host_same : (value : List ℕ) (p : Mind) (x : JournalState) (s : View) → bytes_eq value p.host_name ≡ true → Executes (change_host value p) (GoesOn p) x x s s
 host_same value p x s e = choose_then (bytes_eq value p.host_name) (Ends (GoesOn p)) (say_then p (host_mismatched_line value) (Halts HostOff p)) (GoesOn p) x x s s e (executes_nothing (GoesOn p) x x s refl)
 
-pub host_told : (value line : List ℕ) (p : Mind) (x y : JournalState) (a b : View) → bytes_eq value p.host_name ≡ false → line ≡ host_mismatched_line value → Says line x y a b → Executes (change_host value p) (Halts HostOff p) x y a b
+pub host_told : (value line : List ℕ) (p : Mind) (x y : JournalState) (a b : View) → bytes_eq value p.host_name ≡ false → line ≡ host_mismatched_line value → Executes (log line p) logged x y a b → Executes (change_host value p) (Halts HostOff p) x y a b
 host_told value line p x y a b e is h =
     choose_else (bytes_eq value p.host_name) (Ends (GoesOn p)) (say_then p (host_mismatched_line value) (Halts HostOff p)) (Halts HostOff p) x y a b e
     (line_told p (host_mismatched_line value) line (Halts HostOff p) x y a b is h)
 
-pub host_out : (value line : List ℕ) (p : Mind) (x y : JournalState) (a b : View) → bytes_eq value p.host_name ≡ false → line ≡ host_mismatched_line value → OutOfMemory (ask (SayErr line)) x y a b → OutOfMemory (change_host value p) x y a b
+pub host_out : (value line : List ℕ) (p : Mind) (x y : JournalState) (a b : View) → bytes_eq value p.host_name ≡ false → line ≡ host_mismatched_line value → OutOfMemory (log line p) x y a b → OutOfMemory (change_host value p) x y a b
 host_out value line p x y a b e is h =
     else_out (bytes_eq value p.host_name) (Ends (GoesOn p)) (say_then p (host_mismatched_line value) (Halts HostOff p)) x y a b e
     (line_out p (host_mismatched_line value) line (Halts HostOff p) x y a b is h)
@@ -204,16 +222,9 @@ unset_plainly name p q other plain is =
     ∙ (if_no (bytes_eq name (codes "LOCKFILE")) (drop_lock (without_variable name p)) (Ends (GoesOn (without_variable name p))) plain
     ∙ if_no (bytes_eq name (codes "SWITCHRC")) (Ends (EndsFile (without_variable name p))) (after_unsetting name (without_variable name p)) other)
 
--- the commands of the value come first, unless the assignment isn't built yet
+-- the commands of the value come first
 abbrev pub given : List ℕ → List ℕ → Outputs → Plan Turn
 given name text = λ ran. assign_with name text ran.outputs ran.mind
-
-pub assignment_waits : (name text : List ℕ) (p : Mind) (x : JournalState) (s : View) → is_later name ≡ true → Executes (assign name text p) (Halts NotBuilt p) x x s s
-assignment_waits name text p x s e =
-    choose_then (is_later name) (not_built p) (and_then (outputs_of (commands_in One text) p) (given name text)) (Halts NotBuilt p) x x s s e (executes_nothing (Halts NotBuilt p) x x s refl)
-
-pub commands_first : (name text : List ℕ) (p : Mind) → is_later name ≡ false → and_then (outputs_of (commands_in One text) p) (given name text) ≡ assign name text p
-commands_first name text p e = if_no (is_later name) (not_built p) (and_then (outputs_of (commands_in One text) p) (given name text)) e
 
 -- the value is expanded, or is too long
 pub value_assigned : (name text value : List ℕ) (outputs : List (List ℕ)) (p : Mind) → is_too_long One text p.vars outputs ≡ false → value ≡ value_in p.vars outputs text

@@ -25,7 +25,7 @@ use Rattle.pm_meaning.specs.Locks.{rule_of, with_lock}
 use Rattle.pm_meaning.specs.Outputs.{Outputs, outputs_of}
 use Rattle.pm_meaning.specs.Texts.{is_empty, is_file_text}
 use Rattle.pm_meaning.specs.Minds.{Mind}
-use Rattle.pm_meaning.specs.Turns.{Turn, GoesOn, Enters, not_built, say_then, refuse_name, is_too_long, skip_value}
+use Rattle.pm_meaning.specs.Turns.{Turn, GoesOn, Enters, Clones, say_then, refuse_name, is_too_long, skip_value}
 use Rattle.pm_actions.specs.Turning.{turn_of}
 use Rattle.pm_actions.proofs.Choices.{ok_map, err_map}
 use Rattle.pm_actions.proofs.DeliverLemmas.{if_yes, if_no}
@@ -37,11 +37,11 @@ use Rattle.pm_run.specs.declared.gates.Gate.{Gate}
 pub at_end : (plan : Plan Turn) (turn : Turn) (x : JournalState) (s : View) → Ends turn ≡ plan → Executes plan turn x x s s
 at_end plan turn x s e = subst (λ p. Executes p turn x x s s) e (executes_nothing turn x x s refl)
 
-pub copies : (top : Top) (p : Mind) → top.flags.copy ≡ true → not_built p ≡ enter_block top p
-copies top p e = if_yes top.flags.copy (not_built p) (enter top.lock p) e
+pub copies : (top : Top) (p : Mind) → top.flags.copy ≡ true → Ends (Clones p) ≡ enter_block top p
+copies top p e = if_yes top.flags.copy (Ends (Clones p)) (enter top.lock p) e
 
 pub enters : (top : Top) (lock : Option (List ℕ)) (p : Mind) → top.flags.copy ≡ false → top.lock ≡ lock → enter lock p ≡ enter_block top p
-enters top lock p e is = ap (λ l. enter l p) (sym is) ∙ if_no top.flags.copy (not_built p) (enter top.lock p) e
+enters top lock p e is = ap (λ l. enter l p) (sym is) ∙ if_no top.flags.copy (Ends (Clones p)) (enter top.lock p) e
 
 -- what comes of a text for a lock that isn't empty, behind its commands
 abbrev pub locks_with : List ℕ → Outputs → Plan Turn

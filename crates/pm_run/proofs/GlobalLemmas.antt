@@ -8,7 +8,7 @@ use Rattle.pm_journal.specs.Held.{holds_name, held_by}
 use Rattle.pm_journal.specs.Locking.{lock_act, lock_reply}
 use Rattle.pm_journal.specs.LogText.{couldnt_lock_line, forcing_lock_line, couldnt_unlock_line}
 use Rattle.pm_journal.specs.Noted.{NotesAct}
-use Rattle.pm_journal.specs.declared.acts.Act.TheVariants.{Unlock, SayErr}
+use Rattle.pm_journal.specs.declared.acts.Act.TheVariants.{Unlock}
 use Rattle.pm_journal.specs.declared.acts.Reply.{Reply}
 use Rattle.pm_journal.specs.declared.locking.LockRule.{LockRule}
 use Rattle.pm_journal.specs.declared.locking.LockEnd.{LockEnd}
@@ -17,31 +17,31 @@ use Rattle.pm_journal.specs.Plan.{Ends, and_then, ask}
 use Rattle.pm_journal.specs.Executed.{Executes, OutOfMemory, Carries}
 use Rattle.pm_journal.proofs.ActPlans.{executes_then}
 use Rattle.pm_journal.proofs.FirstActs.{first_act, first_act_out}
-use Rattle.pm_journal.proofs.WantsMemory.{out_then, out_front, out_anywhere}
+use Rattle.pm_journal.proofs.WantsMemory.{executes_nothing, out_then, out_front, out_anywhere}
 use Rattle.pm_meaning.specs.GlobalLock.{with_global, without_global, after_giving, give_named, got_lock, take_lock, drop_lock, change_lock}
 use Rattle.pm_meaning.specs.Locks.{is_fault, rule_of}
 use Rattle.pm_meaning.specs.Texts.{is_empty, is_file_text}
+use Rattle.pm_meaning.specs.Logging.{log, logged}
 use Rattle.pm_meaning.specs.Minds.{Mind}
 use Rattle.pm_meaning.specs.Turns.{Turn, GoesOn, say_then, refuse_name}
-use Rattle.pm_acts.specs.Acts.{Says}
 use Rattle.pm_actions.proofs.Choices.{choose_then, then_out, line_told, line_out, ok_map, err_map}
 use Rattle.pm_actions.proofs.DeliverLemmas.{if_yes, if_no}
 
 -- the removal of the lock file failed, and this was told
 pub stuck_told : (name line : List ℕ) (p q : Mind) (reply : Reply) (x y z : JournalState) (a b c : View) → NotesAct (Unlock name) reply x y a b → is_fault reply ≡ true → line ≡ couldnt_unlock_line name → q ≡ without_global name p
-    → Says line y z b c → Executes (and_then (ask (Unlock name)) (after_giving name (without_global name p))) q x z a c
+    → Executes (log line q) logged y z b c → Executes (and_then (ask (Unlock name)) (after_giving name (without_global name p))) q x z a c
 stuck_told name line p q reply x y z a b c n e same is says =
     let r = without_global name p in
     subst (λ m. Executes (and_then (ask (Unlock name)) (after_giving name r)) m x z a c) (sym is)
     (first_act (Unlock name) (after_giving name r) reply r x x y z a b c refl n
-    (choose_then (is_fault reply) (say_then r (couldnt_unlock_line name) r) (Ends r) r y z b c e (line_told r (couldnt_unlock_line name) line r y z b c same says)))
+    (choose_then (is_fault reply) (say_then r (couldnt_unlock_line name) r) (Ends r) r y z b c e (line_told r (couldnt_unlock_line name) line r y z b c same (subst (λ m. Executes (log line m) logged y z b c) is says))))
 
-pub stuck_out : (name line : List ℕ) (p : Mind) (reply : Reply) (x y z : JournalState) (a b c : View) → NotesAct (Unlock name) reply x y a b → is_fault reply ≡ true → line ≡ couldnt_unlock_line name → OutOfMemory (ask (SayErr line)) y z b c
+pub stuck_out : (name line : List ℕ) (p q : Mind) (reply : Reply) (x y z : JournalState) (a b c : View) → NotesAct (Unlock name) reply x y a b → is_fault reply ≡ true → line ≡ couldnt_unlock_line name → q ≡ without_global name p → OutOfMemory (log line q) y z b c
     → OutOfMemory (and_then (ask (Unlock name)) (after_giving name (without_global name p))) x z a c
-stuck_out name line p reply x y z a b c n e same out =
+stuck_out name line p q reply x y z a b c n e same is out =
     let r = without_global name p in
     first_act_out (Unlock name) (after_giving name r) reply x x y z a b c refl n
-    (then_out (is_fault reply) (say_then r (couldnt_unlock_line name) r) (Ends r) y z b c e (line_out r (couldnt_unlock_line name) line r y z b c same out))
+    (then_out (is_fault reply) (say_then r (couldnt_unlock_line name) r) (Ends r) y z b c e (line_out r (couldnt_unlock_line name) line r y z b c same (subst (λ m. OutOfMemory (log line m) y z b c) is out)))
 
 pub unlocked_out : (name : List ℕ) (p : Mind) (reply : Reply) (x y : JournalState) (a b : View) → NotesAct (Unlock name) reply x y a b → OutOfMemory (and_then (ask (Unlock name)) (after_giving name (without_global name p))) x y a b
 unlocked_out name p reply x y a b n =
@@ -56,6 +56,16 @@ pub not_held : (global : Option (List ℕ)) (name shown : List ℕ) (p : Mind) �
 not_held global name shown p is same free =
     if_no (holds_name p.locks name) (and_then (ask (Unlock name)) (after_giving name (without_global name p))) (Ends p) free
     ∙ (ap (λ n. give_named (Some n) p) same ∙ ap (λ g. give_named g p) (sym is))
+
+-- it is there, and held
+pub is_held : (global : Option (List ℕ)) (name shown : List ℕ) (p : Mind) → global ≡ Some shown → name ≡ shown → holds_name p.locks name ≡ true → and_then (ask (Unlock name)) (after_giving name (without_global name p)) ≡ give_named global p
+is_held global name shown p is same held =
+    if_yes (holds_name p.locks name) (and_then (ask (Unlock name)) (after_giving name (without_global name p))) (Ends p) held
+    ∙ (ap (λ n. give_named (Some n) p) same ∙ ap (λ g. give_named g p) (sym is))
+
+-- it was given back, and the process goes on
+pub dropped : (p q : Mind) (x y : JournalState) (a b : View) → Executes (give_named p.global p) q x y a b → Executes (drop_lock p) (GoesOn q) x y a b
+dropped p q x y a b h = executes_then (give_named p.global p) (λ r. Ends (GoesOn r)) q (GoesOn q) x y y a b b h (executes_nothing (GoesOn q) y y b refl)
 
 -- the lock was asked for, and what is told behind it comes
 pub lock_then : {A : Type 0} (name noted : List ℕ) (rule : LockRule) (end : LockEnd) (p : Mind) (to : A → Turn) (answer : Result A Memory) (x w y z : JournalState) (a b c : View) → noted ≡ name → rule ≡ rule_of p.vars → w.entries ≡ x.entries

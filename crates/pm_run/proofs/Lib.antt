@@ -4,8 +4,14 @@ pub mod JudgeLemmas
 pub mod ConditionLemmas
 pub mod ProcessLemmas
 mod GlobalLemmas
-mod FrameLemmas
 mod WalkLemmas
 mod LeaveLemmas
 mod RcfileLemmas
 mod GateLemmas
+mod FallLemmas
+mod EndLemmas
+pub mod OpeningLemmas
+pub mod ArriveLemmas
+mod RunLemmas
+mod CloneLemmas
+mod OtherLemmas

@@ -27,20 +27,19 @@ use Rattle.pm_meaning.specs.Chains.{new_chain, with_chain}
 use Rattle.pm_meaning.specs.Blocks.{begun_block}
 use Rattle.pm_meaning.specs.Changes.{with_rcfile, opened}
 use Rattle.pm_meaning.specs.Minds.{Mind}
-use Rattle.pm_meaning.specs.Running.{State, Item, FileEnd, Running, Including, Switching, LeavingFile, ahead, Reading, with_statements, open_rcfile, included, switched, locks_in_file, behind_file, step}
+use Rattle.pm_machine.specs.Running.{State, Item, FileEnd, Running, Including, Switching, LeavingFile, ahead, Reading, with_statements, open_rcfile, included, switched, locks_in_file, behind_file, step, Event}
 use Rattle.pm_meaning.specs.Turns.{say_then}
-use Rattle.pm_meaning.specs.declared.process.Ending.{Ending}
 use Rattle.pm_acts.specs.Acts.{ReadsWhole}
 use Rattle.pm_actions.proofs.Choices.{choose_then, choose_else, then_out, else_out}
-use Rattle.pm_run.specs.Frames.{weave, steps_of, items_of, outer_items, block_locks, left_outside, left_in, left_over}
+use Rattle.pm_frames.specs.Frames.{weave, steps_of, items_of, outer_items, block_locks, left_outside, left_in, left_over}
 use Rattle.pm_run.specs.Rcfiles.{waiting, GoesInto, TakesPlace, HasCode, ReadsCode, OpensSome, OpensNone, Opens}
-use Rattle.pm_run.specs.declared.frames.Open.{Open}
-use Rattle.pm_run.specs.declared.frames.RcFrame.{RcFrame}
-use Rattle.pm_run.proofs.FrameLemmas.{in_file_woven, behind_woven, weave_over}
+use Rattle.pm_frames.specs.declared.frames.Open.{Open}
+use Rattle.pm_frames.specs.declared.frames.RcFrame.{RcFrame}
+use Rattle.pm_frames.proofs.FrameLemmas.{in_file_woven, behind_woven, weave_over}
 use Rattle.pm_run.proofs.WalkLemmas.{whole_items}
 
 abbrev Onward : Type 0
-Onward = Next State Ending
+Onward = Next State Event
 
 -- a clause for every `next`, on either answer
 pub ok_every : {A T E : Type 0} (r : Result T E) (P : A → T → Type 0) → ((n : A) → IfOk r (P n)) → IfOk r (λ x. (n : A) → P n x)
@@ -57,7 +56,7 @@ ok_both (Ok x) P Q R f h k = f x h k
 ok_both (Err e) P Q R f h k = tt
 
 -- a state was reached, and then memory was wanting
-pub reached_wants : (s t : State) (x y : JournalState) (a b : View) → Reaches {X = Ending} step s t x y a b → Interrupted {X = Ending} step s x y a b
+pub reached_wants : (s t : State) (x y : JournalState) (a b : View) → Reaches {X = Event} step s t x y a b → Interrupted {X = Event} step s x y a b
 reached_wants s t x y a b h = interrupted_reached step s t x y y a b b h (interrupted_at_once step t y y b b (out_anywhere (step t) y y b refl))
 
 -- what comes after a reading, by what was read
@@ -121,8 +120,8 @@ pub is_few : (n : ℕ) → n < 256 → (nat_le 256 n ≡ false) × (n < 256)
 is_few n h = (grind (arith, nat_tests), h)
 
 -- the line, and then what is left
-pub told_for : (rest : List Item) (p : Mind) {line : List ℕ} {x y : JournalState} {a b : View} → ((next : Onward) → OutOfMemory (say_then p line next) x y a b) → OutOfMemory {R = Onward} (say_then p line (Go (Running rest p))) x y a b
-told_for rest p h = h (Go (Running rest p))
+pub told_for : (rest : List Item) (p : Mind) (line : List ℕ) (x y : JournalState) (a b : View) → ((next : Onward) → OutOfMemory {R = Onward} (say_then p line next) x y a b) → OutOfMemory {R = Onward} (say_then p line (Go (Running rest p))) x y a b
+told_for rest p line x y a b h = h (Go (Running rest p))
 
 pub many_told : (name : List ℕ) (p : Mind) (x y : JournalState) (a b : View) → nat_le 256 p.openings ≡ true → (code : Option Code) → code ≡ None → ((next : Onward) → Executes (say_then p (too_many_rcfiles_line name) next) next x y a b) → Opens name code p p x y a b
 many_told name p x y a b e code none h = subst (λ c. Opens name c p p x y a b) (sym none) (record {
@@ -158,10 +157,10 @@ opens_out name p q rest go x y a b e is h =
     else_out (nat_le 256 p.openings) (say_many name rest p) (read_on name rest p go) x y a b e (subst (λ m. OutOfMemory (and_then (ask (ReadFile name)) (with_statements name rest m go)) x y a b) is h)
 
 -- no rcfile was opened
-pub none_included : (name : List ℕ) (rest : List Item) (p q : Mind) (x y : JournalState) (a b : View) → OpensNone name p q x y a b → Reaches {X = Ending} step (Including name rest p) (Running rest q) x y a b
+pub none_included : (name : List ℕ) (rest : List Item) (p q : Mind) (x y : JournalState) (a b : View) → OpensNone name p q x y a b → Reaches {X = Event} step (Including name rest p) (Running rest q) x y a b
 none_included name rest p q x y a b h = reaches_once step (Including name rest p) (Running rest q) x y a b (h.opens rest (included name rest))
 
-pub none_switched : (name : List ℕ) (rest : List Item) (p q : Mind) (x y : JournalState) (a b : View) → OpensNone name p q x y a b → Reaches {X = Ending} step (Switching name rest p) (Running rest q) x y a b
+pub none_switched : (name : List ℕ) (rest : List Item) (p q : Mind) (x y : JournalState) (a b : View) → OpensNone name p q x y a b → Reaches {X = Event} step (Switching name rest p) (Running rest q) x y a b
 none_switched name rest p q x y a b h = reaches_once step (Switching name rest p) (Running rest q) x y a b (h.opens rest (switched name rest))
 
 pub none_falls : (n m : ℕ) (f : RcFrame) → n ≤ m → left_over m f ≤ left_over n f
@@ -182,11 +181,11 @@ module _ (name : List ℕ) (code : Code) (f : RcFrame) (p q : Mind) (x y : Journ
   abbrev within : Onward
   within = included name (items_of f) h.trees q
 
-  pub some_wants : Interrupted {X = Ending} step (Including name (items_of f) p) x y a b
+  pub some_wants : Interrupted {X = Event} step (Including name (items_of f) p) x y a b
   some_wants = reached_wants (Including name (items_of f) p) (Running (ahead h.trees (FileEnd q.rcfile ∷ items_of f)) (with_rcfile name q)) x y a b
       (reaches_once step (Including name (items_of f) p) (Running (ahead h.trees (FileEnd q.rcfile ∷ items_of f)) (with_rcfile name q)) x y a b (h.opens (items_of f) (included name (items_of f))))
 
-  pub some_included : (g : RcFrame) (r : Mind) → GoesInto name code f g q r → Reaches {X = Ending} step (Including name (items_of f) p) (Running (items_of g) r) x y a b
+  pub some_included : (g : RcFrame) (r : Mind) → GoesInto name code f g q r → Reaches {X = Event} step (Including name (items_of f) p) (Running (items_of g) r) x y a b
   some_included g r into =
       let same : ahead h.trees (FileEnd q.rcfile ∷ items_of f) ≡ items_of g =
       ap (λ ws. ahead h.trees (outer_items ws)) (sym into.outer) ∙ begun_items g code h.trees into.code_is into.place into.blocks h.has_code in
@@ -201,7 +200,7 @@ module _ (name : List ℕ) (code : Code) (f : RcFrame) (p q : Mind) (x y : Journ
       omega (arith, h.few, count, left)
 
   -- it takes the place of the current one
-  pub some_switched : Reaches {X = Ending} step (Switching name (items_of f) p) (LeavingFile (block_locks f.blocks.items) (ahead h.trees (outer_items f.outer.items)) (begun_block (with_rcfile name q))) x y a b
+  pub some_switched : Reaches {X = Event} step (Switching name (items_of f) p) (LeavingFile (block_locks f.blocks.items) (ahead h.trees (outer_items f.outer.items)) (begun_block (with_rcfile name q))) x y a b
   some_switched =
       let lists = lists_of (drop f.place (steps_of f)) in
       let mind = begun_block (with_rcfile name q) in

@@ -22,25 +22,25 @@ use Rattle.pm_meaning.specs.Judging.{judge_first}
 use Rattle.pm_meaning.specs.Minds.{Mind}
 use Rattle.pm_meaning.specs.Changes.{with_rcfile, with_openings}
 use Rattle.pm_meaning.specs.Turns.{Turn, GoesOn}
-use Rattle.pm_meaning.specs.Running.{State, Running, LeavingFile, Leaving, Item, FileEnd, statement, next_of, ahead, behind_file, step}
+use Rattle.pm_machine.specs.Running.{State, Running, LeavingFile, Cloning, Leaving, Item, FileEnd, statement, next_of, ahead, behind_file, step, Event}
 use Rattle.pm_meaning.specs.declared.process.End.{End}
-use Rattle.pm_meaning.specs.declared.process.Ending.{Ending}
-use Rattle.pm_run.specs.Frames.{weave, steps_of, items_of, outer_items, block_locks, all_locks, left_outside, left_in, left_over}
+use Rattle.pm_frames.specs.Copies.{block_at}
+use Rattle.pm_frames.specs.Frames.{weave, steps_of, items_of, outer_items, block_locks, all_locks, left_outside, left_in, left_over}
 use Rattle.pm_run.specs.Turned.{turn_in}
-use Rattle.pm_run.specs.Walk.{single, plan_of, gate_turn, stands, stepped_of, IsStepAt, EndsAt, Entered, ComesBack, less_by}
-use Rattle.pm_run.specs.declared.frames.Open.{Open}
-use Rattle.pm_run.specs.declared.frames.RcFrame.{RcFrame}
-use Rattle.pm_run.specs.declared.frames.Waiting.{Waiting}
+use Rattle.pm_run.specs.Walk.{single, plan_of, gate_turn, stands, stepped_of, IsStepAt, EndsAt, Entered, ComesBack, less_by, IsBehind}
+use Rattle.pm_frames.specs.declared.frames.Open.{Open}
+use Rattle.pm_frames.specs.declared.frames.RcFrame.{RcFrame}
+use Rattle.pm_frames.specs.declared.frames.Waiting.{Waiting}
 use Rattle.pm_run.specs.declared.gates.Gate.{Gate}
 use Rattle.pm_run.specs.declared.gates.Gate.TheVariants as gate
 use Rattle.pm_run.specs.declared.turned.Turned.{Turned}
 use Rattle.pm_run.specs.declared.turned.Turned.TheVariants as turned
 use Rattle.pm_run.specs.declared.walk.Stepped.{Stepped}
 use Rattle.pm_run.specs.declared.walk.Stepped.TheVariants as stepped
-use Rattle.pm_run.proofs.FrameLemmas.{weave_does, weave_enters, weave_stops, weave_leaves, weave_over, weave_left, locks_all, in_file_woven, behind_woven, Jumps, jumps, single_here}
+use Rattle.pm_frames.proofs.FrameLemmas.{weave_does, weave_enters, weave_stops, weave_leaves, weave_over, weave_left, locks_all, in_file_woven, behind_woven, Jumps, jumps, single_here}
 
 abbrev Onward : Type 0
-Onward = Next State Ending
+Onward = Next State Event
 
 -- the step that stands at a place
 step_here : (items : List Step) (i : ℕ) (s : Step) → i < length items → s ≡ get_or items i s → drop i (flats_of items) ≡ flat_of s ∷ drop (i + 1) (flats_of items)
@@ -122,7 +122,7 @@ module _ (f : RcFrame) (s : Step) (p : Mind) (at : IsStepAt s (steps_of f) f.pla
   plan_is = ap (λ q. plan_of q p) d.is ∙ single_is d.tree p (single_here (steps_of f) f.place d.tree (drop (f.place + 1) (steps_of f)) f.code.ends ahead_of)
 
   pub one_reaches : (t : Turned) (q : Mind) (x y : JournalState) (a b : View) → Executes (plan_of (flat_of s) p) (turn_in t q) x y a b
-      → Reaches {X = Ending} step (Running (items_of f) p) (stands (stepped_of t) (record f { place = f.place + 1 }) (with_openings p.openings q)) x y a b
+      → Reaches {X = Event} step (Running (items_of f) p) (stands (stepped_of t) (record f { place = f.place + 1 }) (with_openings p.openings q)) x y a b
   one_reaches t q x y a b h =
       let g = record f { place = f.place + 1 } in
       let r = with_openings p.openings q in
@@ -133,7 +133,7 @@ module _ (f : RcFrame) (s : Step) (p : Mind) (at : IsStepAt s (steps_of f) f.pla
       (subst (λ plan. Executes plan next x y a b) (sym (statement_step f d.tree p ahead_of))
       (executes_then (statement d.tree p) go (turn_in t q) next x y y a b b (subst (λ plan. Executes plan (turn_in t q) x y a b) plan_is h) last))
 
-  pub one_wants : (x y : JournalState) (a b : View) → OutOfMemory (plan_of (flat_of s) p) x y a b → Interrupted {X = Ending} step (Running (items_of f) p) x y a b
+  pub one_wants : (x y : JournalState) (a b : View) → OutOfMemory (plan_of (flat_of s) p) x y a b → Interrupted {X = Event} step (Running (items_of f) p) x y a b
   one_wants x y a b h =
       let go : Turn → Plan Onward = λ turn. Ends (next_of d.tree p.openings (items_of (record f { place = f.place + 1 })) turn) in
       interrupted_at_once step (Running (items_of f) p) x y a b
@@ -157,11 +157,11 @@ module _ (f : RcFrame) (top : Top) (end : ℕ) (p : Mind) (e : drop f.place (ste
   gate_step : step (Running (items_of f) p) ≡ and_then gate_plan onto
   gate_step = ap (λ items. step (Running items p)) (weave_enters (drop f.place (steps_of f)) top end more f.blocks.items (outer_items f.outer.items) e)
 
-  pub gate_wants : (x y : JournalState) (a b : View) → OutOfMemory gate_plan x y a b → Interrupted {X = Ending} step (Running (items_of f) p) x y a b
+  pub gate_wants : (x y : JournalState) (a b : View) → OutOfMemory gate_plan x y a b → Interrupted {X = Event} step (Running (items_of f) p) x y a b
   gate_wants x y a b h =
       interrupted_at_once step (Running (items_of f) p) x y a b (subst (λ plan. OutOfMemory plan x y a b) (sym gate_step) (out_front gate_plan onto x y a b h))
 
-  pub gate_then_wants : (turn : Turn) (x y : JournalState) (a b : View) → Executes gate_plan turn x y a b → Interrupted {X = Ending} step (Running (items_of f) p) x y a b
+  pub gate_then_wants : (turn : Turn) (x y : JournalState) (a b : View) → Executes gate_plan turn x y a b → Interrupted {X = Event} step (Running (items_of f) p) x y a b
   gate_then_wants turn x y a b h =
       interrupted_at_once step (Running (items_of f) p) x y a b
       (subst (λ plan. OutOfMemory plan x y a b) (sym gate_step) (out_then gate_plan onto turn x y y a b b h (out_anywhere (onto turn) y y b refl)))
@@ -190,9 +190,22 @@ module _ (f : RcFrame) (top : Top) (end : ℕ) (p : Mind) (e : drop f.place (ste
   next_is (gate.Enters lock) s g q r j h =
       ap (λ items. Go (Running items (begun_block (with_openings p.openings q)))) (items_in g (record { saved = q.chain; lock = lock }) h.1 h.2 h.3 h.4)
       ∙ ap (λ m. Go (Running (items_of g) m)) (sym h.5) ∙ ap (λ t. Go (stands t g r)) (sym h.0)
+  next_is gate.Clones s g q r j h =
+      ap (λ items. Go (Cloning (first (lists_of more)) items (with_openings p.openings q))) (ap (λ l. weave l f.blocks.items (outer_items f.outer.items)) (sym j.behind) ∙ items_at g (end + 1) h.1)
+      ∙ ap (λ (k : RcFrame). Go (Cloning (first (lists_of (drop (f.place + 1) (steps_of k)))) (items_of g) (with_openings p.openings q))) (sym h.1)
+      ∙ ap (λ m. Go (Cloning (block_at (f.place + 1) g) (items_of g) m)) (sym h.2) ∙ ap (λ t. Go (stands t g r)) (sym h.0)
+
+  -- the block at the place is over behind it
+  pub gate_behind : (was : Gate) (s : Stepped) (g : RcFrame) (m n : Mind) → Jumps (steps_of f) f.place end more → Entered (end + 1) was s f g m n → IsBehind s g
+  gate_behind gate.Passes s g m n j h = subst (λ t. IsBehind t g) (sym h.0) tt
+  gate_behind (gate.Halts end) s g m n j h = subst (λ t. IsBehind t g) (sym h.0) tt
+  gate_behind (gate.Enters lock) s g m n j h = subst (λ t. IsBehind t g) (sym h.0) tt
+  gate_behind gate.Clones s g m n j h =
+      subst (λ t. IsBehind t g) (sym h.0)
+      (subst (λ (k : RcFrame). IsBehind (stepped.Clones (f.place + 1)) k) (sym h.1) (λ blocks rest. ap (λ l. weave l blocks rest) (sym j.behind)))
 
   pub gate_reaches : (was : Gate) (s : Stepped) (g : RcFrame) (q r : Mind) (x y : JournalState) (a b : View) → Jumps (steps_of f) f.place end more → Entered (end + 1) was s f g (with_openings p.openings q) r
-      → Executes gate_plan (gate_turn was q) x y a b → Reaches {X = Ending} step (Running (items_of f) p) (stands s g r) x y a b
+      → Executes gate_plan (gate_turn was q) x y a b → Reaches {X = Event} step (Running (items_of f) p) (stands s g r) x y a b
   gate_reaches was s g q r x y a b j h k =
       let next : Onward = Go (stands s g r) in
       reaches_once step (Running (items_of f) p) (stands s g r) x y a b
@@ -202,6 +215,7 @@ module _ (f : RcFrame) (top : Top) (end : ℕ) (p : Mind) (e : drop f.place (ste
 pub entered_falls : (behind : ℕ) (was : Gate) (s : Stepped) (f g : RcFrame) (m n : Mind) → Entered behind was s f g m n → f.place < behind → behind ≤ length f.code.steps.items → left_in g + less_by s ≤ left_in f
 entered_falls behind gate.Passes s f g m n h further within = subst (λ q. left_in g + less_by q ≤ left_in f) (sym h.0) (subst (λ q. left_in q + 1 ≤ left_in f) (sym h.1) (omega arith))
 entered_falls behind (gate.Halts end) s f g m n h further within = subst (λ q. left_in g + less_by q ≤ left_in f) (sym h.0) (subst (λ q. left_in q + 0 ≤ left_in f) (sym h.1) (omega arith))
+entered_falls behind gate.Clones s f g m n h further within = subst (λ q. left_in g + less_by q ≤ left_in f) (sym h.0) (subst (λ q. left_in q + 1 ≤ left_in f) (sym h.1) (omega arith))
 entered_falls behind (gate.Enters lock) s f g m n h further within =
     let fewer : left_in g + 1 ≤ left_in f = omega (arith, ap (λ c. length c.steps.items) h.1, h.2, ap length h.3, ap (λ o. left_outside o.items) h.4) in
     subst (λ q. left_in g + less_by q ≤ left_in f) (sym h.0) fewer
@@ -222,6 +236,20 @@ one_falls f t s e h =
     let fits : f.place < length f.code.steps.items = subst (λ n. f.place < n) (length-map f.code.steps.items flat_of) h in
     omega (arith, fits, less_one t, ap less_by e)
 
+-- no copy is wanted by a statement
+pub one_behind : (t : Turned) (s : Stepped) (f : RcFrame) → s ≡ stepped_of t → IsBehind s f
+one_behind turned.Goes s f e = subst (λ q. IsBehind q f) (sym e) tt
+one_behind (turned.Halts end) s f e = subst (λ q. IsBehind q f) (sym e) tt
+one_behind (turned.Includes name) s f e = subst (λ q. IsBehind q f) (sym e) tt
+one_behind (turned.Switches name) s f e = subst (λ q. IsBehind q f) (sym e) tt
+one_behind turned.EndsFile s f e = subst (λ q. IsBehind q f) (sym e) tt
+
+-- nor by one that comes back
+pub back_behind : (s : Stepped) (f g : RcFrame) (p q : Mind) → ComesBack s f g p q → IsBehind s g
+back_behind stepped.Over f g p q h = tt
+back_behind stepped.Went f g p q h = tt
+back_behind other f g p q h = absurd h
+
 -- a block that ends
 module _ (f : RcFrame) (block : Open) (blocks : List Open) (next : ℕ) (p : Mind) (ends : EndsAt (steps_of f) f.place next) (e : f.blocks.items ≡ block ∷ blocks) where
   abbrev later : List Item
@@ -234,7 +262,7 @@ module _ (f : RcFrame) (block : Open) (blocks : List Open) (next : ℕ) (p : Min
   end_step = ap (λ items. step (Running items p)) (ap (λ l. weave (lists_of (drop f.place (steps_of f))) l (outer_items f.outer.items)) e ∙ ends.block block blocks (outer_items f.outer.items))
 
   pub block_reaches : (g : RcFrame) (q r : Mind) (x y : JournalState) (a b : View) → g.code ≡ f.code → g.place ≡ next → g.blocks.items ≡ blocks → g.outer ≡ f.outer → r ≡ closed block.saved q
-      → Executes (give_maybe block.lock p) q x y a b → Reaches {X = Ending} step (Running (items_of f) p) (Running (items_of g) r) x y a b
+      → Executes (give_maybe block.lock p) q x y a b → Reaches {X = Event} step (Running (items_of f) p) (Running (items_of g) r) x y a b
   block_reaches g q r x y a b c k bs o re h =
       let to : Onward = Go (Running (items_of g) r) in
       let after : later ≡ items_of g =
@@ -247,7 +275,7 @@ module _ (f : RcFrame) (block : Open) (blocks : List Open) (next : ℕ) (p : Min
       (subst (λ plan. Executes plan to x y a b) (sym end_step)
       (executes_then (give_maybe block.lock p) close q to x y y a b b h (subst (λ n. Executes (Ends n) to y y b b) (sym same) (executes_nothing to y y b refl))))
 
-  pub block_wants : (x y : JournalState) (a b : View) → OutOfMemory (give_maybe block.lock p) x y a b → Interrupted {X = Ending} step (Running (items_of f) p) x y a b
+  pub block_wants : (x y : JournalState) (a b : View) → OutOfMemory (give_maybe block.lock p) x y a b → Interrupted {X = Event} step (Running (items_of f) p) x y a b
   block_wants x y a b h =
       interrupted_at_once step (Running (items_of f) p) x y a b (subst (λ plan. OutOfMemory plan x y a b) (sym end_step) (out_front (give_maybe block.lock p) close x y a b h))
 
@@ -264,11 +292,11 @@ back_items w g c k b =
     ∙ ap (λ q. weave (lists_of (drop g.place (steps_of g))) q.items (outer_items g.outer.items)) (sym b)
 
 pub back_reaches : (s : Stepped) (f g : RcFrame) (next : ℕ) (p q : Mind) (x : JournalState) (a : View) → EndsAt (steps_of f) f.place next → f.blocks.items ≡ [] → ComesBack s f g p q
-    → Reaches {X = Ending} step (Running (items_of f) p) (stands s g q) x x a a
+    → Reaches {X = Event} step (Running (items_of f) p) (stands s g q) x x a a
 back_reaches stepped.Over f g next p q x a ends e h =
     let over : items_of f ≡ [] = over_items f next ends e ∙ ap outer_items h.0 in
-    subst (λ m. Reaches {X = Ending} step (Running (items_of f) p) (Running [] m) x x a a) (sym h.5)
-    (subst (λ items. Reaches {X = Ending} step (Running (items_of f) p) (Running items p) x x a a) over (reaches_itself step (Running (items_of f) p) x a))
+    subst (λ m. Reaches {X = Event} step (Running (items_of f) p) (Running [] m) x x a a) (sym h.5)
+    (subst (λ items. Reaches {X = Event} step (Running (items_of f) p) (Running items p) x x a a) over (reaches_itself step (Running (items_of f) p) x a))
 back_reaches stepped.Went f g next p q x a ends e h =
     let w = h.0 in
     let rest = weave (lists_of (drop w.place (flats_of w.code.steps.items))) w.blocks.items (outer_items g.outer.items) in
@@ -279,7 +307,7 @@ back_reaches stepped.Went f g next p q x a ends e h =
     (subst (λ items. Executes (step (Running items p)) to x x a a) (sym left) (subst (λ n. Executes (Ends n) to x x a a) (sym same) (executes_nothing to x x a refl)))
 back_reaches other f g next p q x a ends e h = absurd h
 
-pub back_wants : (f : RcFrame) (p : Mind) (x : JournalState) (a : View) → Interrupted {X = Ending} step (Running (items_of f) p) x x a a
+pub back_wants : (f : RcFrame) (p : Mind) (x : JournalState) (a : View) → Interrupted {X = Event} step (Running (items_of f) p) x x a a
 back_wants f p x a = interrupted_at_once step (Running (items_of f) p) x x a a (out_anywhere (step (Running (items_of f) p)) x x a refl)
 
 pub back_falls : (s : Stepped) (f g : RcFrame) (p q : Mind) → f.blocks.items ≡ [] → ComesBack s f g p q → left_in g + less_by s ≤ left_in f

@@ -1,23 +1,36 @@
 -- What the code's answers stand for.
-use Rattle.std.specs.Prelude.{ℕ, Option, Some, None, [], ◌∷◌, List}
-use Rattle.pm_journal.specs.Walking.{Next, Go}
+use Rattle.std.specs.Prelude.{◌≡◌, ℕ, ◌+◌, ◌-◌, Option, Some, None, [], length}
+use Rattle.pm_code.specs.Flat.{flats_of, written}
+use Rattle.pm_code.specs.declared.code.Code.{Code}
+use Rattle.pm_recipe.specs.Tree.{Trees}
 use Rattle.pm_meaning.specs.Minds.{Mind}
-use Rattle.pm_meaning.specs.Running.{State, Running, Over, Open, ahead}
 use Rattle.pm_meaning.specs.declared.process.End.{End}
-use Rattle.pm_meaning.specs.declared.process.Ending.{Ending}
-use Rattle.pm_run.specs.declared.process.Opened.{Opened}
-use Rattle.pm_run.specs.declared.process.Opened.TheVariants.{Read, Ended}
+use Rattle.pm_machine.specs.Running.{State, Running, Over, OpeningRule}
+use Rattle.pm_frames.specs.Frames.{items_of}
+use Rattle.pm_frames.specs.declared.queue.Queue.{Queue}
+use Rattle.pm_frames.specs.declared.frames.RcFrame.{RcFrame}
+use Rattle.pm_run.specs.declared.opening.Halted.{Halted}
+use Rattle.pm_run.specs.declared.opening.Halted.TheVariants.{Over as HaltedOver, Resumes}
+use Rattle.pm_run.specs.declared.opening.Rule.{Rule}
 
 -- where a process stands behind its statements: without an end nothing is left
 abbrev pub stands_at : Option End → Mind → State
 stands_at None p = Running [] p
 stands_at (Some end) p = Over end p
 
--- what comes of an rcfile
-abbrev pub opened_next : Opened → Mind → Next State Ending
-opened_next (Read statements) p = Go (Running (ahead statements []) p)
-opened_next (Ended end) p = Go (Over end p)
+-- where it stands behind a statement that ends it
+abbrev pub halted : Halted → RcFrame → Mind → State
+halted (HaltedOver end) f p = stands_at end p
+halted Resumes f p = Running (items_of f) p
 
--- a process that has an rcfile to open, and nothing else
-abbrev pub opening : List ℕ → Mind → State
-opening name p = Running (Open name ∷ []) p
+-- how the rcfiles of the command line are opened
+abbrev pub rule_of_opening : Rule → OpeningRule
+rule_of_opening rule = record { is_implied = rule.is_implied; keeps_folder = rule.keeps_folder }
+
+-- the code is that of these statements
+abbrev pub IsCode : Code → Trees → Type 0
+IsCode code trees = flats_of code.steps.items ≡ written 0 trees
+
+-- how many copies wait and may still be made
+abbrev pub copies_left : Queue → ℕ
+copies_left queue = length queue.copies.items + (16 - queue.made)

@@ -1,7 +1,9 @@
 pub mod Ends
 pub mod Stretches
 pub mod Coming
-pub mod Frames
 pub mod Turned
 pub mod Rcfiles
 pub mod Walk
+pub mod Opening
+pub mod Others
+pub mod Codes

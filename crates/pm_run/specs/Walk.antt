@@ -1,7 +1,7 @@
 -- What comes of one item of an rcfile.
 use Rattle.std.specs.Prelude.{◌≡◌, ◌≤◌, ◌<◌, length, ℕ, ◌+◌, List, [], ◌∷◌, drop, Option, Some, None}
 use Rattle.pm_code.specs.Flat.{Flat, Does, flat_of}
-use Rattle.pm_code.specs.Ahead.{lists_of}
+use Rattle.pm_code.specs.Ahead.{others, lists_of}
 use Rattle.pm_code.specs.declared.steps.Step.{Step}
 use Rattle.pm_recipe.specs.Tree.{Tree, Recipe}
 use Rattle.pm_journal.specs.Plan.{Plan, Ends}
@@ -9,14 +9,15 @@ use Rattle.pm_meaning.specs.Blocks.{begun_block}
 use Rattle.pm_meaning.specs.Acting.{act_on}
 use Rattle.pm_meaning.specs.Judging.{judge_first}
 use Rattle.pm_meaning.specs.Minds.{Mind}
-use Rattle.pm_meaning.specs.Turns.{Turn, GoesOn, Halts, Enters}
+use Rattle.pm_meaning.specs.Turns.{Turn, GoesOn, Halts, Enters, Clones}
 use Rattle.pm_meaning.specs.Changes.{with_rcfile}
-use Rattle.pm_meaning.specs.Running.{State, Item, Running, Including, Switching, LeavingFile, Leaving, statement}
+use Rattle.pm_machine.specs.Running.{State, Item, Running, Including, Switching, LeavingFile, Cloning, Leaving, statement}
 use Rattle.pm_meaning.specs.declared.process.End.{End}
-use Rattle.pm_run.specs.Frames.{items_of, outer_items, weave, end_of, block_locks, all_locks}
-use Rattle.pm_run.specs.declared.frames.Open.{Open}
-use Rattle.pm_run.specs.declared.frames.RcFrame.{RcFrame}
-use Rattle.pm_run.specs.declared.frames.Waiting.{Waiting}
+use Rattle.pm_frames.specs.Copies.{block_at}
+use Rattle.pm_frames.specs.Frames.{items_of, outer_items, steps_of, weave, end_of, block_locks, all_locks}
+use Rattle.pm_frames.specs.declared.frames.Open.{Open}
+use Rattle.pm_frames.specs.declared.frames.RcFrame.{RcFrame}
+use Rattle.pm_frames.specs.declared.frames.Waiting.{Waiting}
 use Rattle.pm_run.specs.declared.gates.Gate.{Gate}
 use Rattle.pm_run.specs.declared.gates.Gate.TheVariants as gate
 use Rattle.pm_run.specs.declared.turned.Turned.{Turned}
@@ -39,6 +40,7 @@ abbrev pub gate_turn : Gate → Mind → Turn
 gate_turn gate.Passes p = GoesOn p
 gate_turn (gate.Halts end) p = Halts end p
 gate_turn (gate.Enters lock) p = Enters lock p
+gate_turn gate.Clones p = Clones p
 
 -- where the process stands behind an item
 abbrev pub stands : Stepped → RcFrame → Mind → State
@@ -47,6 +49,7 @@ stands (stepped.Halts end) f p = Leaving (all_locks f) end p
 stands stepped.Over f p = Running [] p
 stands (stepped.Includes name) f p = Including name (items_of f) p
 stands (stepped.Switches name) f p = Switching name (items_of f) p
+stands (stepped.Clones place) f p = Cloning (block_at place f) (items_of f) p
 stands stepped.EndsFile f p = LeavingFile (block_locks f.blocks.items) (outer_items f.outer.items) p
 
 -- what comes of a statement
@@ -76,12 +79,19 @@ Entered behind (gate.Halts end) s f g p q = (s ≡ stepped.Halts end) × (g ≡ 
 Entered behind (gate.Enters lock) s f g p q =
     (s ≡ stepped.Went) × (g.code ≡ f.code) × (g.place ≡ f.place + 1)
     × (g.blocks.items ≡ record { saved = p.chain; lock = lock } ∷ f.blocks.items) × (g.outer ≡ f.outer) × (q ≡ begun_block p)
+Entered behind gate.Clones s f g p q = (s ≡ stepped.Clones (f.place + 1)) × (g ≡ record f { place = behind }) × (q ≡ p)
 
 -- the rcfile that waits first goes on, under its name; or none waits
 abbrev pub ComesBack : Stepped → RcFrame → RcFrame → Mind → Mind → Type 0
 ComesBack stepped.Over f g p q = (f.outer.items ≡ []) × (g.code ≡ f.code) × (g.place ≡ f.place) × (g.blocks ≡ f.blocks) × (g.outer.items ≡ []) × (q ≡ p)
 ComesBack stepped.Went f g p q = (w : Waiting) × (f.outer.items ≡ w ∷ g.outer.items) × (g.code ≡ w.code) × (g.place ≡ w.place) × (g.blocks ≡ w.blocks) × (q ≡ with_rcfile w.name p)
 ComesBack other f g p q = ⊥
+
+-- where a copy is wanted, the block at the place is over where the process stands
+abbrev pub IsBehind : Stepped → RcFrame → Type 0
+IsBehind (stepped.Clones place) f =
+    (blocks : List Open) (rest : List Item) → weave (others (lists_of (drop place (steps_of f)))) blocks rest ≡ weave (lists_of (drop f.place (steps_of f))) blocks rest
+IsBehind other f = Unit {0}
 
 -- so much less is left behind it
 abbrev pub less_by : Stepped → ℕ

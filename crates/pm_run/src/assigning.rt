@@ -4,12 +4,13 @@ ghost use Rattle.pm_journal.specs.Executed.{Carries};
 ghost use Rattle.pm_journal.specs.Held.{Keeping};
 ghost use Rattle.pm_journal.specs.Plan.{and_then, ask};
 ghost use Rattle.pm_journal.specs.declared.acts.Act.TheVariants.{Probe};
-ghost use Rattle.pm_meaning.specs.Assigning.{is_later};
 ghost use Rattle.pm_meaning.specs.Assigning.{probed, change_folder, change_host as host_changed};
+ghost use Rattle.pm_meaning.specs.Assigning.{change_other as other_changed, shift_arguments as arguments_shifted};
 ghost use Rattle.pm_meaning.specs.Assigning.{assigned, assign, assign_with, unset};
 ghost use Rattle.pm_meaning.specs.Assigning.{change_rcfile as rcfile_changed, include_rcfile as rcfile_included};
 ghost use Rattle.pm_meaning.specs.Assigning.{switch_rcfile as rcfile_switched};
 ghost use Rattle.pm_meaning.specs.Minds.{mind_of};
+ghost use Rattle.pm_meaning.specs.Turns.{GoesOn, say_then};
 ghost use Rattle.pm_subst.specs.Commands.{commands_in};
 ghost use Rattle.pm_subst.specs.declared.kinds.Mode.TheVariants.{One};
 ghost use Rattle.pm_actions.specs.Turning.{turn_of};
@@ -17,9 +18,11 @@ ghost use Rattle.pm_run.specs.Turned.{turn_in};
 
 use crate::global_lock::{change_lock, drop_lock};
 use crate::turned::{Turned, turned_by};
-use pm_actions::{Expansion, expand_text, file_name, first_word, outputs_of, refuse, skip_value};
-use pm_acts::{Outside, probe, say};
-use pm_bytes::{Blob, Memory, Name, full};
+use pm_actions::{
+    Expansion, expand_text, file_name, first_word, outputs_of, refuse, skip_value, tell,
+};
+use pm_acts::{Outside, probe};
+use pm_bytes::{Blob, Memory, Name, full, read_count};
 use pm_host::Looked;
 use pm_journal::{Journal, couldnt_chdir, host_mismatched, unusable_name};
 use pm_meaning::{End, Process};
@@ -41,9 +44,6 @@ pub fn assign_text<D: Outside>(
         journal.old journal.new (D.told outside.old) (D.told outside.new) }
     ensures keeping { Keeping journal.new process.new.locks.names }
 {
-    if is_later_name(name) {
-        return Ok(Turned::Halts(End::NotBuilt));
-    }
     let outputs = outputs_of(alloc, text, Mode::One, process, outside, journal)?;
     assign_expanded(
         alloc,
@@ -84,20 +84,7 @@ fn assign_expanded<D: Outside>(
     }
 }
 
-// Whether an assignment asks for what isn't built yet, whatever its value is.
-fn is_later_name(name: &[u8]) -> bool
-    ensures { result ≡ is_later name.now }
-{
-    name == b"LOGFILE".as_slice()
-        || name == b"LOGABSTRACT".as_slice()
-        || name == b"TRAP".as_slice()
-        || name == b"EXITCODE".as_slice()
-        || name == b"DELIVERED".as_slice()
-        || name == b"LOG".as_slice()
-        || name == b"SHIFT".as_slice()
-}
-
-fn assign_value<D: Outside>(
+pub fn assign_value<D: Outside>(
     alloc: Global,
     name: &[u8],
     value: Blob,
@@ -118,8 +105,76 @@ fn assign_value<D: Outside>(
     } else if is_lockfile(name) {
         turned_by(change_lock(alloc, copy.as_slice(), process, outside, journal))
     } else {
-        change_rcfile(alloc, name, copy.as_slice(), process, outside, journal)
+        change_other(alloc, name, copy.as_slice(), process, outside, journal)
     }
+}
+
+// The value may be a line to log, or say how many arguments are dropped.
+fn change_other<D: Outside>(
+    alloc: Global,
+    name: &[u8],
+    value: &[u8],
+    process: &mut Process,
+    outside: &mut D,
+    journal: &mut Journal,
+) -> Result<Turned, Memory>
+    requires keeping { Keeping journal.old process.old.locks.names }
+    ensures carries { Carries (other_changed name.now value.now (mind_of process.old))
+        (λ turned. turn_in turned (mind_of process.new)) result
+        journal.old journal.new (D.told outside.old) (D.told outside.new) }
+    ensures keeping { Keeping journal.new process.new.locks.names }
+{
+    if is_log(name) {
+        return log_value(alloc, value, process, outside, journal);
+    }
+    if is_shift(name) {
+        shift_arguments(value, process);
+        return Ok(Turned::Goes);
+    }
+    change_rcfile(alloc, name, value, process, outside, journal)
+}
+
+// LOG got this value.
+fn log_value<D: Outside>(
+    alloc: Global,
+    value: &[u8],
+    process: &Process,
+    outside: &mut D,
+    journal: &mut Journal,
+) -> Result<Turned, Memory>
+    requires keeping { Keeping journal.old process.now.locks.names }
+    ensures carries { let p = mind_of process.now in
+        Carries (say_then p value.now (GoesOn p)) (λ turned. turn_in turned p) result
+        journal.old journal.new (D.told outside.old) (D.told outside.new) }
+    ensures keeping { Keeping journal.new process.now.locks.names }
+{
+    let line = Blob::from_slice(alloc, value)?;
+    tell(alloc, process, line, outside, journal)?;
+    Ok(Turned::Goes)
+}
+
+// SHIFT got this value: without a number nothing is dropped.
+fn shift_arguments(value: &[u8], process: &mut Process)
+    ensures shifted { mind_of process.new ≡ arguments_shifted value.now (mind_of process.old) }
+    ensures locks { process.new.locks ≡ process.old.locks }
+{
+    if let Some(count) = read_count(value) {
+        process.vars.shift(count);
+    }
+}
+
+// Whether the variable is LOG.
+fn is_log(name: &[u8]) -> bool
+    ensures { result ≡ bytes_eq name.now (codes "LOG") }
+{
+    name == b"LOG".as_slice()
+}
+
+// Whether the variable is SHIFT.
+fn is_shift(name: &[u8]) -> bool
+    ensures { result ≡ bytes_eq name.now (codes "SHIFT") }
+{
+    name == b"SHIFT".as_slice()
 }
 
 // The value may name another rcfile, that of INCLUDERC or SWITCHRC, or another host.
@@ -167,7 +222,7 @@ fn change_host<D: Outside>(
         return Ok(Turned::Goes);
     }
     let line = host_mismatched(alloc, value)?;
-    say(&process.locks, line, outside, journal)?;
+    tell(alloc, process, line, outside, journal)?;
     Ok(Turned::Halts(End::HostOff))
 }
 
@@ -252,7 +307,7 @@ fn move_to_folder<D: Outside>(
         }
         None => {
             let line = unusable_name(alloc, value)?;
-            say(&process.locks, line, outside, journal)?;
+            tell(alloc, process, line, outside, journal)?;
             Ok(None)
         }
     }
@@ -279,7 +334,7 @@ fn probe_folder<D: Outside>(
         }
         _ => {
             let line = couldnt_chdir(alloc, &folder)?;
-            say(&process.locks, line, outside, journal)?;
+            tell(alloc, process, line, outside, journal)?;
             Ok(None)
         }
     }

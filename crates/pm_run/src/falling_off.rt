@@ -5,12 +5,12 @@ ghost use Rattle.pm_journal.specs.Held.{Keeping};
 ghost use Rattle.pm_journal.specs.Walking.{Go};
 ghost use Rattle.pm_meaning.specs.Locks.{value_or};
 ghost use Rattle.pm_meaning.specs.Minds.{mind_of};
-ghost use Rattle.pm_meaning.specs.Running.{Running, FallingOff, Over, step, unless_same};
-ghost use Rattle.pm_meaning.specs.Running.{default_mailboxes as mailboxes_by_default};
+ghost use Rattle.pm_machine.specs.Running.{Running, FallingOff, Over, step, unless_same};
+ghost use Rattle.pm_machine.specs.Running.{default_mailboxes as mailboxes_by_default};
 ghost use Rattle.pm_run.specs.Stretches.{Walks};
 
-use pm_actions::deliver_default;
-use pm_acts::{Outside, say};
+use pm_actions::{deliver_default, tell};
+use pm_acts::Outside;
 use pm_bytes::{Blob, Memory};
 use pm_journal::{Journal, no_delivery};
 use pm_meaning::{End, Process};
@@ -46,8 +46,8 @@ fn default_mailboxes(alloc: Global, vars: &Vars) -> Result<VecDeque<Blob>, Memor
     Ok(mailboxes)
 }
 
-// The variable's value, empty where it is unset.
-fn value<'a>(vars: &'a Vars, name: &[u8]) -> &'a [u8]
+/// The variable's value, empty where it is unset.
+pub fn value<'a>(vars: &'a Vars, name: &[u8]) -> &'a [u8]
     ensures { result.now ≡ value_or [] name.now vars.now }
 {
     match vars.get(name) {
@@ -108,6 +108,6 @@ fn lose<D: Outside>(
     ensures keeping { Keeping journal.new process.now.locks.names }
 {
     let line = no_delivery(alloc)?;
-    say(&process.locks, line, outside, journal)?;
+    tell(alloc, process, line, outside, journal)?;
     Ok(End::FellOff)
 }

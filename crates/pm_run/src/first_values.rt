@@ -1,6 +1,7 @@
 //! The variables with which a process begins (procmailrc(5), "Environment variables assignments").
-ghost use Rattle.std.specs.Prelude.{◌≡◌, ◌++◌, nat_le, IfOk, option_copied};
+ghost use Rattle.std.specs.Prelude.{◌≡◌, ◌++◌, [], false, nat_le, IfOk, option_copied};
 ghost use Rattle.std.specs.List.{list_all};
+ghost use Rattle.pm_bytes.specs.Name.{has_zero};
 ghost use Rattle.pm_vars.specs.Variables.{with_value};
 ghost use Rattle.pm_meaning.specs.Minds.{mind_of};
 ghost use Rattle.pm_meaning.specs.FirstValues.{environment_value, is_filled, is_login, login_name};
@@ -10,23 +11,27 @@ ghost use Rattle.pm_meaning.specs.FirstValues.{program_values, file_values, all_
 
 use pm_bytes::{Blob, Environ, Memory, Name, Names};
 use pm_journal::HeldLocks;
-use pm_meaning::{Process, new_chain};
+use pm_machine::CommandLine;
+use pm_meaning::{Process, Stored, new_chain};
 use pm_message::Message;
 use pm_vars::Vars;
 use std::alloc::Global;
+use std::collections::VecDeque;
 
-/// A process that begins with these arguments and this mail.
+/// A process that begins with the arguments of this command line and this mail.
 pub fn begin(
     alloc: Global,
-    filter: bool,
-    arguments: &Names,
+    line: &CommandLine,
     env: &Environ,
     message: Message,
 ) -> Result<Process, Memory>
-    ensures { IfOk result (λ process. mind_of process ≡ first_process filter arguments.now env.now message) }
+    ensures mind { IfOk result (λ process. mind_of process
+        ≡ first_process line.now.filter line.now.fails_softly line.now.arguments env.now message) }
+    ensures locks { IfOk result (λ process. process.locks.names ≡ []) }
 {
+    let filter = line.filter;
     let mut vars = Vars::new(alloc, env.pid);
-    add_arguments(alloc, &mut vars, arguments)?;
+    add_arguments(alloc, &mut vars, &line.arguments)?;
     set_user(alloc, &mut vars, env)?;
     set_time_zone(alloc, &mut vars, env)?;
     set_place(alloc, &mut vars, filter, env)?;
@@ -37,6 +42,7 @@ pub fn begin(
     let host_name = env.host_name.copy(alloc)?;
     Ok(Process {
         filter,
+        fails_softly: line.fails_softly,
         message,
         vars,
         base,
@@ -47,6 +53,12 @@ pub fn begin(
         placed: 0,
         rcfile: Name::from_text(String::new(alloc)),
         openings: 0,
+        is_clone: false,
+        later: VecDeque::new(alloc),
+        stored: Stored {
+            folder: Blob::empty(alloc),
+            size: 0,
+        },
     })
 }
 
@@ -162,8 +174,10 @@ fn has_no_blank(name: &[u8]) -> bool
     name.iter().all(|byte| 33 <= *byte)
 }
 
-fn home(env: &Environ) -> &str
-    ensures { result.now ≡ home_folder env.now }
+/// The home folder: HOME of the environment, or the root.
+pub fn home(env: &Environ) -> &str
+    ensures same { result.now ≡ home_folder env.now }
+    ensures usable { has_zero result.now ≡ false }
 {
     match value_in_environment(env, b"HOME") {
         Some(folder) if !folder.as_str().is_empty() => folder.as_str(),

@@ -20,9 +20,9 @@ ghost use Rattle.pm_run.specs.Walk.{gate_turn};
 
 use crate::judging::{Come, come_to};
 use pm_actions::{
-    Expansion, expand_text, file_name, first_word, lock_rule, outputs_of, refuse, skip_value,
+    Expansion, expand_text, file_name, first_word, lock_rule, outputs_of, refuse, skip_value, tell,
 };
-use pm_acts::{Outside, say, take};
+use pm_acts::{Outside, take};
 use pm_bytes::{Blob, Memory, Name, full};
 use pm_journal::{Journal, LockEnd, couldnt_lock, forcing_lock, no_lock};
 use pm_meaning::{End, Process};
@@ -30,12 +30,14 @@ use pm_recipe::Recipe;
 use pm_subst::Mode;
 use std::alloc::Global;
 
-/// What comes of a recipe with a block: it is passed by, the process ends, or the block is entered under this lock.
+/// What comes of a recipe with a block: it is passed by, the process ends, the block is entered under this lock, or a copy
+/// of the process is wanted for it.
 #[derive(Drop)]
 pub enum Gate {
     Passes,
     Halts(End),
     Enters(Option<Name>),
+    Clones,
 }
 
 /// Comes to a recipe with a block.
@@ -69,7 +71,7 @@ fn gate_by(end: Option<End>) -> Gate
     }
 }
 
-// The block of a recipe that is executed. A copy of the process isn't built yet.
+// The block of a recipe that is executed. One for a copy of the process has no lock.
 fn enter_block<D: Outside>(
     alloc: Global,
     recipe: &Recipe,
@@ -84,7 +86,7 @@ fn enter_block<D: Outside>(
     ensures keeping { Keeping journal.new process.new.locks.names }
 {
     if recipe.flags.copy {
-        return Ok(Gate::Halts(End::NotBuilt));
+        return Ok(Gate::Clones);
     }
     match &recipe.lock {
         None => Ok(Gate::Enters(None)),
@@ -108,7 +110,7 @@ fn enter_under<D: Outside>(
 {
     if text.is_empty() {
         let line = no_lock(alloc, b"{")?;
-        say(&process.locks, line, outside, journal)?;
+        tell(alloc, process, line, outside, journal)?;
         return Ok(Gate::Enters(None));
     }
     let outputs = outputs_of(alloc, text, Mode::One, process, outside, journal)?;
@@ -219,7 +221,7 @@ fn tell_forced<D: Outside>(
         return Ok(Gate::Enters(Some(name)));
     }
     let line = forcing_lock(alloc, shown)?;
-    say(&process.locks, line, outside, journal)?;
+    tell(alloc, process, line, outside, journal)?;
     Ok(Gate::Enters(Some(name)))
 }
 
@@ -238,6 +240,6 @@ fn tell_not_got<D: Outside>(
     ensures keeping { Keeping journal.new process.now.locks.names }
 {
     let line = couldnt_lock(alloc, name)?;
-    say(&process.locks, line, outside, journal)?;
+    tell(alloc, process, line, outside, journal)?;
     Ok(Gate::Passes)
 }

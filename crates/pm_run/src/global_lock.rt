@@ -13,8 +13,8 @@ ghost use Rattle.pm_meaning.specs.Minds.{mind_of};
 ghost use Rattle.pm_meaning.specs.Turns.{GoesOn, say_then};
 ghost use Rattle.pm_actions.specs.Turning.{turn_of};
 
-use pm_actions::{file_name, is_stuck, lock_rule, refuse};
-use pm_acts::{Outside, give, say, take};
+use pm_actions::{file_name, is_stuck, lock_rule, refuse, tell};
+use pm_acts::{Outside, give, take};
 use pm_bytes::{Memory, Name, full};
 use pm_journal::{Journal, LockEnd, couldnt_lock, couldnt_unlock, forcing_lock};
 use pm_meaning::{End, Process};
@@ -105,7 +105,7 @@ fn give_held<D: Outside>(
     process.global = None;
     if is_stuck(removed) {
         let line = couldnt_unlock(alloc, name)?;
-        say(&process.locks, line, outside, journal)?;
+        tell(alloc, process, line, outside, journal)?;
     }
     Ok(())
 }
@@ -181,7 +181,7 @@ fn tell_forced<D: Outside>(
 {
     if forced > 0 {
         let line = forcing_lock(alloc, name)?;
-        say(&process.locks, line, outside, journal)?;
+        tell(alloc, process, line, outside, journal)?;
     }
     Ok(None)
 }
@@ -201,6 +201,6 @@ fn tell_not_got<D: Outside>(
     ensures keeping { Keeping journal.new process.now.locks.names }
 {
     let line = couldnt_lock(alloc, name)?;
-    say(&process.locks, line, outside, journal)?;
+    tell(alloc, process, line, outside, journal)?;
     Ok(None)
 }

@@ -16,8 +16,8 @@ ghost use Rattle.pm_actions.specs.Turning.{turn_of};
 ghost use Rattle.pm_run.specs.Coming.{ComesTo, is_matched as is_match};
 
 use crate::conditions::judge;
-use pm_actions::{perform, skip_value};
-use pm_acts::{Outside, say};
+use pm_actions::{perform, skip_value, tell};
+use pm_acts::Outside;
 use pm_bytes::{Blob, Memory};
 use pm_conds::Verdict;
 use pm_journal::{Journal, defective_condition};
@@ -129,7 +129,7 @@ fn tell_defect<D: Outside>(
     ensures keeping { Keeping journal.new process.now.locks.names }
 {
     let line = defective_condition(alloc, text.as_slice())?;
-    say(&process.locks, line, outside, journal)?;
+    tell(alloc, process, line, outside, journal)?;
     Ok(None)
 }
 

@@ -1,5 +1,5 @@
 //! Blocks that are left, and their locks.
-ghost use Rattle.std.specs.Prelude.{◌≡◌, ◌<◌, true, false, [], List, IfOk};
+ghost use Rattle.std.specs.Prelude.{◌≡◌, ◌<◌, ◌≤◌, true, false, [], List, IfOk};
 ghost use Rattle.pm_journal.specs.Executed.{Carries};
 ghost use Rattle.pm_journal.specs.Held.{Keeping, holds_name};
 ghost use Rattle.pm_journal.specs.Plan.{and_then, ask};
@@ -7,14 +7,14 @@ ghost use Rattle.pm_journal.specs.declared.acts.Act.TheVariants.{Unlock};
 ghost use Rattle.pm_meaning.specs.Blocks.{without_lock, give_block_lock as block_lock_given, give_maybe as maybe_given};
 ghost use Rattle.pm_meaning.specs.GlobalLock.{after_giving};
 ghost use Rattle.pm_meaning.specs.Minds.{mind_of};
-ghost use Rattle.pm_meaning.specs.Running.{Item, Running, LeavingFile, Leaving, Over};
-ghost use Rattle.pm_run.specs.Frames.{block_locks, all_locks, left_in};
+ghost use Rattle.pm_machine.specs.Running.{Item, Running, LeavingFile, Leaving, left_by};
+ghost use Rattle.pm_frames.specs.Frames.{block_locks, all_locks, left_in};
 ghost use Rattle.pm_run.specs.Stretches.{Walks};
 
-use crate::frames::{Open, RcFrame, Waiting};
-use pm_actions::is_stuck;
-use pm_acts::{Outside, give, say};
+use pm_actions::{is_stuck, tell};
+use pm_acts::{Outside, give};
 use pm_bytes::{Memory, Name};
+use pm_frames::{Open, RcFrame, Waiting};
 use pm_journal::{Journal, couldnt_unlock};
 use pm_meaning::{End, Process};
 use std::alloc::Global;
@@ -31,9 +31,11 @@ pub fn leave_blocks<D: Outside>(
 ) -> Result<(), Memory>
     requires keeping { Keeping journal.old process.old.locks.names }
     ensures walks { Walks (Leaving (all_locks frame.old) end (mind_of process.old))
-        (λ _. Over end (mind_of process.new)) result
+        (λ _. left_by end (mind_of process.new)) result
         journal.old journal.new (D.told outside.old) (D.told outside.new) }
     ensures keeping { Keeping journal.new process.new.locks.names }
+    ensures count { process.new.openings ≡ process.old.openings }
+    ensures left { left_in frame.new ≤ left_in frame.old }
 {
     loop {
         match frame.blocks.pop_front() {
@@ -54,6 +56,7 @@ pub fn leave_blocks<D: Outside>(
 fn come_out(frame: &mut RcFrame) -> bool
     requires { frame.old.blocks.items ≡ [] }
     ensures locks { all_locks frame.new ≡ all_locks frame.old }
+    ensures least { left_in frame.new ≤ left_in frame.old }
     ensures further { result ≡ true → left_in frame.new < left_in frame.old }
     ensures last { result ≡ false → all_locks frame.new ≡ [] }
 {
@@ -151,7 +154,7 @@ fn give_held<D: Outside>(
     let removed = give(&mut process.locks, name, outside, journal);
     if is_stuck(removed) {
         let line = couldnt_unlock(alloc, name)?;
-        say(&process.locks, line, outside, journal)?;
+        tell(alloc, process, line, outside, journal)?;
     }
     Ok(())
 }

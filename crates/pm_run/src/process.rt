@@ -1,44 +1,41 @@
-//! A whole process, from the mail's arrival to its end.
-ghost use Rattle.std.specs.Prelude.{◌≡◌, ◌≤◌, [], length, IfOk, OnErr};
-ghost use Rattle.pm_journal.specs.Executed.{Carries};
+//! A whole run, from the mail's arrival to the end of the last of its processes.
+ghost use Rattle.std.specs.Prelude.{◌≡◌, ◌≤◌, [], IfOk, OnErr};
 ghost use Rattle.pm_journal.specs.Held.{Keeping};
-ghost use Rattle.pm_journal.specs.Walking.{Go, Completes, Abandoned};
-ghost use Rattle.pm_recipe.specs.Listed.{rc_of};
-ghost use Rattle.pm_meaning.specs.Changes.{entered};
+ghost use Rattle.pm_journal.specs.Walking.{Stop, Completes, Abandoned};
+ghost use Rattle.pm_meaning.specs.FirstValues.{home_folder};
 ghost use Rattle.pm_meaning.specs.Minds.{mind_of};
-ghost use Rattle.pm_meaning.specs.Running.{Arrived, Running, Over, Closing, ahead, step};
-ghost use Rattle.pm_meaning.specs.Running.{unread};
-ghost use Rattle.pm_meaning.specs.declared.process.Ending.{Ending};
-ghost use Rattle.pm_run.specs.Ends.{opening, opened_next};
-ghost use Rattle.pm_run.specs.Frames.{items_of};
-ghost use Rattle.pm_run.specs.Stretches.{Walks};
+ghost use Rattle.pm_machine.specs.Courses.{advance, run_of};
+ghost use Rattle.pm_machine.specs.Running.{Running, Setting, Closing, home_by};
+ghost use Rattle.pm_machine.specs.declared.ending.Ending.{Ending};
+ghost use Rattle.pm_frames.specs.Frames.{items_of};
+ghost use Rattle.pm_run.specs.Ends.{copies_left};
+ghost use Rattle.pm_run.specs.Others.{next_in, GoesOn, GivesUp};
+ghost use Rattle.pm_run.specs.Stretches.{Proceeds, Walks};
 
+use crate::arriving::{arrive, begin_rcfiles};
+use crate::ends::close;
 use crate::falling_off::fall_off;
-use crate::first_values::{begin, login};
-use crate::frames::RcFrame;
-use crate::global_lock::give_lock;
-use crate::rcfiles::read_statements;
+use crate::opening::{Opened, begin_frame};
 use crate::walk::run_frame;
-use pm_acts::{Outside, ask_moment, give_all, read, say};
-use pm_bytes::{Blob, Environ, Memory, Name};
-use pm_code::compile;
-use pm_journal::{HeldLocks, Journal, couldnt_read};
-use pm_meaning::{CommandLine, End, Ending, Process};
-use pm_message::{needs_line, prepare, split};
-use pm_recipe::{Rc, Statements};
+use pm_acts::{Outside, give_all};
+use pm_bytes::{Blob, Environ, Memory};
+use pm_frames::{Copy, Queue, RcFrame, new_queue};
+use pm_journal::Journal;
+use pm_machine::{CommandLine, Ending};
+use pm_meaning::Process;
 use std::alloc::Global;
-use std::collections::VecDeque;
 
-// What came of opening an rcfile.
-#[derive(Drop)]
-enum Opened {
-    Read(Statements),
-    Ended(End),
+/// How many times a run has filed mail in a folder, or tried to, and how many rcfiles it has opened, or tried to.
+#[derive(Clone, Copy)]
+pub struct Counts {
+    pub placed: u64,
+    pub openings: u64,
 }
 
-/// Runs the process that delivers this mail. No lock is held afterwards, and after want of memory the removal of each
+/// Runs the process that delivers this mail, and then the copies of it that were made for blocks, one after the other.
+/// The answer is how the first process ended. No lock is held afterwards, and after want of memory the removal of each
 /// one that was held has been tried once.
-pub fn run_process<D: Outside>(
+pub fn run_processes<D: Outside>(
     alloc: Global,
     line: CommandLine,
     env: &Environ,
@@ -47,181 +44,142 @@ pub fn run_process<D: Outside>(
     journal: &mut Journal,
 ) -> Result<Ending, Memory>
     requires keeping { Keeping journal.old [] }
-    ensures ok { IfOk result (λ ending. Completes step (Arrived line env.now bytes) ending
+    ensures ok { IfOk result (λ ending. Completes advance (run_of line env.now bytes) ending
         journal.old journal.new (D.told outside.old) (D.told outside.new)) }
-    ensures memory { OnErr result (Abandoned {X = Ending} step (Arrived line env.now bytes)
+    ensures memory { OnErr result (Abandoned {X = Ending} advance (run_of line env.now bytes)
         journal.old journal.new (D.told outside.old) (D.told outside.new)) }
     ensures keeping { Keeping journal.new [] }
 {
     let mut process = arrive(alloc, &line, env, bytes.as_slice(), outside, journal)?;
     drop(bytes);
-    let CommandLine { rcfile, .. } = line;
-    let ended = run_to_end(alloc, rcfile, &mut process, outside, journal);
+    let mut queue = new_queue(alloc);
+    let ended = run_first(
+        alloc,
+        &line,
+        env,
+        &mut process,
+        &mut queue,
+        outside,
+        journal,
+    );
     give_all(&mut process.locks, outside, journal);
-    Ok(Ending { end: ended? })
+    let first = ended?;
+    let counts = counts_of(&process);
+    drop(process);
+    run_copies(alloc, first, counts, queue, outside, journal)
 }
 
-// The process that begins with this mail, which gets its From line.
-fn arrive<D: Outside>(
+fn counts_of(process: &Process) -> Counts
+    ensures placed { result.placed ≡ process.now.placed }
+    ensures openings { result.openings ≡ process.now.openings }
+{
+    Counts {
+        placed: process.placed,
+        openings: process.openings,
+    }
+}
+
+// The first process, from the words of the command line to its end.
+fn run_first<D: Outside>(
     alloc: Global,
     line: &CommandLine,
     env: &Environ,
-    bytes: &[u8],
+    process: &mut Process,
+    queue: &mut Queue,
     outside: &mut D,
     journal: &mut Journal,
-) -> Result<Process, Memory>
-    requires keeping { Keeping journal.old [] }
-    ensures carries { Carries (step (Arrived line.now env.now bytes.now))
-        (λ process. Go (opening line.now.rcfile (mind_of process)))
-        result journal.old journal.new (D.told outside.old) (D.told outside.new) }
-    ensures locks { IfOk result (λ process. process.locks.names ≡ []) }
-    ensures first { IfOk result (λ process. process.openings ≡ 0) }
-    ensures keeping { Keeping journal.new [] }
+) -> Result<Ending, Memory>
+    requires keeping { Keeping journal.old process.old.locks.names }
+    ensures proceeds { let home = home_by line.now.values (home_folder env.now) in
+        Proceeds queue.old queue.new (Setting line.now.values line.now home (mind_of process.old))
+        (λ ending. Closing ending (mind_of process.new)) result
+        journal.old journal.new (D.told outside.old) (D.told outside.new) }
+    ensures few { copies_left queue.new ≤ copies_left queue.old }
+    ensures keeping { Keeping journal.new process.new.locks.names }
 {
-    if !needs_line(bytes, &line.renew) {
-        let message = split(alloc, bytes)?;
-        return begin(alloc, line.filter, &line.arguments, env, message);
+    match begin_rcfiles(alloc, line, env, process, outside, journal)? {
+        Opened::Read(code) => {
+            let mut frame = begin_frame(alloc, code);
+            run_to_end(alloc, &mut frame, process, queue, outside, journal)
+        }
+        Opened::Ended(end) => close(alloc, end, process, outside, journal),
+        Opened::Nothing => close_without(alloc, process, outside, journal),
     }
-    let moment = ask_moment(&HeldLocks::new(alloc), outside, journal)?;
-    let message = prepare(alloc, bytes, &line.renew, login(env).as_bytes(), moment)?;
-    begin(alloc, line.filter, &line.arguments, env, message)
 }
 
-// The process from the opening of its rcfile on, up to where LOCKFILE's lock was given back.
+// A process of which nothing is left to do, from its default mailboxes to its end.
+fn close_without<D: Outside>(
+    alloc: Global,
+    process: &mut Process,
+    outside: &mut D,
+    journal: &mut Journal,
+) -> Result<Ending, Memory>
+    requires keeping { Keeping journal.old process.old.locks.names }
+    ensures walks { Walks (Running [] (mind_of process.old)) (λ ending. Closing ending (mind_of process.new)) result
+        journal.old journal.new (D.told outside.old) (D.told outside.new) }
+    ensures keeping { Keeping journal.new process.new.locks.names }
+{
+    let end = fall_off(alloc, process, outside, journal)?;
+    close(alloc, end, process, outside, journal)
+}
+
+// A process, from what is left of its rcfiles to its end.
 fn run_to_end<D: Outside>(
     alloc: Global,
-    name: Name,
+    frame: &mut RcFrame,
     process: &mut Process,
+    queue: &mut Queue,
     outside: &mut D,
     journal: &mut Journal,
-) -> Result<End, Memory>
-    requires first { process.old.openings ≡ 0 }
+) -> Result<Ending, Memory>
     requires keeping { Keeping journal.old process.old.locks.names }
-    ensures walks { Walks (opening name (mind_of process.old)) (λ end. Closing end (mind_of process.new)) result
+    ensures proceeds { Proceeds queue.old queue.new (Running (items_of frame.old) (mind_of process.old))
+        (λ ending. Closing ending (mind_of process.new)) result
         journal.old journal.new (D.told outside.old) (D.told outside.new) }
+    ensures few { copies_left queue.new ≤ copies_left queue.old }
     ensures keeping { Keeping journal.new process.new.locks.names }
 {
-    let end = run_rcfile(alloc, name, process, outside, journal)?;
-    give_lock(alloc, process, outside, journal)?;
-    Ok(end)
+    match run_frame(alloc, frame, process, queue, outside, journal)? {
+        Some(end) => close(alloc, end, process, outside, journal),
+        None => close_without(alloc, process, outside, journal),
+    }
 }
 
-// The process from the opening of its rcfile on.
-fn run_rcfile<D: Outside>(
+// The copies, one after the other, each from its block on.
+fn run_copies<D: Outside>(
     alloc: Global,
-    name: Name,
-    process: &mut Process,
+    first: Ending,
+    counts: Counts,
+    mut queue: Queue,
     outside: &mut D,
     journal: &mut Journal,
-) -> Result<End, Memory>
-    requires first { process.old.openings ≡ 0 }
-    requires keeping { Keeping journal.old process.old.locks.names }
-    ensures walks { Walks (opening name (mind_of process.old)) (λ end. Over end (mind_of process.new)) result
-        journal.old journal.new (D.told outside.old) (D.told outside.new) }
-    ensures keeping { Keeping journal.new process.new.locks.names }
+) -> Result<Ending, Memory>
+    requires keeping { Keeping journal.old [] }
+    ensures ok { IfOk result (λ ending. GoesOn (next_in queue first counts) (Stop ending)
+        journal.old journal.new (D.told outside.old) (D.told outside.new)) }
+    ensures memory { OnErr result (GivesUp (next_in queue first counts)
+        journal.old journal.new (D.told outside.old) (D.told outside.new)) }
+    ensures keeping { Keeping journal.new [] }
 {
-    match open_rcfile(alloc, name, process, outside, journal)? {
-        Opened::Ended(end) => Ok(end),
-        Opened::Read(statements) => run_rest(alloc, statements, process, outside, journal),
+    let mut counted = counts;
+    while let Some(copy) = queue.copies.pop_front() {
+        let Copy {
+            mut frame,
+            mut process,
+        } = copy;
+        process.placed = counted.placed;
+        process.openings = counted.openings;
+        let ended = run_to_end(
+            alloc,
+            &mut frame,
+            &mut process,
+            &mut queue,
+            outside,
+            journal,
+        );
+        give_all(&mut process.locks, outside, journal);
+        ended?;
+        counted = counts_of(&process);
     }
-}
-
-// The statements, and what comes where none of them ends the process.
-fn run_rest<D: Outside>(
-    alloc: Global,
-    statements: Statements,
-    process: &mut Process,
-    outside: &mut D,
-    journal: &mut Journal,
-) -> Result<End, Memory>
-    requires keeping { Keeping journal.old process.old.locks.names }
-    ensures walks { Walks (Running (ahead statements []) (mind_of process.old))
-        (λ end. Over end (mind_of process.new)) result
-        journal.old journal.new (D.told outside.old) (D.told outside.new) }
-    ensures keeping { Keeping journal.new process.new.locks.names }
-{
-    let mut frame = begin_frame(alloc, statements)?;
-    match run_frame(alloc, &mut frame, process, outside, journal)? {
-        Some(end) => Ok(end),
-        None => fall_off(alloc, process, outside, journal),
-    }
-}
-
-// The rcfile of these statements, with all of it left.
-fn begin_frame(alloc: Global, statements: Statements) -> Result<RcFrame, Memory>
-    ensures { IfOk result (λ frame. items_of frame ≡ ahead statements []) }
-{
-    let rc = Rc { statements };
-    let code = compile(alloc, &rc)?;
-    Ok(RcFrame {
-        code,
-        place: 0,
-        blocks: VecDeque::new(alloc),
-        outer: VecDeque::new(alloc),
-    })
-}
-
-// Reads the rcfile.
-fn open_rcfile<D: Outside>(
-    alloc: Global,
-    name: Name,
-    process: &mut Process,
-    outside: &mut D,
-    journal: &mut Journal,
-) -> Result<Opened, Memory>
-    requires first { process.old.openings ≡ 0 }
-    requires keeping { Keeping journal.old process.old.locks.names }
-    ensures carries { Carries (step (opening name (mind_of process.old)))
-        (λ opened. opened_next opened (mind_of process.new)) result
-        journal.old journal.new (D.told outside.old) (D.told outside.new) }
-    ensures keeping { Keeping journal.new process.new.locks.names }
-{
-    let shown = name.copy(alloc)?;
-    process.openings = 1;
-    match read(alloc, &process.locks, name, outside, journal)? {
-        Some(rc) => {
-            let statements = read_statements(alloc, rc.as_slice())?;
-            enter(alloc, &shown, process)?;
-            Ok(Opened::Read(statements))
-        }
-        None => miss_rcfile(alloc, &shown, process, outside, journal),
-    }
-}
-
-// The rcfile has this name; one of the working folder is run from there.
-fn enter(alloc: Global, name: &Name, process: &mut Process) -> Result<(), Memory>
-    ensures ok { IfOk result (λ _. mind_of process.new ≡ entered name.now (mind_of process.old)) }
-    ensures locks { process.new.locks ≡ process.old.locks }
-{
-    process.vars.set_rcfile(name)?;
-    process.rcfile = name.copy(alloc)?;
-    if !name.as_str().as_bytes().starts_with(b"./") {
-        return Ok(());
-    }
-    let folder = Blob::from_slice(alloc, b".")?;
-    process.vars.set(b"MAILDIR", folder)?;
-    process.base = Name::from_text(String::from_str(alloc, ".")?);
-    Ok(())
-}
-
-// The rcfile wasn't read: a mail filter ends at once.
-fn miss_rcfile<D: Outside>(
-    alloc: Global,
-    name: &Name,
-    process: &Process,
-    outside: &mut D,
-    journal: &mut Journal,
-) -> Result<Opened, Memory>
-    requires keeping { Keeping journal.old process.now.locks.names }
-    ensures carries { Carries (unread name.now [] (mind_of process.now))
-        (λ opened. opened_next opened (mind_of process.now)) result
-        journal.old journal.new (D.told outside.old) (D.told outside.new) }
-    ensures keeping { Keeping journal.new process.now.locks.names }
-{
-    if process.filter {
-        return Ok(Opened::Ended(End::NoRc));
-    }
-    let line = couldnt_read(alloc, name)?;
-    say(&process.locks, line, outside, journal)?;
-    Ok(Opened::Read(Statements::new(alloc)))
+    Ok(first)
 }

@@ -11,19 +11,19 @@ ghost use Rattle.pm_recipe.specs.Tree.{Trees};
 ghost use Rattle.pm_meaning.specs.Blocks.{begun_block};
 ghost use Rattle.pm_meaning.specs.Changes.{with_rcfile};
 ghost use Rattle.pm_meaning.specs.Minds.{mind_of};
-ghost use Rattle.pm_meaning.specs.Running.{State, Item, Running, Including, Switching, LeavingFile, ahead};
-ghost use Rattle.pm_meaning.specs.Running.{Reading, open_rcfile, with_statements};
+ghost use Rattle.pm_machine.specs.Running.{State, Item, Running, Including, Switching, LeavingFile, ahead};
+ghost use Rattle.pm_machine.specs.Running.{Event, Reading, open_rcfile, with_statements};
 ghost use Rattle.pm_meaning.specs.Turns.{say_then};
-ghost use Rattle.pm_meaning.specs.declared.process.Ending.{Ending};
-ghost use Rattle.pm_run.specs.Frames.{items_of, outer_items, block_locks, left_over};
+ghost use Rattle.pm_frames.specs.Frames.{items_of, outer_items, block_locks, left_over};
 ghost use Rattle.pm_run.specs.Rcfiles.{GoesInto, HasCode, Opens, ReadsCode, TakesPlace};
 ghost use Rattle.pm_run.specs.Stretches.{Walks};
 
-use crate::frames::{RcFrame, Waiting};
 use crate::leaving::leave_file;
-use pm_acts::{Outside, read, say};
+use pm_actions::tell;
+use pm_acts::{Outside, read};
 use pm_bytes::{Memory, Name};
 use pm_code::{Code, compile};
+use pm_frames::{RcFrame, Waiting};
 use pm_journal::{Journal, couldnt_read, too_many_rcfiles};
 use pm_meaning::{Process, new_chain};
 use pm_recipe::{Rc, RcRefused, Statements, one_rc, read_rc};
@@ -253,7 +253,7 @@ fn tell_many<D: Outside>(
     journal: &mut Journal,
 ) -> Result<Option<Code>, Memory>
     requires keeping { Keeping journal.old process.now.locks.names }
-    ensures carries { (next : Next State Ending) →
+    ensures carries { (next : Next State Event) →
         Carries (say_then (mind_of process.now) (too_many_rcfiles_line name.now) next) (λ _. next) result
         journal.old journal.new (D.told outside.old) (D.told outside.new) }
     ensures none { IfOk result (λ code. code ≡ None) }
@@ -261,7 +261,7 @@ fn tell_many<D: Outside>(
 {
     match too_many_rcfiles(alloc, name) {
         Err(Memory) => Err(Memory),
-        Ok(line) => match say(&process.locks, line, outside, journal) {
+        Ok(line) => match tell(alloc, process, line, outside, journal) {
             Err(Memory) => Err(Memory),
             Ok(()) => Ok(None),
         },
@@ -277,7 +277,7 @@ fn tell_unread<D: Outside>(
     journal: &mut Journal,
 ) -> Result<Option<Code>, Memory>
     requires keeping { Keeping journal.old process.now.locks.names }
-    ensures carries { (next : Next State Ending) →
+    ensures carries { (next : Next State Event) →
         Carries (say_then (mind_of process.now) (couldnt_read_line name.now) next) (λ _. next) result
         journal.old journal.new (D.told outside.old) (D.told outside.new) }
     ensures none { IfOk result (λ code. code ≡ None) }
@@ -285,7 +285,7 @@ fn tell_unread<D: Outside>(
 {
     match couldnt_read(alloc, name) {
         Err(Memory) => Err(Memory),
-        Ok(line) => match say(&process.locks, line, outside, journal) {
+        Ok(line) => match tell(alloc, process, line, outside, journal) {
             Err(Memory) => Err(Memory),
             Ok(()) => Ok(None),
         },

@@ -12,7 +12,8 @@ ghost use Rattle.pm_run.specs.Walk.{plan_of};
 use crate::assigning::{assign_text, unset_variable};
 use crate::judging::run_recipe;
 use crate::turned::{Turned, turned_by};
-use pm_acts::{Outside, say};
+use pm_actions::tell;
+use pm_acts::Outside;
 use pm_bytes::Memory;
 use pm_code::Step;
 use pm_journal::{Journal, skipped};
@@ -71,6 +72,6 @@ fn skip_line<D: Outside>(
     ensures keeping { Keeping journal.new process.now.locks.names }
 {
     let line = skipped(alloc, text)?;
-    say(&process.locks, line, outside, journal)?;
+    tell(alloc, process, line, outside, journal)?;
     Ok(None)
 }

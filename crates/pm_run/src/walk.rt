@@ -3,27 +3,31 @@ ghost use Rattle.std.specs.Prelude.{◌≡◌, ◌<◌, ◌≤◌, ◌+◌, [], 
 ghost use Rattle.pm_code.specs.Flat.{flats_of};
 ghost use Rattle.pm_journal.specs.Held.{Keeping};
 ghost use Rattle.pm_meaning.specs.Minds.{mind_of};
-ghost use Rattle.pm_meaning.specs.Running.{Running};
-ghost use Rattle.pm_run.specs.Ends.{stands_at};
-ghost use Rattle.pm_run.specs.Frames.{items_of, steps_of, left_over};
-ghost use Rattle.pm_run.specs.Stretches.{Walks};
-ghost use Rattle.pm_run.specs.Walk.{stands, less_by, IsStepAt, EndsAt, Entered, ComesBack, stepped_of};
+ghost use Rattle.pm_machine.specs.Running.{Running, Leaving};
+ghost use Rattle.pm_run.specs.Ends.{stands_at, halted, copies_left};
+ghost use Rattle.pm_run.specs.declared.opening.Halted.TheVariants.{Resumes};
+ghost use Rattle.pm_frames.specs.Frames.{items_of, steps_of, left_over, all_locks};
+ghost use Rattle.pm_run.specs.Stretches.{Walks, Proceeds};
+ghost use Rattle.pm_run.specs.Walk.{stands, less_by, IsStepAt, EndsAt, Entered, ComesBack, IsBehind, stepped_of};
 
-use crate::frames::{Open, RcFrame, Waiting};
+use crate::cloning::make_clone;
 use crate::gates::{Gate, pass_gate};
 use crate::leaving::{give_maybe, leave_blocks};
+use crate::opening::{Halted, open_later};
 use crate::rcfiles::{end_file, include, switch};
 use crate::statements::run_statement;
 use crate::turned::Turned;
 use pm_acts::Outside;
 use pm_bytes::{Memory, Name};
 use pm_code::Step;
+use pm_frames::{Open, Queue, RcFrame, Waiting};
 use pm_journal::Journal;
 use pm_meaning::{End, Process, new_chain, succeed};
 use std::alloc::Global;
 
 /// What comes of an item: the next one, the process's end, nothing that is left, another rcfile before the next item or
-/// in the place of the current one, or the end of that one.
+/// in the place of the current one, the end of that one, or a copy of the process for the block whose first statement
+/// stands at this place.
 #[derive(Drop)]
 pub enum Stepped {
     Went,
@@ -32,6 +36,7 @@ pub enum Stepped {
     Includes(Name),
     Switches(Name),
     EndsFile,
+    Clones(usize),
 }
 
 /// Runs what is left of the rcfiles, up to the process's end, if a statement ends it. Then the open blocks are left.
@@ -39,27 +44,57 @@ pub fn run_frame<D: Outside>(
     alloc: Global,
     frame: &mut RcFrame,
     process: &mut Process,
+    queue: &mut Queue,
     outside: &mut D,
     journal: &mut Journal,
 ) -> Result<Option<End>, Memory>
     requires keeping { Keeping journal.old process.old.locks.names }
-    ensures walks { Walks (Running (items_of frame.old) (mind_of process.old))
+    ensures proceeds { Proceeds queue.old queue.new (Running (items_of frame.old) (mind_of process.old))
         (λ end. stands_at end (mind_of process.new)) result
         journal.old journal.new (D.told outside.old) (D.told outside.new) }
+    ensures few { copies_left queue.new ≤ copies_left queue.old }
     ensures keeping { Keeping journal.new process.new.locks.names }
 {
     loop {
         match step_frame(alloc, frame, process, outside, journal)? {
             Stepped::Went => {}
             Stepped::Over => return Ok(None),
-            Stepped::Halts(end) => {
-                leave_blocks(alloc, frame, end, process, outside, journal)?;
-                return Ok(Some(end));
-            }
+            Stepped::Halts(end) => match halt(alloc, end, frame, process, outside, journal)? {
+                Halted::Over(end) => return Ok(end),
+                Halted::Resumes => {}
+            },
             Stepped::Includes(name) => include(alloc, name, frame, process, outside, journal)?,
             Stepped::Switches(name) => switch(alloc, name, frame, process, outside, journal)?,
             Stepped::EndsFile => end_file(alloc, frame, process, outside, journal)?,
+            Stepped::Clones(place) => {
+                make_clone(alloc, place, frame, process, queue, outside, journal)?;
+            }
         }
+    }
+}
+
+// Leaves all blocks of a process that a statement ends. On another host the next rcfile of the command line takes the
+// place of the others, where one can be read.
+fn halt<D: Outside>(
+    alloc: Global,
+    end: End,
+    frame: &mut RcFrame,
+    process: &mut Process,
+    outside: &mut D,
+    journal: &mut Journal,
+) -> Result<Halted, Memory>
+    requires keeping { Keeping journal.old process.old.locks.names }
+    ensures walks { Walks (Leaving (all_locks frame.old) end (mind_of process.old))
+        (λ way. halted way frame.new (mind_of process.new)) result
+        journal.old journal.new (D.told outside.old) (D.told outside.new) }
+    ensures keeping { Keeping journal.new process.new.locks.names }
+    ensures falls { IfOk result (λ way. way ≡ Resumes →
+        left_over process.new.openings frame.new + 1 ≤ left_over process.old.openings frame.old) }
+{
+    leave_blocks(alloc, frame, end, process, outside, journal)?;
+    match end {
+        End::HostOff => open_later(alloc, frame, process, outside, journal),
+        _ => Ok(Halted::Over(Some(end))),
     }
 }
 
@@ -78,6 +113,7 @@ fn step_frame<D: Outside>(
     ensures keeping { Keeping journal.new process.new.locks.names }
     ensures falls { IfOk result (λ stepped. left_over process.new.openings frame.new + less_by stepped
         ≤ left_over process.old.openings frame.old) }
+    ensures behind { IfOk result (λ stepped. IsBehind stepped frame.new) }
 {
     let opened = process.openings;
     match step_at(&frame.code.steps, frame.place) {
@@ -144,6 +180,11 @@ fn enter_block(
             Ok(Stepped::Went)
         }
         Gate::Halts(end) => Ok(Stepped::Halts(end)),
+        Gate::Clones => {
+            let place = frame.place + 1;
+            frame.place = behind;
+            Ok(Stepped::Clones(place))
+        }
         Gate::Enters(lock) => {
             let saved = process.chain;
             frame.blocks.push_front(Open { saved, lock })?;
@@ -171,6 +212,7 @@ fn end_innermost<D: Outside>(
     ensures keeping { Keeping journal.new process.new.locks.names }
     ensures falls { IfOk result (λ stepped. left_over process.new.openings frame.new + less_by stepped
         ≤ left_over process.old.openings frame.old) }
+    ensures behind { IfOk result (λ stepped. IsBehind stepped frame.new) }
 {
     match frame.blocks.pop_front() {
         None => come_back(frame, process),

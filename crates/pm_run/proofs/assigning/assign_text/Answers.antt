@@ -1,26 +1,21 @@
-use Rattle.std.proofs.Common.{rules, sym, ap, ◌∙◌}
+use Rattle.std.proofs.Common.{rules, ap}
 use Rattle.pm_journal.proofs.WantsMemory.{on_err, out_front}
 use Rattle.pm_subst.specs.Commands.{commands_in}
 use Rattle.pm_subst.specs.declared.kinds.Mode.TheVariants.{One}
-use Rattle.pm_meaning.specs.Assigning.{assign, assign_with}
+use Rattle.pm_meaning.specs.Assigning.{assign_with}
 use Rattle.pm_meaning.specs.Minds.{mind_of}
 use Rattle.pm_meaning.specs.Outputs.{outputs_with, outputs_of}
 use Rattle.pm_actions.proofs.DeliverLemmas.{carried}
-use Rattle.pm_actions.proofs.Sequences.{then_carries, out_same}
-use Rattle.pm_run.proofs.AssignLemmas.{given, assignment_waits, commands_first}
+use Rattle.pm_actions.proofs.Sequences.{then_carries}
+use Rattle.pm_run.proofs.AssignLemmas.{given}
 use Rattle.pm_run.proofs.assigning.assign_text.Goals as goal
-
-pub returns-then-is_later_name-clause-carries : goal.returns-then-is_later_name-clause-carries
-returns-then-is_later_name-clause-carries g c =
-    (assignment_waits c.args.name.now c.args.text.now (mind_of c.args.process.now) _ _ (sym c.is_later_name.ensures ∙ c.if-is_later_name.true), tt)
 
 pub returns-in_err-outputs-clause-carries : goal.returns-in_err-outputs-clause-carries
 returns-in_err-outputs-clause-carries g c =
     let p = mind_of c.args.process.now in
     let name = c.args.name.now in
     let text = c.args.text.now in
-    let same = commands_first name text p (sym c.is_later_name.ensures ∙ c.if-is_later_name.false) in
-    (search rules, on_err _ _ (out_same _ (assign name text p) _ _ _ _ same (out_front (outputs_of (commands_in One text) p) (given name text) _ _ _ _ c.in_err-outputs.ensures.carries.1)))
+    (search rules, on_err _ _ (out_front (outputs_of (commands_in One text) p) (given name text) _ _ _ _ c.in_err-outputs.ensures.carries.1))
 
 pub returns-clause-carries : goal.returns-clause-carries
 returns-clause-carries g c =
@@ -28,6 +23,4 @@ returns-clause-carries g c =
     let name = c.args.name.now in
     let text = c.args.text.now in
     let ran = outputs_with c.in_ok-outputs.outputs.items (mind_of c.outputs_of.new.process) in
-    let same = commands_first name text p (sym c.is_later_name.ensures ∙ c.if-is_later_name.false) in
-    carried _ (assign name text p) _ _ _ _ _ _ same
-    (then_carries (outputs_of (commands_in One text) p) (given name text) ran _ _ _ _ _ _ _ _ c.in_ok-outputs.ensures.carries.0 (carried _ (given name text ran) _ _ _ _ _ _ (ap (λ l. assign_with name text l ran.mind) c.as_slice.ensures.value) c.assign_expanded.ensures.carries))
+    then_carries (outputs_of (commands_in One text) p) (given name text) ran _ _ _ _ _ _ _ _ c.in_ok-outputs.ensures.carries.0 (carried _ (given name text ran) _ _ _ _ _ _ (ap (λ l. assign_with name text l ran.mind) c.as_slice.ensures.value) c.assign_expanded.ensures.carries)

@@ -29,4 +29,4 @@ pub returns-clause-carries : goal.returns-clause-carries
 returns-clause-carries g c =
     let p = mind_of c.args.process.now in
     let same = set_otherwise c.args.name.now c.args.value c.as_slice-else-is_lockfile.result.now p _ (sym c.is_maildir.ensures ∙ c.if-is_maildir.false) (sym c.is_lockfile.ensures ∙ c.if-is_lockfile.false) (c.as_slice-else-is_lockfile.ensures ∙ c.in_ok-copy.ensures) (set_then c.args.name.now c.args.value p _ c.in_ok-set.ensures.ok) in
-    carried _ (assigned c.args.name.now c.args.value p) _ _ _ _ _ _ same c.change_rcfile.ensures.carries
+    carried _ (assigned c.args.name.now c.args.value p) _ _ _ _ _ _ same c.change_other.ensures.carries

@@ -11,10 +11,10 @@ returns-then-is_own_name-clause-carries g c =
 pub returns-in_err-line-clause-carries : goal.returns-in_err-line-clause-carries
 returns-in_err-line-clause-carries g c = (search rules, on_err _ _ (out_anywhere _ _ _ _ refl))
 
-pub returns-in_err-say-clause-carries : goal.returns-in_err-say-clause-carries
-returns-in_err-say-clause-carries g c =
-    (search rules, on_err _ _ (host_out c.args.value.now _ (mind_of c.args.process.now) _ _ _ _ (sym c.is_own_name.ensures ∙ c.if-is_own_name.false) c.in_ok-line.ensures c.in_err-say.ensures.memory))
+pub returns-in_err-tell-clause-carries : goal.returns-in_err-tell-clause-carries
+returns-in_err-tell-clause-carries g c =
+    (search rules, on_err _ _ (host_out c.args.value.now _ (mind_of c.args.process.now) _ _ _ _ (sym c.is_own_name.ensures ∙ c.if-is_own_name.false) c.in_ok-line.ensures c.in_err-tell.ensures.carries.1))
 
 pub returns-clause-carries : goal.returns-clause-carries
 returns-clause-carries g c =
-    (host_told c.args.value.now _ (mind_of c.args.process.now) _ _ _ _ (sym c.is_own_name.ensures ∙ c.if-is_own_name.false) c.in_ok-line.ensures c.in_ok-say.ensures.ok, tt)
+    (host_told c.args.value.now _ (mind_of c.args.process.now) _ _ _ _ (sym c.is_own_name.ensures ∙ c.if-is_own_name.false) c.in_ok-line.ensures c.in_ok-tell.ensures.carries.0, tt)

@@ -14,21 +14,21 @@ returns-in_err-probe-clause-carries g c =
 
 pub returns-in_err-line-in_default : goal.returns-in_err-line-in_default
 returns-in_err-line-in_default g c = record {
-  carries = (search rules, on_err _ _ (probed_only _ _ _ _ _ _ _ c.in_ok-probe.ensures.carries.0));
+  carries = (search rules, on_err _ _ (probed_only c.args.name (mind_of c.args.process.now) _ _ _ _ _ c.in_ok-probe.ensures.carries.0));
   keeping = c.probe.ensures.keeping;
 }
 
-pub returns-in_err-say-in_default : goal.returns-in_err-say-in_default
-returns-in_err-say-in_default g c = record {
+pub returns-in_err-tell-in_default : goal.returns-in_err-tell-in_default
+returns-in_err-tell-in_default g c = record {
   carries = (
     search rules,
-    on_err _ _ (folder_untold _ _ _ _ _ c.args.journal.now c.probe.new.journal c.say.new.journal _ _ _ c.in_default.not-Folder c.in_ok-folder.ensures c.in_ok-line-in_default.ensures c.in_ok-probe.ensures.carries.0 c.in_err-say-in_default.ensures.memory),
+    on_err _ _ (folder_untold c.args.name _ _ (mind_of c.args.process.now) _ c.args.journal.now c.probe.new.journal c.tell.new.journal _ _ _ c.in_default.not-Folder c.in_ok-folder.ensures c.in_ok-line-in_default.ensures c.in_ok-probe.ensures.carries.0 c.in_err-tell-in_default.ensures.carries.1),
   );
-  keeping = c.say.ensures.keeping;
+  keeping = c.tell.ensures.keeping;
 }
 
-pub returns-in_ok-say-in_default : goal.returns-in_ok-say-in_default
-returns-in_ok-say-in_default g c = record {
-  carries = (folder_missed _ _ _ _ _ c.args.journal.now c.probe.new.journal c.say.new.journal _ _ _ c.in_default.not-Folder c.in_ok-folder.ensures c.in_ok-line-in_default.ensures c.in_ok-probe.ensures.carries.0 c.in_ok-say-in_default.ensures.ok, tt);
-  keeping = c.say.ensures.keeping;
+pub returns-in_ok-tell-in_default : goal.returns-in_ok-tell-in_default
+returns-in_ok-tell-in_default g c = record {
+  carries = (folder_missed c.args.name _ _ (mind_of c.args.process.now) _ c.args.journal.now c.probe.new.journal c.tell.new.journal _ _ _ c.in_default.not-Folder c.in_ok-folder.ensures c.in_ok-line-in_default.ensures c.in_ok-probe.ensures.carries.0 c.in_ok-tell-in_default.ensures.carries.0, tt);
+  keeping = c.tell.ensures.keeping;
 }

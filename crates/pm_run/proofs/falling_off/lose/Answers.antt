@@ -3,8 +3,7 @@ use Rattle.pm_journal.specs.LogText.{no_delivery_line}
 use Rattle.pm_journal.specs.Walking.{Next, Go}
 use Rattle.pm_journal.proofs.WantsMemory.{on_err, out_anywhere}
 use Rattle.pm_meaning.specs.Minds.{mind_of}
-use Rattle.pm_meaning.specs.Running.{State, FallingOff, Over, step}
-use Rattle.pm_meaning.specs.declared.process.Ending.{Ending}
+use Rattle.pm_machine.specs.Running.{State, Event, FallingOff, Over, step}
 use Rattle.pm_meaning.specs.declared.process.End.TheVariants.{FellOff}
 use Rattle.pm_actions.proofs.Choices.{line_told, line_out}
 use Rattle.pm_run.proofs.falling_off.lose.Goals as goal
@@ -12,14 +11,14 @@ use Rattle.pm_run.proofs.falling_off.lose.Goals as goal
 pub returns-in_err-line-clause-carries : goal.returns-in_err-line-clause-carries
 returns-in_err-line-clause-carries g c = (search rules, on_err _ _ (out_anywhere (step (FallingOff [] (mind_of c.args.process.now))) _ _ _ refl))
 
-pub returns-in_err-say-clause-carries : goal.returns-in_err-say-clause-carries
-returns-in_err-say-clause-carries g c =
+pub returns-in_err-tell-clause-carries : goal.returns-in_err-tell-clause-carries
+returns-in_err-tell-clause-carries g c =
     let p = mind_of c.args.process.now in
-    let next : Next State Ending = Go (Over FellOff p) in
-    (search rules, on_err _ _ (line_out p no_delivery_line _ next _ _ _ _ c.in_ok-line.ensures c.in_err-say.ensures.memory))
+    let next : Next State Event = Go (Over FellOff p) in
+    (search rules, on_err _ _ (line_out p no_delivery_line _ next _ _ _ _ c.in_ok-line.ensures c.in_err-tell.ensures.carries.1))
 
 pub returns-clause-carries : goal.returns-clause-carries
 returns-clause-carries g c =
     let p = mind_of c.args.process.now in
-    let next : Next State Ending = Go (Over FellOff p) in
-    (line_told p no_delivery_line _ next _ _ _ _ c.in_ok-line.ensures c.in_ok-say.ensures.ok, tt)
+    let next : Next State Event = Go (Over FellOff p) in
+    (line_told p no_delivery_line _ next _ _ _ _ c.in_ok-line.ensures c.in_ok-tell.ensures.carries.0, tt)

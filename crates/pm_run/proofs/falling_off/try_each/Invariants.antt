@@ -2,13 +2,12 @@ use Rattle.std.proofs.Common.{length}
 use Rattle.pm_journal.specs.Held.{Keeping}
 use Rattle.pm_journal.specs.Walking.{Reaches}
 use Rattle.pm_meaning.specs.Minds.{mind_of}
-use Rattle.pm_meaning.specs.Running.{FallingOff, step}
-use Rattle.pm_meaning.specs.declared.process.Ending.{Ending}
+use Rattle.pm_machine.specs.Running.{FallingOff, Event, step}
 use Rattle.pm_run.proofs.falling_off.try_each.Given as goal
 
 abbrev pub invariant-loop-mailbox : goal.invariant-loop-mailbox
 invariant-loop-mailbox g l = record {
-  reaches : Reaches {X = Ending} step (FallingOff l.fn.mailboxes.items (mind_of l.fn.process)) (FallingOff l.mailboxes.items (mind_of l.process)) l.fn.journal l.journal (g.D.Outside.told l.fn.outside) (g.D.Outside.told l.outside);
+  reaches : Reaches {X = Event} step (FallingOff l.fn.mailboxes.items (mind_of l.fn.process)) (FallingOff l.mailboxes.items (mind_of l.process)) l.fn.journal l.journal (g.D.Outside.told l.fn.outside) (g.D.Outside.told l.outside);
   keeping : Keeping l.journal l.process.locks.names;
 }
 

@@ -1,8 +1,7 @@
 use Rattle.std.proofs.Common.{None, Some, ap, ◌∙◌}
 use Rattle.pm_meaning.specs.Blocks.{enter_under, enter_block}
 use Rattle.pm_meaning.specs.Minds.{mind_of}
-use Rattle.pm_meaning.specs.Turns.{Halts, Enters}
-use Rattle.pm_meaning.specs.declared.process.End.TheVariants.{NotBuilt}
+use Rattle.pm_meaning.specs.Turns.{Enters, Clones}
 use Rattle.pm_actions.specs.Names.{top_of}
 use Rattle.pm_actions.proofs.DeliverLemmas.{carried}
 use Rattle.pm_run.proofs.GateLemmas.{at_end, copies, enters}
@@ -12,7 +11,7 @@ pub returns-then-recipe-clause-carries : goal.returns-then-recipe-clause-carries
 returns-then-recipe-clause-carries g c =
     let p = mind_of c.args.process.now in
     let top = top_of c.args.recipe.now in
-    (at_end (enter_block top p) (Halts NotBuilt p) _ _ (copies top p c.if-recipe.true), tt)
+    (at_end (enter_block top p) (Clones p) _ _ (copies top p c.if-recipe.true), tt)
 
 pub returns-in-None-clause-carries : goal.returns-in-None-clause-carries
 returns-in-None-clause-carries g c =

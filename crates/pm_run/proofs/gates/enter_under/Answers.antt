@@ -18,19 +18,19 @@ use Rattle.pm_run.proofs.gates.enter_under.Goals as goal
 pub returns-in_err-line-clause-carries : goal.returns-in_err-line-clause-carries
 returns-in_err-line-clause-carries g c = (search rules, on_err _ _ (out_anywhere _ _ _ _ refl))
 
-pub returns-in_err-say-clause-carries : goal.returns-in_err-say-clause-carries
-returns-in_err-say-clause-carries g c =
+pub returns-in_err-tell-clause-carries : goal.returns-in_err-tell-clause-carries
+returns-in_err-tell-clause-carries g c =
     let p = mind_of c.args.process.now in
     let text = c.args.text.now in
     let e : is_empty text ≡ true = search rules in
-    (search rules, on_err _ _ (gate_out _ (enter_under text p) _ _ _ _ (no_text text p e) (line_out p (no_lock_line (codes "{")) _ (Enters None p) _ _ _ _ c.in_ok-line.ensures c.in_err-say.ensures.memory)))
+    (search rules, on_err _ _ (gate_out _ (enter_under text p) _ _ _ _ (no_text text p e) (line_out p (no_lock_line (codes "{")) _ (Enters None p) _ _ _ _ c.in_ok-line.ensures c.in_err-tell.ensures.carries.1)))
 
 pub returns-then-is_empty-clause-carries : goal.returns-then-is_empty-clause-carries
 returns-then-is_empty-clause-carries g c =
     let p = mind_of c.args.process.now in
     let text = c.args.text.now in
     let e : is_empty text ≡ true = search rules in
-    (gate_in _ (enter_under text p) (Enters None p) _ _ _ _ (no_text text p e) (line_told p (no_lock_line (codes "{")) _ (Enters None p) _ _ _ _ c.in_ok-line.ensures c.in_ok-say.ensures.ok), tt)
+    (gate_in _ (enter_under text p) (Enters None p) _ _ _ _ (no_text text p e) (line_told p (no_lock_line (codes "{")) _ (Enters None p) _ _ _ _ c.in_ok-line.ensures c.in_ok-tell.ensures.carries.0), tt)
 
 pub returns-in_err-outputs-clause-carries : goal.returns-in_err-outputs-clause-carries
 returns-in_err-outputs-clause-carries g c =

@@ -11,11 +11,11 @@ use Rattle.pm_run.proofs.gates.tell_forced.Goals as goal
 pub returns-in_err-line-clause-carries : goal.returns-in_err-line-clause-carries
 returns-in_err-line-clause-carries g c = (search rules, on_err _ _ (out_anywhere _ _ _ _ refl))
 
-pub returns-in_err-say-clause-carries : goal.returns-in_err-say-clause-carries
-returns-in_err-say-clause-carries g c =
+pub returns-in_err-tell-clause-carries : goal.returns-in_err-tell-clause-carries
+returns-in_err-tell-clause-carries g c =
     let p = mind_of c.args.process.now in
     let e : nat_lt 0 c.args.forced ≡ true = search rules in
-    (search rules, on_err _ _ (then_out (nat_lt 0 c.args.forced) (say_then p (forcing_lock_line c.args.shown.now) (Enters (Some c.args.name) p)) (Ends (Enters (Some c.args.name) p)) _ _ _ _ e (line_out p (forcing_lock_line c.args.shown.now) _ (Enters (Some c.args.name) p) _ _ _ _ c.in_ok-line.ensures c.in_err-say.ensures.memory)))
+    (search rules, on_err _ _ (then_out (nat_lt 0 c.args.forced) (say_then p (forcing_lock_line c.args.shown.now) (Enters (Some c.args.name) p)) (Ends (Enters (Some c.args.name) p)) _ _ _ _ e (line_out p (forcing_lock_line c.args.shown.now) _ (Enters (Some c.args.name) p) _ _ _ _ c.in_ok-line.ensures c.in_err-tell.ensures.carries.1)))
 
 pub returns-then-forced-eq0-clause-carries : goal.returns-then-forced-eq0-clause-carries
 returns-then-forced-eq0-clause-carries g c =
@@ -27,4 +27,4 @@ pub returns-clause-carries : goal.returns-clause-carries
 returns-clause-carries g c =
     let p = mind_of c.args.process.now in
     let e : nat_lt 0 c.args.forced ≡ true = search rules in
-    (choose_then (nat_lt 0 c.args.forced) (say_then p (forcing_lock_line c.args.shown.now) (Enters (Some c.args.name) p)) (Ends (Enters (Some c.args.name) p)) (Enters (Some c.args.name) p) _ _ _ _ e (line_told p (forcing_lock_line c.args.shown.now) _ (Enters (Some c.args.name) p) _ _ _ _ c.in_ok-line.ensures c.in_ok-say.ensures.ok), tt)
+    (choose_then (nat_lt 0 c.args.forced) (say_then p (forcing_lock_line c.args.shown.now) (Enters (Some c.args.name) p)) (Ends (Enters (Some c.args.name) p)) (Enters (Some c.args.name) p) _ _ _ _ e (line_told p (forcing_lock_line c.args.shown.now) _ (Enters (Some c.args.name) p) _ _ _ _ c.in_ok-line.ensures c.in_ok-tell.ensures.carries.0), tt)

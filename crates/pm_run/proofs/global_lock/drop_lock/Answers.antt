@@ -4,9 +4,13 @@ use Rattle.pm_journal.proofs.WantsMemory.{on_err, out_front}
 use Rattle.pm_meaning.specs.GlobalLock.{give_named}
 use Rattle.pm_meaning.specs.Minds.{mind_of}
 use Rattle.pm_meaning.specs.Turns.{GoesOn}
+use Rattle.pm_run.proofs.GlobalLemmas.{dropped}
 use Rattle.pm_run.proofs.global_lock.drop_lock.Goals as goal
 
 pub returns-in_err-give_lock-clause-carries : goal.returns-in_err-give_lock-clause-carries
 returns-in_err-give_lock-clause-carries g c =
     let p = mind_of c.args.process.now in
     (search rules, on_err _ _ (out_front (give_named p.global p) (λ q. Ends (GoesOn q)) _ _ _ _ c.in_err-give_lock.ensures.carries.1))
+
+pub returns-clause-carries : goal.returns-clause-carries
+returns-clause-carries g c = (dropped (mind_of c.args.process.now) (mind_of c.give_lock.new.process) _ _ _ _ c.in_ok-give_lock.ensures.carries.0, tt)

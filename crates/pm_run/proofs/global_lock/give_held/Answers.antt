@@ -10,16 +10,17 @@ returns-in_err-line-clause-carries g c =
     let p = mind_of c.args.process.now in
     (search rules, on_err _ _ (unlocked_out c.args.name.now p (unlock_reply c.give-removed.result) _ _ _ _ c.give-removed.ensures.notes))
 
-pub returns-in_err-say-clause-carries : goal.returns-in_err-say-clause-carries
-returns-in_err-say-clause-carries g c =
+pub returns-in_err-tell-clause-carries : goal.returns-in_err-tell-clause-carries
+returns-in_err-tell-clause-carries g c =
     let p = mind_of c.args.process.now in
-    (search rules, on_err _ _ (stuck_out c.args.name.now c.in_ok-line.line p (unlock_reply c.give-removed.result) c.args.journal.now c.give-removed.new.journal c.say.new.journal _ _ _ c.give-removed.ensures.notes (sym c.is_stuck.ensures ∙ c.if-is_stuck.true) c.in_ok-line.ensures c.in_err-say.ensures.memory))
+    let r = record p { locks = c.give-removed.new.held.names; global = None } in
+    (search rules, on_err _ _ (stuck_out c.args.name.now c.in_ok-line.line p r (unlock_reply c.give-removed.result) c.args.journal.now c.give-removed.new.journal c.tell.new.journal _ _ _ c.give-removed.ensures.notes (sym c.is_stuck.ensures ∙ c.if-is_stuck.true) c.in_ok-line.ensures (ap (λ l. record p { locks = l; global = None }) c.give-removed.ensures.names) c.in_err-tell.ensures.carries.1))
 
-pub returns-in_ok-say-clause-carries : goal.returns-in_ok-say-clause-carries
-returns-in_ok-say-clause-carries g c =
+pub returns-in_ok-tell-clause-carries : goal.returns-in_ok-tell-clause-carries
+returns-in_ok-tell-clause-carries g c =
     let p = mind_of c.args.process.now in
     let r = record p { locks = c.give-removed.new.held.names; global = None } in (
-      stuck_told c.args.name.now c.in_ok-line.line p r (unlock_reply c.give-removed.result) c.args.journal.now c.give-removed.new.journal c.say.new.journal _ _ _ c.give-removed.ensures.notes (sym c.is_stuck.ensures ∙ c.if-is_stuck.true) c.in_ok-line.ensures
-          (ap (λ l. record p { locks = l; global = None }) c.give-removed.ensures.names) c.in_ok-say.ensures.ok,
+      stuck_told c.args.name.now c.in_ok-line.line p r (unlock_reply c.give-removed.result) c.args.journal.now c.give-removed.new.journal c.tell.new.journal _ _ _ c.give-removed.ensures.notes (sym c.is_stuck.ensures ∙ c.if-is_stuck.true) c.in_ok-line.ensures
+          (ap (λ l. record p { locks = l; global = None }) c.give-removed.ensures.names) c.in_ok-tell.ensures.carries.0,
       tt,
     )

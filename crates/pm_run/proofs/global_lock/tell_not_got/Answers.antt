@@ -9,12 +9,12 @@ use Rattle.pm_run.proofs.global_lock.tell_not_got.Goals as goal
 pub returns-in_err-line-clause-carries : goal.returns-in_err-line-clause-carries
 returns-in_err-line-clause-carries g c = (search rules, on_err _ _ (out_anywhere _ _ _ _ refl))
 
-pub returns-in_err-say-clause-carries : goal.returns-in_err-say-clause-carries
-returns-in_err-say-clause-carries g c =
+pub returns-in_err-tell-clause-carries : goal.returns-in_err-tell-clause-carries
+returns-in_err-tell-clause-carries g c =
     let p = mind_of c.args.process.now in
-    (search rules, on_err _ _ (line_out p (couldnt_lock_line c.args.name.now) _ (GoesOn p) _ _ _ _ c.in_ok-line.ensures c.in_err-say.ensures.memory))
+    (search rules, on_err _ _ (line_out p (couldnt_lock_line c.args.name.now) _ (GoesOn p) _ _ _ _ c.in_ok-line.ensures c.in_err-tell.ensures.carries.1))
 
 pub returns-clause-carries : goal.returns-clause-carries
 returns-clause-carries g c =
     let p = mind_of c.args.process.now in
-    (line_told p (couldnt_lock_line c.args.name.now) _ (GoesOn p) _ _ _ _ c.in_ok-line.ensures c.in_ok-say.ensures.ok, tt)
+    (line_told p (couldnt_lock_line c.args.name.now) _ (GoesOn p) _ _ _ _ c.in_ok-line.ensures c.in_ok-tell.ensures.carries.0, tt)

@@ -3,13 +3,18 @@ use Rattle.pm_journal.specs.LogText.{defective_condition_line}
 use Rattle.pm_journal.proofs.WantsMemory.{on_err, out_anywhere}
 use Rattle.pm_meaning.specs.Minds.{mind_of}
 use Rattle.pm_meaning.specs.Turns.{GoesOn}
-use Rattle.pm_actions.proofs.Choices.{line_out}
+use Rattle.pm_actions.proofs.Choices.{line_told, line_out}
 use Rattle.pm_run.proofs.judging.tell_defect.Goals as goal
 
 pub returns-in_err-line-clause-carries : goal.returns-in_err-line-clause-carries
 returns-in_err-line-clause-carries g c = (search rules, on_err _ _ (out_anywhere _ _ _ _ refl))
 
-pub returns-in_err-say-clause-carries : goal.returns-in_err-say-clause-carries
-returns-in_err-say-clause-carries g c =
+pub returns-in_err-tell-clause-carries : goal.returns-in_err-tell-clause-carries
+returns-in_err-tell-clause-carries g c =
     let p = mind_of c.args.process.now in
-    (search rules, on_err _ _ (line_out p (defective_condition_line c.args.text) _ (GoesOn p) _ _ _ _ (c.in_ok-line.ensures ∙ ap defective_condition_line c.as_slice.ensures) c.in_err-say.ensures.memory))
+    (search rules, on_err _ _ (line_out p (defective_condition_line c.args.text) _ (GoesOn p) _ _ _ _ (c.in_ok-line.ensures ∙ ap defective_condition_line c.as_slice.ensures) c.in_err-tell.ensures.carries.1))
+
+pub returns-clause-carries : goal.returns-clause-carries
+returns-clause-carries g c =
+    let p = mind_of c.args.process.now in
+    (line_told p (defective_condition_line c.args.text) _ (GoesOn p) _ _ _ _ (c.in_ok-line.ensures ∙ ap defective_condition_line c.as_slice.ensures) c.in_ok-tell.ensures.carries.0, tt)

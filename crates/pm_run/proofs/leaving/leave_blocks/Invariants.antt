@@ -1,16 +1,18 @@
+use Rattle.std.proofs.Common.{◌≡◌, ◌≤◌}
 use Rattle.pm_journal.specs.Held.{Keeping}
 use Rattle.pm_journal.specs.Walking.{Reaches}
 use Rattle.pm_meaning.specs.Minds.{mind_of}
-use Rattle.pm_meaning.specs.Running.{Leaving, step}
-use Rattle.pm_meaning.specs.declared.process.Ending.{Ending}
-use Rattle.pm_run.specs.Frames.{all_locks, left_in}
+use Rattle.pm_machine.specs.Running.{Event, Leaving, step}
+use Rattle.pm_frames.specs.Frames.{all_locks, left_in}
 use Rattle.pm_run.proofs.leaving.leave_blocks.Given as goal
 
 abbrev pub invariant-loop-open : goal.invariant-loop-open
 invariant-loop-open g l = record {
-  reaches : Reaches {X = Ending} step (Leaving (all_locks l.fn.frame) l.fn.end (mind_of l.fn.process)) (Leaving (all_locks l.frame) l.fn.end (mind_of l.process))
+  reaches : Reaches {X = Event} step (Leaving (all_locks l.fn.frame) l.fn.end (mind_of l.fn.process)) (Leaving (all_locks l.frame) l.fn.end (mind_of l.process))
       l.fn.journal l.journal (g.D.Outside.told l.fn.outside) (g.D.Outside.told l.outside);
   keeping : Keeping l.journal l.process.locks.names;
+  count : l.process.openings ≡ l.fn.process.openings;
+  left : left_in l.frame ≤ left_in l.fn.frame;
 }
 
 abbrev pub decreases-loop-open : goal.decreases-loop-open

@@ -2,14 +2,13 @@ use Rattle.std.proofs.Common.{◌≡◌, List, length}
 use Rattle.pm_journal.specs.Held.{Keeping}
 use Rattle.pm_journal.specs.Walking.{Reaches}
 use Rattle.pm_meaning.specs.Minds.{mind_of}
-use Rattle.pm_meaning.specs.Running.{Item, LeavingFile, step}
-use Rattle.pm_meaning.specs.declared.process.Ending.{Ending}
-use Rattle.pm_run.specs.Frames.{block_locks}
+use Rattle.pm_machine.specs.Running.{Item, Event, LeavingFile, step}
+use Rattle.pm_frames.specs.Frames.{block_locks}
 use Rattle.pm_run.proofs.leaving.leave_file.Given as goal
 
 abbrev pub invariant-loop-open : goal.invariant-loop-open
 invariant-loop-open g l = record {
-  reaches : (items : List Item) → Reaches {X = Ending} step (LeavingFile (block_locks l.fn.blocks.items) items (mind_of l.fn.process)) (LeavingFile (block_locks l.blocks.items) items (mind_of l.process))
+  reaches : (items : List Item) → Reaches {X = Event} step (LeavingFile (block_locks l.fn.blocks.items) items (mind_of l.fn.process)) (LeavingFile (block_locks l.blocks.items) items (mind_of l.process))
       l.fn.journal l.journal (g.D.Outside.told l.fn.outside) (g.D.Outside.told l.outside);
   keeping : Keeping l.journal l.process.locks.names;
   count : l.process.openings ≡ l.fn.process.openings;

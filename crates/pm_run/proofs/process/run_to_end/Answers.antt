@@ -1,16 +1,37 @@
-use Rattle.std.proofs.Common.{rules}
+use Rattle.std.proofs.Common.{[], rules}
 use Rattle.pm_journal.proofs.WantsMemory.{on_err}
 use Rattle.pm_meaning.specs.Minds.{mind_of}
-use Rattle.pm_run.specs.Ends.{opening}
-use Rattle.pm_run.proofs.ProcessLemmas.{over_closes, closing_wants}
+use Rattle.pm_machine.specs.Running.{Running, Over, Closing}
+use Rattle.pm_actions.proofs.Choices.{ok_map, err_map}
+use Rattle.pm_frames.specs.Frames.{items_of}
+use Rattle.pm_run.proofs.RunLemmas.{RunsOn, runs_walk, runs_out}
 use Rattle.pm_run.proofs.process.run_to_end.Goals as goal
 
-pub returns-in_err-give_lock-clause-walks : goal.returns-in_err-give_lock-clause-walks
-returns-in_err-give_lock-clause-walks g c =
-    let start = opening c.args.name (mind_of c.args.process.now) in
-    (search rules, on_err _ _ (closing_wants start c.in_ok-end.end (mind_of c.run_rcfile.new.process) c.args.journal.now c.run_rcfile.new.journal c.give_lock.new.journal _ _ _ c.in_ok-end.ensures.walks.0 c.in_err-give_lock.ensures.carries.1))
+pub returns-in_err-end-clause-proceeds : goal.returns-in_err-end-clause-proceeds
+returns-in_err-end-clause-proceeds g c = λ first. (search rules, on_err _ _ (c.in_err-end.ensures.proceeds first).1)
 
-pub returns-clause-walks : goal.returns-clause-walks
-returns-clause-walks g c =
-    let start = opening c.args.name (mind_of c.args.process.now) in
-    (over_closes start c.in_ok-end.end (mind_of c.run_rcfile.new.process) (mind_of c.give_lock.new.process) c.args.journal.now c.run_rcfile.new.journal c.give_lock.new.journal _ _ _ c.in_ok-end.ensures.walks.0 c.in_ok-give_lock.ensures.carries.0, tt)
+pub returns-in-Some-clause-proceeds : goal.returns-in-Some-clause-proceeds
+returns-in-Some-clause-proceeds g c =
+    let queue = c.args.queue.now in
+    let later = c.run_frame.new.queue in
+    let start = Running (items_of c.args.frame.now) (mind_of c.args.process.now) in
+    let over = Over c.in-Some.end (mind_of c.run_frame.new.process) in
+    let runs : RunsOn queue later start over c.args.journal.now c.run_frame.new.journal (g.D.Outside.told c.args.outside.now) (g.D.Outside.told c.run_frame.new.outside) =
+    λ first. rw c.in-Some.is at (c.in_ok-end.ensures.proceeds first).0 in
+    λ first. (
+      ok_map c.close.result _ _ (λ ending h. runs_walk queue later start over (Closing ending (mind_of c.close.new.process)) c.args.journal.now c.run_frame.new.journal c.close.new.journal _ _ _ runs h first) c.close.ensures.walks.0,
+      err_map c.close.result _ _ (λ h. runs_out queue later start over c.args.journal.now c.run_frame.new.journal c.close.new.journal _ _ _ runs h first) c.close.ensures.walks.1,
+    )
+
+pub returns-in-None-clause-proceeds : goal.returns-in-None-clause-proceeds
+returns-in-None-clause-proceeds g c =
+    let queue = c.args.queue.now in
+    let later = c.run_frame.new.queue in
+    let start = Running (items_of c.args.frame.now) (mind_of c.args.process.now) in
+    let left = Running [] (mind_of c.run_frame.new.process) in
+    let runs : RunsOn queue later start left c.args.journal.now c.run_frame.new.journal (g.D.Outside.told c.args.outside.now) (g.D.Outside.told c.run_frame.new.outside) =
+    λ first. rw c.in-None.is at (c.in_ok-end.ensures.proceeds first).0 in
+    λ first. (
+      ok_map c.close_without.result _ _ (λ ending h. runs_walk queue later start left (Closing ending (mind_of c.close_without.new.process)) c.args.journal.now c.run_frame.new.journal c.close_without.new.journal _ _ _ runs h first) c.close_without.ensures.walks.0,
+      err_map c.close_without.result _ _ (λ h. runs_out queue later start left c.args.journal.now c.run_frame.new.journal c.close_without.new.journal _ _ _ runs h first) c.close_without.ensures.walks.1,
+    )

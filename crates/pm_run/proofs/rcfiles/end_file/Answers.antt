@@ -1,9 +1,8 @@
 use Rattle.std.proofs.Common.{◌≡◌, ◌≤◌, length, refl, subst, rules, arith}
 use Rattle.pm_journal.specs.Walking.{Reaches}
 use Rattle.pm_meaning.specs.Minds.{mind_of}
-use Rattle.pm_meaning.specs.Running.{Running, LeavingFile, step}
-use Rattle.pm_meaning.specs.declared.process.Ending.{Ending}
-use Rattle.pm_run.specs.Frames.{outer_items, block_locks}
+use Rattle.pm_machine.specs.Running.{Running, LeavingFile, step, Event}
+use Rattle.pm_frames.specs.Frames.{outer_items, block_locks}
 use Rattle.pm_run.proofs.RcfileLemmas.{ended_items, ended_falls}
 use Rattle.pm_run.proofs.rcfiles.end_file.Goals as goal
 
@@ -18,7 +17,7 @@ returns-in-Ok-clause-walks g c =
     let long : length f.code.steps.items ≤ c.len-frame.result = omega (arith, place) in
     let items = outer_items f.outer.items in
     let start = LeavingFile (block_locks f.blocks.items) items (mind_of c.args.process.now) in (
-      subst (λ l. Reaches {X = Ending} step start (Running l (mind_of c.leave_file.new.process)) c.args.journal.now c.leave_file.new.journal (g.D.Outside.told c.args.outside.now) (g.D.Outside.told c.leave_file.new.outside))
+      subst (λ l. Reaches {X = Event} step start (Running l (mind_of c.leave_file.new.process)) c.args.journal.now c.leave_file.new.journal (g.D.Outside.told c.args.outside.now) (g.D.Outside.told c.leave_file.new.outside))
           (ended_items f after refl long c.in-Ok.ensures.empty refl) (c.in-Ok.ensures.walks items).0,
       tt,
     )

@@ -1,9 +1,10 @@
 use Rattle.std.proofs.Common.{List, refl}
+use Rattle.pm_journal.specs.LogText.{couldnt_read_line}
 use Rattle.pm_journal.specs.Plan.{and_then, ask}
 use Rattle.pm_journal.specs.declared.acts.Act.TheVariants.{ReadFile}
 use Rattle.pm_journal.proofs.WantsMemory.{on_err, out_anywhere}
 use Rattle.pm_meaning.specs.Minds.{mind_of}
-use Rattle.pm_meaning.specs.Running.{Item, Reading, with_statements}
+use Rattle.pm_machine.specs.Running.{Item, Reading, with_statements}
 use Rattle.pm_actions.proofs.Choices.{ok_map, err_map}
 use Rattle.pm_run.proofs.RcfileLemmas.{ok_both, ok_every, err_every, told_for, reads_some, reads_then_wants, reads_none, reads_none_out, reading_out}
 use Rattle.pm_run.proofs.rcfiles.read_code.Goals as goal
@@ -23,7 +24,7 @@ returns-in-None-clause-reads g c =
 
 pub returns-in-None-clause-memory : goal.returns-in-None-clause-memory
 returns-in-None-clause-memory g c =
-    err_map c.tell_unread.result _ _ (λ told (rest : List Item) (go : Reading). reads_none_out c.args.name.now c.in-Ok.noted c.in-Ok-read.content (mind_of c.args.process.now) c.args.journal.now c.read.new.journal _ _ c.in-Ok.ensures c.in-Ok-read.ensures.ok rest go _ _ c.in-None.is (told_for rest (mind_of c.args.process.now) told))
+    err_map c.tell_unread.result _ _ (λ told (rest : List Item) (go : Reading). reads_none_out c.args.name.now c.in-Ok.noted c.in-Ok-read.content (mind_of c.args.process.now) c.args.journal.now c.read.new.journal _ _ c.in-Ok.ensures c.in-Ok-read.ensures.ok rest go _ _ c.in-None.is (told_for rest (mind_of c.args.process.now) (couldnt_read_line c.args.name.now) c.read.new.journal c.tell_unread.new.journal _ _ told))
     (err_every c.tell_unread.result _ (λ next. (c.tell_unread.ensures.carries next).1))
 
 pub returns-in-Some-clause-reads : goal.returns-in-Some-clause-reads

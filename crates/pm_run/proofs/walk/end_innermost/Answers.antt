@@ -4,12 +4,11 @@ use Rattle.pm_journal.specs.Walking.{Reaches}
 use Rattle.pm_journal.proofs.WantsMemory.{on_err}
 use Rattle.pm_meaning.specs.Chains.{with_chain}
 use Rattle.pm_meaning.specs.Minds.{mind_of}
-use Rattle.pm_meaning.specs.Running.{Running, step}
-use Rattle.pm_meaning.specs.declared.process.Ending.{Ending}
+use Rattle.pm_machine.specs.Running.{Running, step, Event}
 use Rattle.pm_actions.proofs.Choices.{ok_map}
-use Rattle.pm_run.specs.Frames.{weave, steps_of, items_of, outer_items, left_outside, left_in}
+use Rattle.pm_frames.specs.Frames.{weave, steps_of, items_of, outer_items, left_outside, left_in}
 use Rattle.pm_run.specs.Walk.{less_by, stands}
-use Rattle.pm_run.proofs.WalkLemmas.{block_wants, block_reaches, back_reaches, back_wants, back_falls, over_falls}
+use Rattle.pm_run.proofs.WalkLemmas.{block_wants, block_reaches, back_reaches, back_wants, back_falls, back_behind, over_falls}
 use Rattle.pm_run.proofs.walk.end_innermost.Goals as goal
 
 pub returns-in-None-clause-walks : goal.returns-in-None-clause-walks
@@ -20,7 +19,7 @@ returns-in-None-clause-walks g c =
     let same : old.blocks.items ≡ c.pop_front.new.self.items = search rules in
     let none : f.blocks.items ≡ [] = search rules in
     let items : items_of f ≡ items_of old = ap (λ l. weave (lists_of (drop old.place (steps_of old))) l (outer_items old.outer.items)) (sym same) in (
-      ok_map c.come_back.result _ _ (λ s h. subst (λ l. Reaches {X = Ending} step (Running l p) (stands s c.come_back.new.frame (mind_of c.come_back.new.process)) c.args.journal.now c.args.journal.now (g.D.Outside.told c.args.outside.now) (g.D.Outside.told c.args.outside.now))
+      ok_map c.come_back.result _ _ (λ s h. subst (λ l. Reaches {X = Event} step (Running l p) (stands s c.come_back.new.frame (mind_of c.come_back.new.process)) c.args.journal.now c.args.journal.now (g.D.Outside.told c.args.outside.now) (g.D.Outside.told c.args.outside.now))
           items (back_reaches s f c.come_back.new.frame c.args.next p (mind_of c.come_back.new.process) _ _ c.requires.ends none h)) c.come_back.ensures.back,
       on_err c.come_back.result _ (back_wants old p _ _),
     )
@@ -45,3 +44,7 @@ returns-in_ok-give_maybe-in-Some-clause-walks g c =
       block_reaches c.args.frame.now c.in-Some.open c.pop_front.new.self.items c.args.next (mind_of c.args.process.now) c.requires.ends c.in-Some.ensures.items (record c.args.frame.now { place = c.args.next; blocks = c.pop_front.new.self }) q (with_chain c.succeed-process.result q) _ _ _ _ refl refl refl refl (ap (λ chain. with_chain chain q) c.succeed-process.ensures) c.in_ok-give_maybe-in-Some.ensures.carries.0,
       tt,
     )
+
+pub returns-in-None-clause-behind : goal.returns-in-None-clause-behind
+returns-in-None-clause-behind g c =
+    ok_map c.come_back.result _ _ (λ s h. back_behind s (record c.args.frame.now { blocks = c.pop_front.new.self }) c.come_back.new.frame (mind_of c.args.process.now) (mind_of c.come_back.new.process) h) c.come_back.ensures.back

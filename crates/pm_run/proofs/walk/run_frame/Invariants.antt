@@ -1,15 +1,17 @@
+use Rattle.std.proofs.Common.{◌≤◌}
 use Rattle.pm_journal.specs.Held.{Keeping}
-use Rattle.pm_journal.specs.Walking.{Reaches}
 use Rattle.pm_meaning.specs.Minds.{mind_of}
-use Rattle.pm_meaning.specs.Running.{Running, step}
-use Rattle.pm_meaning.specs.declared.process.Ending.{Ending}
-use Rattle.pm_run.specs.Frames.{items_of, left_over}
+use Rattle.pm_machine.specs.Running.{Running}
+use Rattle.pm_frames.specs.Frames.{items_of, left_over}
+use Rattle.pm_run.specs.Ends.{copies_left}
+use Rattle.pm_run.proofs.RunLemmas.{RunsOn}
 use Rattle.pm_run.proofs.walk.run_frame.Given as goal
 
 abbrev pub invariant-loop-end : goal.invariant-loop-end
 invariant-loop-end g l = record {
-  reaches : Reaches {X = Ending} step (Running (items_of l.fn.frame) (mind_of l.fn.process)) (Running (items_of l.frame) (mind_of l.process))
+  runs : RunsOn l.fn.queue l.queue (Running (items_of l.fn.frame) (mind_of l.fn.process)) (Running (items_of l.frame) (mind_of l.process))
       l.fn.journal l.journal (g.D.Outside.told l.fn.outside) (g.D.Outside.told l.outside);
+  few : copies_left l.queue ≤ copies_left l.fn.queue;
   keeping : Keeping l.journal l.process.locks.names;
 }
 

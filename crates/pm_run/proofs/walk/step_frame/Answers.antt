@@ -3,13 +3,12 @@ use Rattle.pm_recipe.specs.View.{top_of}
 use Rattle.pm_journal.specs.Walking.{Reaches}
 use Rattle.pm_meaning.specs.Changes.{with_openings}
 use Rattle.pm_meaning.specs.Minds.{mind_of}
-use Rattle.pm_meaning.specs.Running.{Running, step}
-use Rattle.pm_meaning.specs.declared.process.Ending.{Ending}
+use Rattle.pm_machine.specs.Running.{Running, step, Event}
 use Rattle.pm_actions.proofs.Choices.{ok_map}
-use Rattle.pm_run.specs.Frames.{steps_of, items_of}
+use Rattle.pm_frames.specs.Frames.{steps_of, items_of}
 use Rattle.pm_run.specs.Walk.{stands, gate_turn, less_by}
 use Rattle.pm_journal.proofs.WantsMemory.{on_err}
-use Rattle.pm_run.proofs.WalkLemmas.{ends_stop, step_in, none_in, enter_at, jump_at, jump_fits, gate_wants, gate_reaches, gate_then_wants, entered_falls, over_falls, one_falls, one_wants, one_reaches, does_one}
+use Rattle.pm_run.proofs.WalkLemmas.{ends_stop, step_in, none_in, enter_at, jump_at, jump_fits, gate_wants, gate_reaches, gate_then_wants, gate_behind, one_behind, entered_falls, over_falls, one_falls, one_wants, one_reaches, does_one}
 use Rattle.pm_run.proofs.walk.step_frame.Goals as goal
 
 pub end_innermost-requires-clause-ends : goal.end_innermost-requires-clause-ends
@@ -74,6 +73,16 @@ returns-in-Ok-clause-falls g c =
     ok_map c.enter_block.result _ _ (λ s h. over_falls c.args.process.now.openings c.enter_block.new.process.openings (less_by s) f c.enter_block.new.frame c.enter_block.ensures.count
     (entered_falls (c.in-Enter.end + 1) c.in-Ok.gate s f c.enter_block.new.frame (with_openings c.args.process.now.openings (mind_of c.pass_gate.new.process)) (mind_of c.enter_block.new.process) h further within)) c.enter_block.ensures.entered
 
+pub returns-in-Ok-clause-behind : goal.returns-in-Ok-clause-behind
+returns-in-Ok-clause-behind g c =
+    let f = c.args.frame.now in
+    let at = step_in c.in-Some.step.now f.code.steps.items c.deref.result.now f.place c.in-Some.ensures c.deref.ensures.value in
+    let e = enter_at f c.in-Some.step.now c.in-Enter.recipe c.in-Enter.end at c.in-Enter.is in
+    let top = top_of c.in-Enter.recipe in
+    let p = mind_of c.args.process.now in
+    let jump = jump_at f top c.in-Enter.end e in
+    ok_map c.enter_block.result _ _ (λ s h. gate_behind f top c.in-Enter.end p e c.in-Ok.gate s c.enter_block.new.frame (with_openings c.args.process.now.openings (mind_of c.pass_gate.new.process)) (mind_of c.enter_block.new.process) jump h) c.enter_block.ensures.entered
+
 pub returns-in-Err-run_statement : goal.returns-in-Err-run_statement
 returns-in-Err-run_statement g c =
     let f = c.args.frame.now in
@@ -83,6 +92,7 @@ returns-in-Err-run_statement g c =
       walks = (tt, one_wants f c.in-Some.step.now (mind_of c.args.process.now) at d _ _ _ _ c.in-Err-run_statement.ensures.carries.1);
       keeping = c.in-Err-run_statement.ensures.keeping;
       falls = tt;
+      behind = tt;
     }
 
 pub returns-in-Ok-run_statement : goal.returns-in-Ok-run_statement
@@ -96,10 +106,11 @@ returns-in-Ok-run_statement goals c =
     let r = with_openings c.args.process.now.openings q in
     record {
       walks = (
-        subst (λ s. Reaches {X = Ending} step (Running (items_of f) p) (stands s g r) c.args.journal.now c.run_statement.new.journal (goals.D.Outside.told c.args.outside.now) (goals.D.Outside.told c.run_statement.new.outside))
+        subst (λ s. Reaches {X = Event} step (Running (items_of f) p) (stands s g r) c.args.journal.now c.run_statement.new.journal (goals.D.Outside.told c.args.outside.now) (goals.D.Outside.told c.run_statement.new.outside))
             (sym c.stepped_by.ensures) (one_reaches f c.in-Some.step.now p at d c.in-Ok-run_statement.turned q _ _ _ _ c.in-Ok-run_statement.ensures.carries.0),
         tt,
       );
       keeping = c.in-Ok-run_statement.ensures.keeping;
       falls = over_falls c.args.process.now.openings c.args.process.now.openings (less_by c.stepped_by.result) f g refl (one_falls f c.in-Ok-run_statement.turned c.stepped_by.result c.stepped_by.ensures at.fits);
+      behind = one_behind c.in-Ok-run_statement.turned c.stepped_by.result g c.stepped_by.ensures;
     }

@@ -1,0 +1,54 @@
+-- A process that no statement ended, and its default mailboxes.
+use Rattle.std.proofs.Common.{◌≡◌, List, ℕ, [], ◌∷◌, sym, refl, subst}
+use Rattle.pm_journal.specs.JournalState.{JournalState}
+use Rattle.pm_journal.specs.Entries.{View}
+use Rattle.pm_journal.specs.Plan.{Ends}
+use Rattle.pm_journal.specs.Executed.{Executes, OutOfMemory}
+use Rattle.pm_journal.specs.Walking.{Next, Go, Reaches, Interrupted}
+use Rattle.pm_meaning.specs.Delivering.{deliver_default}
+use Rattle.pm_meaning.specs.Minds.{Mind}
+use Rattle.pm_meaning.specs.Turns.{Turn, GoesOn, Halts}
+use Rattle.pm_meaning.specs.declared.process.End.{End}
+use Rattle.pm_machine.specs.Running.{State, Event, Running, FallingOff, Over, step, default_mailboxes, next_default}
+use Rattle.pm_journal.proofs.ActPlans.{executes_then}
+use Rattle.pm_journal.proofs.WantsMemory.{executes_nothing, out_front}
+use Rattle.pm_journal.proofs.WalkJoin.{reaches_then, interrupted_then}
+
+abbrev Onward : Type 0
+Onward = Next State Event
+
+-- a process that no statement ended comes to its default mailboxes
+pub falls : (p : Mind) (mailboxes : List (List ℕ)) (x : JournalState) (s : View) → mailboxes ≡ default_mailboxes p.vars → Executes {R = Onward} (step (Running [] p)) (Go (FallingOff mailboxes p)) x x s s
+falls p mailboxes x s e = subst (λ l. Executes {R = Onward} (step (Running [] p)) (Go (FallingOff l p)) x x s s) (sym e) (executes_nothing (Go (FallingOff (default_mailboxes p.vars) p)) x x s refl)
+
+first_mailbox : (mailbox : List ℕ) (rest : List (List ℕ)) (p : Mind) (turn : Turn) (x y : JournalState) (a b : View) → Executes (deliver_default mailbox p) turn x y a b
+    → Executes (step (FallingOff (mailbox ∷ rest) p)) (next_default rest turn) x y a b
+first_mailbox mailbox rest p turn x y a b h =
+    executes_then (deliver_default mailbox p) (λ t. Ends (next_default rest t)) turn (next_default rest turn) x y y a b b h (executes_nothing (next_default rest turn) y y b refl)
+
+pub mailbox_on : (s : State) (items rest : List (List ℕ)) (mailbox : List ℕ) (p q : Mind) (x y z : JournalState) (a b c : View) → items ≡ mailbox ∷ rest → Reaches {X = Event} step s (FallingOff items p) x y a b
+    → Executes (deliver_default mailbox p) (GoesOn q) y z b c → Reaches {X = Event} step s (FallingOff rest q) x z a c
+mailbox_on s items rest mailbox p q x y z a b c e h k =
+    reaches_then step s (FallingOff (mailbox ∷ rest) p) (FallingOff rest q) x y z a b c
+    (subst (λ l. Reaches {X = Event} step s (FallingOff l p) x y a b) e h) (first_mailbox mailbox rest p (GoesOn q) y z b c k)
+
+pub mailbox_ends : (s : State) (items rest : List (List ℕ)) (mailbox : List ℕ) (p q : Mind) (end : End) (x y z : JournalState) (a b c : View) → items ≡ mailbox ∷ rest → Reaches {X = Event} step s (FallingOff items p) x y a b
+    → Executes (deliver_default mailbox p) (Halts end q) y z b c → Reaches {X = Event} step s (Over end q) x z a c
+mailbox_ends s items rest mailbox p q end x y z a b c e h k =
+    reaches_then step s (FallingOff (mailbox ∷ rest) p) (Over end q) x y z a b c
+    (subst (λ l. Reaches {X = Event} step s (FallingOff l p) x y a b) e h) (first_mailbox mailbox rest p (Halts end q) y z b c k)
+
+pub mailbox_wants : (s : State) (items rest : List (List ℕ)) (mailbox : List ℕ) (p : Mind) (x y z : JournalState) (a b c : View) → items ≡ mailbox ∷ rest → Reaches {X = Event} step s (FallingOff items p) x y a b
+    → OutOfMemory (deliver_default mailbox p) y z b c → Interrupted {X = Event} step s x z a c
+mailbox_wants s items rest mailbox p x y z a b c e h k =
+    interrupted_then step s (FallingOff (mailbox ∷ rest) p) x y z a b c
+    (subst (λ l. Reaches {X = Event} step s (FallingOff l p) x y a b) e h) (out_front (deliver_default mailbox p) (λ t. Ends (next_default rest t)) y z b c k)
+
+-- no default mailbox is left
+pub none_on : (s : State) (items : List (List ℕ)) (p q : Mind) (end : End) (x y z : JournalState) (a b c : View) → items ≡ [] → Reaches {X = Event} step s (FallingOff items p) x y a b
+    → Executes {R = Onward} (step (FallingOff [] p)) (Go (Over end q)) y z b c → Reaches {X = Event} step s (Over end q) x z a c
+none_on s items p q end x y z a b c e h k = reaches_then step s (FallingOff [] p) (Over end q) x y z a b c (subst (λ l. Reaches {X = Event} step s (FallingOff l p) x y a b) e h) k
+
+pub none_wants : (s : State) (items : List (List ℕ)) (p : Mind) (x y z : JournalState) (a b c : View) → items ≡ [] → Reaches {X = Event} step s (FallingOff items p) x y a b
+    → OutOfMemory {R = Onward} (step (FallingOff [] p)) y z b c → Interrupted {X = Event} step s x z a c
+none_wants s items p x y z a b c e h k = interrupted_then step s (FallingOff [] p) x y z a b c (subst (λ l. Reaches {X = Event} step s (FallingOff l p) x y a b) e h) k

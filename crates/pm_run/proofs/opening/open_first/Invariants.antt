@@ -1,0 +1,17 @@
+use Rattle.std.proofs.Common.{◌≤◌, length}
+use Rattle.pm_journal.specs.Held.{Keeping}
+use Rattle.pm_journal.specs.Walking.{Reaches}
+use Rattle.pm_meaning.specs.Minds.{mind_of}
+use Rattle.pm_machine.specs.Running.{Event, Opening, step}
+use Rattle.pm_run.specs.Ends.{rule_of_opening}
+use Rattle.pm_run.proofs.opening.open_first.Given as goal
+
+abbrev pub invariant-loop-name : goal.invariant-loop-name
+invariant-loop-name g l = record {
+  reaches : Reaches {X = Event} step (Opening (rule_of_opening l.fn.rule) l.fn.names.items (mind_of l.fn.process)) (Opening (rule_of_opening l.fn.rule) l.names.items (mind_of l.process)) l.fn.journal l.journal (g.D.Outside.told l.fn.outside) (g.D.Outside.told l.outside);
+  counted : l.fn.process.openings ≤ l.process.openings;
+  keeping : Keeping l.journal l.process.locks.names;
+}
+
+abbrev pub decreases-loop-name : goal.decreases-loop-name
+decreases-loop-name g l = length l.names.items

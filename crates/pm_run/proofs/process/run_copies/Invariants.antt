@@ -1,0 +1,14 @@
+use Rattle.std.proofs.Common.{[]}
+use Rattle.pm_journal.specs.Held.{Keeping}
+use Rattle.pm_run.specs.Ends.{copies_left}
+use Rattle.pm_run.specs.Others.{next_in, GoesOn}
+use Rattle.pm_run.proofs.process.run_copies.Given as goal
+
+abbrev pub invariant-loop-copy : goal.invariant-loop-copy
+invariant-loop-copy g l = record {
+  goes : GoesOn (next_in l.fn.queue l.fn.first l.fn.counts) (next_in l.queue l.fn.first l.counted) l.fn.journal l.journal (g.D.Outside.told l.fn.outside) (g.D.Outside.told l.outside);
+  keeping : Keeping l.journal [];
+}
+
+abbrev pub decreases-loop-copy : goal.decreases-loop-copy
+decreases-loop-copy g l = copies_left l.queue

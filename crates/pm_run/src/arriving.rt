@@ -1,0 +1,233 @@
+//! The beginning of a run: the mail gets its From line, the words of the command line set variables, and the first of its
+//! rcfiles that can be read is opened.
+ghost use Rattle.std.specs.Prelude.{◌≡◌, ◌||◌, ◌∷◌, ℕ, List, [], false, bytes_eq, codes, IfOk, OnErr, if◌then◌else◌};
+ghost use Rattle.pm_bytes.specs.Name.{has_zero};
+ghost use Rattle.pm_journal.specs.Executed.{Carries};
+ghost use Rattle.pm_journal.specs.Held.{Keeping};
+ghost use Rattle.pm_journal.specs.Walking.{Go, Interrupted};
+ghost use Rattle.pm_meaning.specs.Delivering.{is_without as without_names};
+ghost use Rattle.pm_meaning.specs.FirstValues.{home_folder};
+ghost use Rattle.pm_meaning.specs.Minds.{mind_of};
+ghost use Rattle.pm_machine.specs.Running.{Event, Arrived, Setting, step};
+ghost use Rattle.pm_machine.specs.Running.{set_by_word as word_set, home_by as home_behind, rcfiles_of as rcfiles_tried};
+ghost use Rattle.pm_machine.specs.Running.{sets_folder as folder_set, named_rcfile as rcfile_named, in_home as home_joined};
+ghost use Rattle.pm_machine.specs.declared.command_line.CommandLine.{CommandLine as Words};
+ghost use Rattle.pm_run.specs.Opening.{OpensFrom};
+ghost use Rattle.pm_run.specs.Stretches.{Walks};
+ghost use Rattle.pm_run.specs.Turned.{turn_in};
+
+use crate::assigning::assign_value;
+use crate::first_values::{begin, home, login};
+use crate::opening::{Opened, Rule, open_first};
+use crate::turned::Turned;
+use pm_acts::{Outside, ask_moment};
+use pm_bytes::{Blob, Environ, Memory, Name, Names, Pair};
+use pm_journal::{HeldLocks, Journal};
+use pm_machine::CommandLine;
+use pm_meaning::Process;
+use pm_message::{needs_line, prepare, split};
+use std::alloc::Global;
+use std::collections::VecDeque;
+
+/// The process that begins with this mail, which gets its From line.
+pub fn arrive<D: Outside>(
+    alloc: Global,
+    line: &CommandLine,
+    env: &Environ,
+    bytes: &[u8],
+    outside: &mut D,
+    journal: &mut Journal,
+) -> Result<Process, Memory>
+    requires keeping { Keeping journal.old [] }
+    ensures carries { let home = home_behind line.now.values (home_folder env.now) in
+        Carries (step (Arrived line.now env.now bytes.now))
+        (λ process. Go (Setting line.now.values line.now home (mind_of process)))
+        result journal.old journal.new (D.told outside.old) (D.told outside.new) }
+    ensures locks { IfOk result (λ process. process.locks.names ≡ []) }
+    ensures keeping { Keeping journal.new [] }
+{
+    if !needs_line(bytes, &line.renew) {
+        let message = split(alloc, bytes)?;
+        return begin(alloc, line, env, message);
+    }
+    let moment = ask_moment(&HeldLocks::new(alloc), outside, journal)?;
+    let message = prepare(alloc, bytes, &line.renew, login(env).as_bytes(), moment)?;
+    begin(alloc, line, env, message)
+}
+
+/// The words of the command line set variables, and its rcfiles are opened in order, up to one that is read.
+pub fn begin_rcfiles<D: Outside>(
+    alloc: Global,
+    line: &CommandLine,
+    env: &Environ,
+    process: &mut Process,
+    outside: &mut D,
+    journal: &mut Journal,
+) -> Result<Opened, Memory>
+    requires keeping { Keeping journal.old process.old.locks.names }
+    ensures opens { let home = home_behind line.now.values (home_folder env.now) in IfOk result (λ opened. OpensFrom
+        (Setting line.now.values line.now home (mind_of process.old)) opened (mind_of process.new)
+        journal.old journal.new (D.told outside.old) (D.told outside.new)) }
+    ensures memory { let home = home_behind line.now.values (home_folder env.now) in
+        OnErr result (Interrupted {X = Event} step (Setting line.now.values line.now home (mind_of process.old))
+        journal.old journal.new (D.told outside.old) (D.told outside.new)) }
+    ensures keeping { Keeping journal.new process.new.locks.names }
+{
+    let values = line.values.as_slice();
+    set_words(alloc, values, process, outside, journal)?;
+    let rule = Rule {
+        is_implied: is_without(&line.rcfiles),
+        keeps_folder: sets_folder(values),
+    };
+    let names = rcfiles_of(alloc, line, home_by(values, home(env)))?;
+    open_first(alloc, rule, names, process, outside, journal)
+}
+
+// The words that set variables, one after the other.
+fn set_words<D: Outside>(
+    alloc: Global,
+    values: &[Pair],
+    process: &mut Process,
+    outside: &mut D,
+    journal: &mut Journal,
+) -> Result<(), Memory>
+    requires keeping { Keeping journal.old process.old.locks.names }
+    ensures walks { (line : Words) (home : List ℕ) → Walks (Setting values.now line home (mind_of process.old))
+        (λ _. Setting [] line home (mind_of process.new)) result
+        journal.old journal.new (D.told outside.old) (D.told outside.new) }
+    ensures keeping { Keeping journal.new process.new.locks.names }
+{
+    for value in values {
+        set_by_word(alloc, value, process, outside, journal)?;
+    }
+    Ok(())
+}
+
+// A word that sets a variable names no other rcfile and no other host.
+fn set_by_word<D: Outside>(
+    alloc: Global,
+    word: &Pair,
+    process: &mut Process,
+    outside: &mut D,
+    journal: &mut Journal,
+) -> Result<Turned, Memory>
+    requires keeping { Keeping journal.old process.old.locks.names }
+    ensures carries { Carries (word_set word.now (mind_of process.old))
+        (λ turned. turn_in turned (mind_of process.new)) result
+        journal.old journal.new (D.told outside.old) (D.told outside.new) }
+    ensures keeping { Keeping journal.new process.new.locks.names }
+{
+    let name = word.name.as_str().as_bytes();
+    if names_rcfile(name) {
+        return Ok(Turned::Goes);
+    }
+    let value = Blob::from_slice(alloc, word.value.as_str().as_bytes())?;
+    if is_host(name) {
+        process.vars.set(name, value)?;
+        return Ok(Turned::Goes);
+    }
+    assign_value(alloc, name, value, process, outside, journal)
+}
+
+// Whether the variable is INCLUDERC or SWITCHRC.
+fn names_rcfile(name: &[u8]) -> bool
+    ensures { result ≡ (bytes_eq name.now (codes "INCLUDERC") || bytes_eq name.now (codes "SWITCHRC")) }
+{
+    name == b"INCLUDERC".as_slice() || name == b"SWITCHRC".as_slice()
+}
+
+// Whether the variable is HOST.
+fn is_host(name: &[u8]) -> bool
+    ensures { result ≡ bytes_eq name.now (codes "HOST") }
+{
+    name == b"HOST".as_slice()
+}
+
+// Whether a word sets MAILDIR.
+fn sets_folder(values: &[Pair]) -> bool
+    ensures { result ≡ folder_set values.now }
+{
+    values.iter().any(|value| value.name.as_str().as_bytes() == b"MAILDIR".as_slice())
+}
+
+// The home folder behind these words.
+fn home_by<'a>(values: &'a [Pair], home: &'a str) -> &'a str
+    requires usable { has_zero home.now ≡ false }
+    ensures same { result.now ≡ home_behind values.now home.now }
+    ensures usable { has_zero result.now ≡ false }
+{
+    let mut found = home;
+    for value in values {
+        found = home_of(value, found);
+    }
+    found
+}
+
+// The home folder behind this word.
+fn home_of<'a>(word: &'a Pair, home: &'a str) -> &'a str
+    requires usable { has_zero home.now ≡ false }
+    ensures same { result.now ≡ (if bytes_eq word.now.name (codes "HOME") then word.now.value else home.now) }
+    ensures usable { has_zero result.now ≡ false }
+{
+    if word.name.as_str().as_bytes() == b"HOME".as_slice() {
+        word.value.as_str()
+    } else {
+        home
+    }
+}
+
+// The rcfiles that are tried; without a word for one that of the home folder.
+fn rcfiles_of(alloc: Global, line: &CommandLine, home: &str) -> Result<VecDeque<Name>, Memory>
+    requires usable { has_zero home.now ≡ false }
+    ensures { IfOk result (λ names. names.items ≡ rcfiles_tried line.now home.now) }
+{
+    if is_without(&line.rcfiles) {
+        return own_rcfile(alloc, home);
+    }
+    let mut names = VecDeque::new(alloc);
+    for word in line.rcfiles.as_slice() {
+        names.push_back(named_rcfile(alloc, line.filter, home, word)?)?;
+    }
+    Ok(names)
+}
+
+// Whether there is no name.
+fn is_without(names: &Names) -> bool
+    ensures { result ≡ without_names names.now }
+{
+    names.as_slice().is_empty()
+}
+
+// The rcfile of the home folder.
+fn own_rcfile(alloc: Global, home: &str) -> Result<VecDeque<Name>, Memory>
+    requires usable { has_zero home.now ≡ false }
+    ensures { IfOk result (λ names. names.items ≡ home_joined home.now (codes ".procmailrc") ∷ []) }
+{
+    let mut names = VecDeque::new(alloc);
+    names.push_back(in_home(alloc, home, ".procmailrc")?)?;
+    Ok(names)
+}
+
+// The rcfile of this word.
+fn named_rcfile(alloc: Global, filter: bool, home: &str, word: &Name) -> Result<Name, Memory>
+    requires usable { has_zero home.now ≡ false }
+    ensures { IfOk result (λ name. name ≡ rcfile_named filter home.now word.now) }
+{
+    let bytes = word.as_str().as_bytes();
+    if filter || bytes.starts_with(b"/") || bytes.starts_with(b"./") {
+        return word.copy(alloc);
+    }
+    in_home(alloc, home, word.as_str())
+}
+
+// A name in the home folder.
+fn in_home(alloc: Global, home: &str, word: &str) -> Result<Name, Memory>
+    requires usable { has_zero home.now ≡ false }
+    requires word { has_zero word.now ≡ false }
+    ensures { IfOk result (λ name. name ≡ home_joined home.now word.now) }
+{
+    let mut text = String::from_str(alloc, home)?;
+    text.push_str("/")?;
+    text.push_str(word)?;
+    Ok(Name::from_text(text))
+}

@@ -1,0 +1,74 @@
+//! Copies of a process for blocks with the flag c (procmailrc(5), "Flags").
+ghost use Rattle.std.specs.Prelude.{◌≡◌, ◌≤◌, IfOk, List, drop};
+ghost use Rattle.pm_code.specs.Ahead.{others, lists_of};
+ghost use Rattle.pm_journal.specs.Executed.{Carries};
+ghost use Rattle.pm_journal.specs.Held.{Keeping};
+ghost use Rattle.pm_journal.specs.Walking.{Go};
+ghost use Rattle.pm_meaning.specs.Minds.{mind_of};
+ghost use Rattle.pm_machine.specs.Running.{Item, Running, Cloning, Refusing, step};
+ghost use Rattle.pm_frames.specs.Copies.{block_at};
+ghost use Rattle.pm_frames.specs.Frames.{items_of, steps_of, weave};
+ghost use Rattle.pm_frames.specs.declared.frames.Open.{Open as OpenBlock};
+ghost use Rattle.pm_run.specs.Ends.{copies_left};
+ghost use Rattle.pm_run.specs.Stretches.{Proceeds};
+
+use pm_actions::tell;
+use pm_acts::Outside;
+use pm_bytes::Memory;
+use pm_frames::{Queue, RcFrame, copy_for_block};
+use pm_journal::{Journal, too_many_clones};
+use pm_meaning::{Process, succeed};
+use std::alloc::Global;
+
+/// The most copies that a run makes.
+const MOST_COPIES: u64 = 16;
+
+/// A copy of the process is made for the block whose first statement stands at this place, unless the run has made 16,
+/// which is told. The process goes on behind the block.
+pub fn make_clone<D: Outside>(
+    alloc: Global,
+    place: usize,
+    frame: &RcFrame,
+    process: &mut Process,
+    queue: &mut Queue,
+    outside: &mut D,
+    journal: &mut Journal,
+) -> Result<(), Memory>
+    requires behind { (blocks : List OpenBlock) (rest : List Item) →
+        weave (others (lists_of (drop place (steps_of frame.now)))) blocks rest
+        ≡ weave (lists_of (drop frame.now.place (steps_of frame.now))) blocks rest }
+    requires keeping { Keeping journal.old process.old.locks.names }
+    ensures proceeds { Proceeds queue.old queue.new
+        (Cloning (block_at place frame.now) (items_of frame.now) (mind_of process.old))
+        (λ _. Running (items_of frame.now) (mind_of process.new)) result
+        journal.old journal.new (D.told outside.old) (D.told outside.new) }
+    ensures few { copies_left queue.new ≤ copies_left queue.old }
+    ensures count { process.new.openings ≡ process.old.openings }
+    ensures keeping { Keeping journal.new process.new.locks.names }
+{
+    if queue.made >= MOST_COPIES {
+        return refuse_clone(alloc, process, outside, journal);
+    }
+    let copy = copy_for_block(alloc, place, frame, process)?;
+    queue.copies.push_back(copy)?;
+    queue.made += 1;
+    process.chain = succeed(&process.chain);
+    Ok(())
+}
+
+// No copy is made: the recipe has failed.
+fn refuse_clone<D: Outside>(
+    alloc: Global,
+    process: &Process,
+    outside: &mut D,
+    journal: &mut Journal,
+) -> Result<(), Memory>
+    requires keeping { Keeping journal.old process.now.locks.names }
+    ensures carries { (items : List Item) → Carries (step (Refusing items (mind_of process.now)))
+        (λ _. Go (Running items (mind_of process.now))) result
+        journal.old journal.new (D.told outside.old) (D.told outside.new) }
+    ensures keeping { Keeping journal.new process.now.locks.names }
+{
+    let line = too_many_clones(alloc)?;
+    tell(alloc, process, line, outside, journal)
+}

@@ -1,0 +1,280 @@
+//! The rcfiles of the command line (procmail(1), "ARGUMENTS"): the first that can be read is run.
+ghost use Rattle.std.specs.Prelude.{◌≡◌, ◌<◌, ◌≤◌, ◌+◌, ◌&&◌, true, ◌∷◌, [], ℕ, List, length, IfOk, OnErr};
+ghost use Rattle.pm_journal.specs.Executed.{OutOfMemory};
+ghost use Rattle.pm_journal.specs.Held.{Keeping};
+ghost use Rattle.pm_journal.specs.Plan.{and_then, ask};
+ghost use Rattle.pm_journal.specs.Walking.{Interrupted};
+ghost use Rattle.pm_journal.specs.declared.acts.Act.TheVariants.{ReadFile};
+ghost use Rattle.pm_recipe.specs.Listed.{rc_of};
+ghost use Rattle.pm_meaning.specs.Minds.{mind_of};
+ghost use Rattle.pm_machine.specs.Running.{Event, Opening, entered as entered_by, step};
+ghost use Rattle.pm_machine.specs.Running.{open_next, after_read, pass_over as passed_over};
+ghost use Rattle.pm_machine.specs.Running.{ahead, left_by};
+ghost use Rattle.pm_meaning.specs.declared.process.End.TheVariants.{HostOff};
+ghost use Rattle.pm_frames.specs.Frames.{items_of, left_over};
+ghost use Rattle.pm_recipe.specs.Tree.{Trees};
+ghost use Rattle.pm_run.specs.declared.opening.Halted.TheVariants.{Resumes};
+ghost use Rattle.pm_run.specs.Ends.{halted, rule_of_opening, IsCode};
+ghost use Rattle.pm_run.specs.Stretches.{Walks};
+ghost use Rattle.pm_run.specs.Opening.{OpensFrom, OpensOne, ReadsOne, PassesOver, is_read};
+
+use crate::rcfiles::read_statements;
+use pm_actions::tell;
+use pm_acts::{Outside, read};
+use pm_bytes::{Blob, Memory, Name};
+use pm_code::{Code, compile};
+use pm_frames::RcFrame;
+use pm_journal::{Journal, couldnt_read, too_many_rcfiles};
+use pm_meaning::{End, Process, new_chain};
+use pm_recipe::Rc;
+use std::alloc::Global;
+use std::collections::VecDeque;
+use std::mem;
+
+/// Whether the only rcfile is the user's own, which may be missing, and whether MAILDIR stays as a word of the command
+/// line set it.
+#[derive(Clone, Copy)]
+pub struct Rule {
+    pub is_implied: bool,
+    pub keeps_folder: bool,
+}
+
+/// What came of the rcfiles of the command line: the code of the one that was read, or the end of a process that has read
+/// one before, or must have its rcfile. Without either there is nothing to do, and the process falls off its end.
+#[derive(Drop)]
+pub enum Opened {
+    Read(Code),
+    Ended(End),
+    Nothing,
+}
+
+/// Where a process stands that a statement ended: it is over, so or because nothing is left to do, or an rcfile of the
+/// command line has taken the place of all others.
+#[derive(Clone, Copy)]
+pub enum Halted {
+    Over(Option<End>),
+    Resumes,
+}
+
+/// What came of one rcfile: its code, the end of a mail filter without it, or nothing, and the next one is tried.
+#[derive(Drop)]
+pub enum Tried {
+    Content(Code),
+    Ends,
+    Passed,
+}
+
+/// Opens these rcfiles in order, up to one that is read. The others are left for a process that isn't on its host.
+pub fn open_first<D: Outside>(
+    alloc: Global,
+    rule: Rule,
+    mut names: VecDeque<Name>,
+    process: &mut Process,
+    outside: &mut D,
+    journal: &mut Journal,
+) -> Result<Opened, Memory>
+    requires keeping { Keeping journal.old process.old.locks.names }
+    ensures opens { IfOk result (λ opened. OpensFrom
+        (Opening (rule_of_opening rule) names.items (mind_of process.old)) opened (mind_of process.new)
+        journal.old journal.new (D.told outside.old) (D.told outside.new)) }
+    ensures counted { IfOk result (λ opened. is_read opened ≡ true → process.old.openings < process.new.openings) }
+    ensures most { IfOk result (λ opened. is_read opened ≡ true → process.new.openings ≤ 256) }
+    ensures memory { OnErr result (Interrupted {X = Event} step
+        (Opening (rule_of_opening rule) names.items (mind_of process.old))
+        journal.old journal.new (D.told outside.old) (D.told outside.new)) }
+    ensures keeping { Keeping journal.new process.new.locks.names }
+{
+    while let Some(name) = names.pop_front() {
+        match open_one(alloc, rule, name, process, outside, journal) {
+            Err(Memory) => return Err(Memory),
+            Ok(tried) => match tried {
+                Tried::Content(code) => {
+                    process.later = names;
+                    process.chain = new_chain();
+                    return Ok(Opened::Read(code));
+                }
+                Tried::Ends => return Ok(Opened::Ended(End::NoRc)),
+                Tried::Passed => {}
+            },
+        }
+    }
+    if process.rcfile.as_str().is_empty() {
+        Ok(Opened::Nothing)
+    } else {
+        Ok(Opened::Ended(End::HostOff))
+    }
+}
+
+// Opens an rcfile, unless the run has opened 256, which is told.
+fn open_one<D: Outside>(
+    alloc: Global,
+    rule: Rule,
+    name: Name,
+    process: &mut Process,
+    outside: &mut D,
+    journal: &mut Journal,
+) -> Result<Tried, Memory>
+    requires keeping { Keeping journal.old process.old.locks.names }
+    ensures opens { IfOk result (λ tried. OpensOne (rule_of_opening rule) name tried
+        (mind_of process.old) (mind_of process.new)
+        journal.old journal.new (D.told outside.old) (D.told outside.new)) }
+    ensures memory { OnErr result ((names : List (List ℕ)) →
+        OutOfMemory (open_next (rule_of_opening rule) (name ∷ names) (mind_of process.old))
+        journal.old journal.new (D.told outside.old) (D.told outside.new)) }
+    ensures keeping { Keeping journal.new process.new.locks.names }
+{
+    if process.openings >= 256 {
+        let line = too_many_rcfiles(alloc, &name)?;
+        tell(alloc, process, line, outside, journal)?;
+        return Ok(Tried::Passed);
+    }
+    process.openings += 1;
+    read_one(alloc, rule, name, process, outside, journal)
+}
+
+// Reads an rcfile that is one of 256.
+fn read_one<D: Outside>(
+    alloc: Global,
+    rule: Rule,
+    name: Name,
+    process: &mut Process,
+    outside: &mut D,
+    journal: &mut Journal,
+) -> Result<Tried, Memory>
+    requires keeping { Keeping journal.old process.old.locks.names }
+    ensures reads { IfOk result (λ tried. ReadsOne (rule_of_opening rule) name tried
+        (mind_of process.old) (mind_of process.new)
+        journal.old journal.new (D.told outside.old) (D.told outside.new)) }
+    ensures memory { let p = mind_of process.old in OnErr result ((names : List (List ℕ)) →
+        OutOfMemory (and_then (ask (ReadFile name)) (after_read (rule_of_opening rule) name names p))
+        journal.old journal.new (D.told outside.old) (D.told outside.new)) }
+    ensures keeping { Keeping journal.new process.new.locks.names }
+{
+    let noted = name.copy(alloc)?;
+    match read(alloc, &process.locks, noted, outside, journal)? {
+        Some(rc) => {
+            let code = code_of(alloc, rc.as_slice())?;
+            enter(alloc, rule, &name, process)?;
+            Ok(Tried::Content(code))
+        }
+        None => {
+            let missing = journal.last_missing();
+            pass_over(alloc, rule, &name, missing, process, outside, journal)
+        }
+    }
+}
+
+// The code of an rcfile of these bytes.
+fn code_of(alloc: Global, rc: &[u8]) -> Result<Code, Memory>
+    requires { length rc.now ≤ 1048576 }
+    ensures { IfOk result (λ code. IsCode code (rc_of rc.now)) }
+{
+    let statements = read_statements(alloc, rc)?;
+    compile(alloc, &Rc { statements })
+}
+
+// The rcfile has this name; the first one that is read, if it is of the working folder, is run from there.
+fn enter(alloc: Global, rule: Rule, name: &Name, process: &mut Process) -> Result<(), Memory>
+    ensures ok { IfOk result (λ _. mind_of process.new
+        ≡ entered_by (rule_of_opening rule) name.now (mind_of process.old)) }
+    ensures locks { process.new.locks ≡ process.old.locks }
+{
+    let is_first = process.rcfile.as_str().is_empty();
+    process.vars.set_rcfile(name)?;
+    process.rcfile = name.copy(alloc)?;
+    if !is_first || !name.as_str().as_bytes().starts_with(b"./") || rule.keeps_folder {
+        return Ok(());
+    }
+    let folder = Blob::from_slice(alloc, b".")?;
+    process.vars.set(b"MAILDIR", folder)?;
+    process.base = Name::from_text(String::from_str(alloc, ".")?);
+    Ok(())
+}
+
+// The rcfile wasn't read: a mail filter ends at once, and for any other that is told, unless there is none of the user's
+// own.
+fn pass_over<D: Outside>(
+    alloc: Global,
+    rule: Rule,
+    name: &Name,
+    missing: bool,
+    process: &Process,
+    outside: &mut D,
+    journal: &mut Journal,
+) -> Result<Tried, Memory>
+    requires keeping { Keeping journal.old process.now.locks.names }
+    ensures passes { let p = mind_of process.now in IfOk result (λ tried. PassesOver (rule_of_opening rule)
+        name.now missing tried p journal.old journal.new (D.told outside.old) (D.told outside.new)) }
+    ensures memory { OnErr result ((names : List (List ℕ)) →
+        OutOfMemory (passed_over (rule_of_opening rule) name.now names missing (mind_of process.now))
+        journal.old journal.new (D.told outside.old) (D.told outside.new)) }
+    ensures keeping { Keeping journal.new process.now.locks.names }
+{
+    if process.filter {
+        return Ok(Tried::Ends);
+    }
+    if may_miss(rule, missing) {
+        return Ok(Tried::Passed);
+    }
+    let line = couldnt_read(alloc, name)?;
+    tell(alloc, process, line, outside, journal)?;
+    Ok(Tried::Passed)
+}
+
+// Whether nothing is told of this rcfile.
+fn may_miss(rule: Rule, missing: bool) -> bool
+    ensures { result ≡ (rule.is_implied && missing) }
+{
+    rule.is_implied && missing
+}
+
+/// The next rcfile of the command line that can be read takes the place of all others of a process that isn't on its
+/// host, once their blocks were left; without one the process is over.
+pub fn open_later<D: Outside>(
+    alloc: Global,
+    frame: &mut RcFrame,
+    process: &mut Process,
+    outside: &mut D,
+    journal: &mut Journal,
+) -> Result<Halted, Memory>
+    requires keeping { Keeping journal.old process.old.locks.names }
+    ensures walks { Walks (left_by HostOff (mind_of process.old))
+        (λ way. halted way frame.new (mind_of process.new)) result
+        journal.old journal.new (D.told outside.old) (D.told outside.new) }
+    ensures keeping { Keeping journal.new process.new.locks.names }
+    ensures falls { IfOk result (λ way. way ≡ Resumes →
+        left_over process.new.openings frame.new + 1 ≤ left_over process.old.openings frame.old) }
+{
+    let names = mem::replace(&mut process.later, VecDeque::new(alloc));
+    let rule = Rule {
+        is_implied: false,
+        keeps_folder: true,
+    };
+    match open_first(alloc, rule, names, process, outside, journal) {
+        Err(Memory) => Err(Memory),
+        Ok(opened) => match opened {
+            Opened::Read(code) => {
+                *frame = begin_frame(alloc, code);
+                Ok(Halted::Resumes)
+            }
+            Opened::Ended(end) => Ok(Halted::Over(Some(end))),
+            Opened::Nothing => Ok(Halted::Over(None)),
+        },
+    }
+}
+
+/// The rcfile of this code, with all of it left.
+pub fn begin_frame(alloc: Global, code: Code) -> RcFrame
+    ensures whole { (trees : Trees) → IsCode code trees → items_of result ≡ ahead trees [] }
+    ensures place { result.place ≡ 0 }
+    ensures code { result.code ≡ code }
+    ensures blocks { result.blocks.items ≡ [] }
+    ensures outer { result.outer.items ≡ [] }
+{
+    RcFrame {
+        code,
+        place: 0,
+        blocks: VecDeque::new(alloc),
+        outer: VecDeque::new(alloc),
+    }
+}
