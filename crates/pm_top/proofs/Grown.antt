@@ -15,15 +15,15 @@ use Rattle.pm_journal.specs.declared.acts.Entry.{Entry}
 use Rattle.pm_journal.proofs.ChildrenStay.{left_off_child}
 use Rattle.pm_journal.proofs.FilesGrow.{accounts_grow, made_join, one_of_left, one_of_right}
 use Rattle.pm_journal.proofs.LeftOff.{unfinished_grows}
-use Rattle.pm_meaning.specs.Running.{State, step}
-use Rattle.pm_meaning.specs.declared.process.Ending.{Ending}
+use Rattle.pm_machine.specs.Courses.{Course, advance}
+use Rattle.pm_machine.specs.declared.ending.Ending.{Ending}
 use Rattle.pm_top.specs.Run.{Run}
 use Rattle.pm_top.specs.Outcome.{Outcome, left_off}
 use Rattle.pm_top.specs.Account.{done_in, calls_in, given_in, Account}
 use Rattle.pm_top.specs.Promise.{HasGrown}
 
 -- an act that was left off added nothing to a file
-unfinished_adds : (s : State) (done : List Entry) (calls : List Logged) (w : World) → IsUnfinished {X = Ending} step s done calls → AllRight calls w → AllGrow [] (asked_folders calls) w (after_calls calls w)
+unfinished_adds : (c : Course) (done : List Entry) (calls : List Logged) (w : World) → IsUnfinished {X = Ending} advance c done calls → AllRight calls w → AllGrow [] (asked_folders calls) w (after_calls calls w)
 unfinished_adds s done calls w h right = elim h.off [ inl k ↦ unfinished_grows k.wanted calls w k.leaves right | inr k ↦ unfinished_grows Moment calls w k.none right ]
 
 calls_add : (run : Run) (how : Outcome run) (w : World) → AllRight (calls_in run how) w → AllGrow [] (asked_folders (calls_in run how)) w (after_calls (calls_in run how) w)
@@ -99,7 +99,7 @@ grown_in run how a =
     (subst (λ es. Tells (AllGrow es ((all_folders done ++ all_folders given) ++ asked)) run.before.host.world run.after.host.world) (sym a.entries_are)
     (subst (λ h. Tells (AllGrow (done ++ given) ((all_folders done ++ all_folders given) ++ asked)) run.before.host.world h.world) (sym a.host_same) whole))
 
-unfinished_child : (s : State) (done : List Entry) (calls : List Logged) → IsUnfinished {X = Ending} step s done calls → child_after calls NoChild ≡ NoChild
+unfinished_child : (c : Course) (done : List Entry) (calls : List Logged) → IsUnfinished {X = Ending} advance c done calls → child_after calls NoChild ≡ NoChild
 unfinished_child s done calls h = elim h.off [ inl k ↦ left_off_child k.wanted calls k.leaves | inr k ↦ ap (λ c. child_after c NoChild) k.none ]
 
 -- the act that was left off left no child running

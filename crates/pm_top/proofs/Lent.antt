@@ -7,8 +7,8 @@ use Rattle.pm_journal.specs.Entries.{View, view_of, Accounts}
 use Rattle.pm_journal.specs.Executed.{TakesCalls}
 use Rattle.pm_journal.specs.Walking.{Completes, Abandoned}
 use Rattle.pm_journal.specs.declared.acts.Entry.{Entry}
-use Rattle.pm_meaning.specs.Running.{State, step}
-use Rattle.pm_meaning.specs.declared.process.Ending.{Ending}
+use Rattle.pm_machine.specs.Courses.{Course, advance}
+use Rattle.pm_machine.specs.declared.ending.Ending.{Ending}
 
 -- the view without its references
 abbrev pub plain : View → View
@@ -29,10 +29,10 @@ accounts_plain es a b h = record {
 takes_plain : (calls : List Logged) (a b : View) → TakesCalls calls a b → TakesCalls calls (plain a) (plain b)
 takes_plain calls a b h = record { ran = h.ran; out_same = h.out_same; err_same = h.err_same; same = refl }
 
-completes_plain : (s : State) (end : Ending) (x y : JournalState) (a b : View) → Completes step s end x y a b → Completes step s end x y (plain a) (plain b)
+completes_plain : (c : Course) (end : Ending) (x y : JournalState) (a b : View) → Completes advance c end x y a b → Completes advance c end x y (plain a) (plain b)
 completes_plain s end x y a b h = record { more = h.more; entries = h.entries; means = h.means; accounts = accounts_plain h.more a b h.accounts }
 
-abandoned_plain : (s : State) (x y : JournalState) (a b : View) → Abandoned {X = Ending} step s x y a b → Abandoned {X = Ending} step s x y (plain a) (plain b)
+abandoned_plain : (c : Course) (x y : JournalState) (a b : View) → Abandoned {X = Ending} advance c x y a b → Abandoned {X = Ending} advance c x y (plain a) (plain b)
 abandoned_plain s x y a b h = record {
   done = h.done;
   given = h.given;
@@ -49,18 +49,18 @@ abandoned_plain s x y a b h = record {
   back = accounts_plain h.given h.later b h.back;
 }
 
-pub ends_plain : (s : State) (result : Result Ending Memory) (x y : JournalState) (a b : View) → IfOk result (λ end. Completes step s end x y a b) → IfOk result (λ end. Completes step s end x y (plain a) (plain b))
+pub ends_plain : (c : Course) (result : Result Ending Memory) (x y : JournalState) (a b : View) → IfOk result (λ end. Completes advance c end x y a b) → IfOk result (λ end. Completes advance c end x y (plain a) (plain b))
 ends_plain s (Ok end) x y a b h = completes_plain s end x y a b h
 ends_plain s (Err m) x y a b h = tt
 
-pub starves_plain : (s : State) (result : Result Ending Memory) (x y : JournalState) (a b : View) → OnErr result (Abandoned {X = Ending} step s x y a b)
-    → OnErr result (Abandoned {X = Ending} step s x y (plain a) (plain b))
+pub starves_plain : (c : Course) (result : Result Ending Memory) (x y : JournalState) (a b : View) → OnErr result (Abandoned {X = Ending} advance c x y a b)
+    → OnErr result (Abandoned {X = Ending} advance c x y (plain a) (plain b))
 starves_plain s (Ok end) x y a b h = tt
 starves_plain s (Err m) x y a b h = abandoned_plain s x y a b h
 
 -- the references after the process are those before it
-pub lent_back : (s : State) (result : Result Ending Memory) (x y : JournalState) (a b : View) → IfOk result (λ end. Completes step s end x y a b)
-    → OnErr result (Abandoned {X = Ending} step s x y a b) → b.references ≡ a.references
+pub lent_back : (c : Course) (result : Result Ending Memory) (x y : JournalState) (a b : View) → IfOk result (λ end. Completes advance c end x y a b)
+    → OnErr result (Abandoned {X = Ending} advance c x y a b) → b.references ≡ a.references
 lent_back s (Ok end) x y a b h k = h.accounts.same
 lent_back s (Err m) x y a b h k = k.back.same ∙ (k.took.same ∙ k.accounts.same)
 

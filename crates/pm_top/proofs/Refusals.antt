@@ -1,8 +1,8 @@
 -- What a run's source and status tell of how it went.
 use Rattle.std.proofs.Common.{◌≡◌, ◌<◌, ◌⊎◌, inl, inr, ℕ, List, length, Option, Some, None, sym, ap, ◌∙◌, subst, arith}
 use Rattle.pm_host.specs.Told.{Tells}
-use Rattle.pm_top.specs.Words.{command_line}
-use Rattle.pm_meaning.specs.declared.command_line.CommandLine.{CommandLine}
+use Rattle.pm_words.specs.Words.{command_line}
+use Rattle.pm_machine.specs.declared.command_line.CommandLine.{CommandLine}
 use Rattle.pm_top.specs.Drain.{IsDrained, Drained, NoFault}
 use Rattle.pm_host.specs.Streams.{StreamView}
 use Rattle.pm_top.specs.Run.{Run}

@@ -6,13 +6,13 @@ use Rattle.pm_journal.specs.Entries.{View, Accounts}
 use Rattle.pm_journal.specs.Executed.{TakesCalls}
 use Rattle.pm_journal.specs.Walking.{Means, Completes, Abandoned}
 use Rattle.pm_journal.proofs.AccountsJoin.{accounts_none}
-use Rattle.pm_top.specs.Words.{command_line}
-use Rattle.pm_meaning.specs.Running.{Arrived, step}
-use Rattle.pm_meaning.specs.Status.{status_number, status_in}
-use Rattle.pm_meaning.specs.declared.command_line.CommandLine.{CommandLine}
-use Rattle.pm_meaning.specs.declared.process.Ending.{Ending}
-use Rattle.pm_meaning.specs.declared.status.Status.{Status}
-use Rattle.pm_meaning.specs.declared.status.Status.TheVariants.{Usage, DataError, SystemError, InputOutput}
+use Rattle.pm_words.specs.Words.{command_line}
+use Rattle.pm_machine.specs.Courses.{advance, run_of}
+use Rattle.pm_machine.specs.Status.{status_number}
+use Rattle.pm_machine.specs.declared.command_line.CommandLine.{CommandLine}
+use Rattle.pm_machine.specs.declared.ending.Ending.{Ending}
+use Rattle.pm_machine.specs.declared.status.Status.{Status}
+use Rattle.pm_machine.specs.declared.status.Status.TheVariants.{Usage, DataError, SystemError, InputOutput}
 use Rattle.pm_top.specs.Drain.{Drained, ReadPast, StopsFailed}
 use Rattle.pm_top.specs.Run.{Run}
 use Rattle.pm_top.specs.Outcome.{SaysLine, LastLine, status_line, Refused, BadWords, ReadFault, TooLong, NotBegun, HasMeaning, LeftOff, Outcome, bad_words, read_fault, too_long, not_begun, left_off, meant}
@@ -71,17 +71,17 @@ not_begun_read run None e some r = let e : false ≡ true = some in cc
 
 -- a process that came to its end
 pub meant_run : (run : Run) (line : CommandLine) (mail : List ℕ) (ending : Ending) (x y : JournalState) (middle : View) → x.entries ≡ [] → run.entries ≡ y.entries
-    → Completes step (Arrived line run.env mail) ending x y run.before middle → command_line run.words ≡ Some line → Drained mail run.source run.rest → run.status ≡ status_in line ending
+    → Completes advance (run_of line run.env mail) ending x y run.before middle → command_line run.words ≡ Some line → Drained mail run.source run.rest → run.status ≡ ending.status
     → run.after.host ≡ middle.host → run.after.out ≡ middle.out → LastLine ending.end middle.err run.after.err → Traced run
 meant_run run line mail ending x y middle e is h read drained status hs os last =
     let same : h.more ≡ run.entries = sym (is ∙ (h.entries ∙ ap (λ l. l ++ h.more) e)) in
-    let means : Means step (Arrived line run.env mail) run.entries ending = subst (λ l. Means step (Arrived line run.env mail) l ending) same h.means in
+    let means : Means advance (run_of line run.env mail) run.entries ending = subst (λ l. Means advance (run_of line run.env mail) l ending) same h.means in
     let how : HasMeaning run = record { line = line; read = read; mail = mail; drained = drained; ending = ending; means = means; status_is = status } in
     record { how = meant how; account = whole_account run (meant how) middle tt (subst (λ l. Accounts l run.before middle) same h.accounts) hs os last }
 
 -- a process that was left off
 pub left_run : (run : Run) (line : CommandLine) (mail : List ℕ) (x y : JournalState) (last : View) → x.entries ≡ [] → run.entries ≡ y.entries
-    → Abandoned {X = Ending} step (Arrived line run.env mail) x y run.before last → command_line run.words ≡ Some line → Drained mail run.source run.rest → run.status ≡ status_number SystemError
+    → Abandoned {X = Ending} advance (run_of line run.env mail) x y run.before last → command_line run.words ≡ Some line → Drained mail run.source run.rest → run.status ≡ status_number SystemError
     → run.after.host ≡ last.host → run.after.out ≡ last.out → SaysLine (status_line SystemError) last.err run.after.err → Traced run
 left_run run line mail x y last e is h read drained status hs os said =
     let parts : run.entries ≡ h.done ++ h.given = is ∙ (h.entries ∙ ap (λ l. l ++ h.done ++ h.given) e) in

@@ -4,4 +4,3 @@ pub mod Outcome
 pub mod Account
 pub mod Promise
 pub mod Traced
-pub mod Words

@@ -7,15 +7,15 @@ use Rattle.pm_journal.specs.Walking.{Means, IsUnfinished}
 use Rattle.pm_journal.specs.declared.acts.Entry.{Entry}
 use Rattle.pm_append.specs.Writing.{WritesText}
 use Rattle.pm_append.specs.declared.writing.WriteEnd.{WriteEnd}
-use Rattle.pm_top.specs.Words.{command_line}
-use Rattle.pm_meaning.specs.Running.{Arrived, step}
-use Rattle.pm_meaning.specs.Status.{status_number, status_in}
-use Rattle.pm_meaning.specs.declared.command_line.CommandLine.{CommandLine}
+use Rattle.pm_words.specs.Words.{command_line}
+use Rattle.pm_machine.specs.Courses.{advance, run_of}
+use Rattle.pm_machine.specs.Status.{status_number}
+use Rattle.pm_machine.specs.declared.command_line.CommandLine.{CommandLine}
 use Rattle.pm_meaning.specs.declared.process.End.{End}
 use Rattle.pm_meaning.specs.declared.process.End.TheVariants.{NoRc}
-use Rattle.pm_meaning.specs.declared.process.Ending.{Ending}
-use Rattle.pm_meaning.specs.declared.status.Status.{Status}
-use Rattle.pm_meaning.specs.declared.status.Status.TheVariants.{Usage, DataError, NoInput, SystemError, InputOutput}
+use Rattle.pm_machine.specs.declared.ending.Ending.{Ending}
+use Rattle.pm_machine.specs.declared.status.Status.{Status}
+use Rattle.pm_machine.specs.declared.status.Status.TheVariants.{Usage, DataError, NoInput, SystemError, InputOutput}
 use Rattle.pm_top.specs.Drain.{Drained, ReadPast, StopsFailed}
 use Rattle.pm_top.specs.Run.{Run}
 
@@ -82,7 +82,7 @@ pub record LeftOff (run : Run) : Type 0 where
   pub drained : Drained mail run.source run.rest
   pub done : List Entry
   pub left_off : List Logged
-  pub unfinished : IsUnfinished {X = Ending} step (Arrived line run.env mail) done left_off
+  pub unfinished : IsUnfinished {X = Ending} advance (run_of line run.env mail) done left_off
   pub held : List (List ℕ)
   pub kept : Keeps [] done held
   pub given : List Entry
@@ -97,8 +97,8 @@ pub record HasMeaning (run : Run) : Type 0 where
   pub mail : List ℕ
   pub drained : Drained mail run.source run.rest
   pub ending : Ending
-  pub means : Means step (Arrived line run.env mail) run.entries ending
-  pub status_is : run.status ≡ status_in line ending
+  pub means : Means advance (run_of line run.env mail) run.entries ending
+  pub status_is : run.status ≡ ending.status
 
 -- how a run went
 pub data Outcome (run : Run) : Type 0 where

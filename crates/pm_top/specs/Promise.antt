@@ -7,7 +7,7 @@ use Rattle.pm_journal.specs.Entries.{counts_of, view_of, Honest, joined, after_e
 use Rattle.pm_journal.specs.declared.acts.Counts.{Counts}
 use Rattle.pm_journal.specs.Deliveries.{all_folders, asked_folders, AllDelivered, AllGrow}
 use Rattle.pm_journal.specs.Held.{AllGivenBack}
-use Rattle.pm_top.specs.Words.{command_line}
+use Rattle.pm_words.specs.Words.{command_line}
 use Rattle.pm_top.specs.Run.{Run}
 use Rattle.pm_top.specs.Outcome.{BadWords, ReadFault, TooLong, NotBegun, LeftOff, HasMeaning, Outcome, left_off}
 use Rattle.pm_top.specs.Account.{done_in, calls_in, given_in, Account}

@@ -4,8 +4,6 @@
 
 pub mod drain;
 pub mod top;
-pub mod words;
 
 pub use drain::{Mail, read_mail};
 pub use top::{procmail, refuse};
-pub use words::read_words;

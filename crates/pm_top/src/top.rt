@@ -3,21 +3,23 @@ ghost use Rattle.std.specs.Prelude.{◌≡◌, [], IfOk, OnErr};
 ghost use Rattle.pm_journal.specs.Entries.{view_of};
 ghost use Rattle.pm_journal.specs.Held.{Keeping};
 ghost use Rattle.pm_journal.specs.Walking.{Completes, Abandoned};
-ghost use Rattle.pm_meaning.specs.Running.{Arrived, step};
-ghost use Rattle.pm_meaning.specs.Status.{status_number, end_status};
-ghost use Rattle.pm_meaning.specs.declared.process.Ending.{Ending};
+ghost use Rattle.pm_machine.specs.Courses.{advance, run_of};
+ghost use Rattle.pm_machine.specs.Status.{status_number};
+ghost use Rattle.pm_machine.specs.declared.ending.Ending.{Ending};
 ghost use Rattle.pm_top.specs.Outcome.{SaysLine, LastLine, status_line};
 ghost use Rattle.pm_top.specs.Promise.{Promise};
 ghost use Rattle.pm_top.specs.Traced.{RunsLine, RunsMail};
 
-use crate::{Mail, read_mail, read_words};
+use crate::{Mail, read_mail};
 use pm_acts::{Objects, lend};
 use pm_append::write_text;
 use pm_bytes::{Blob, Environ, Memory};
 use pm_host::{Child, Host, Sink, Source};
 use pm_journal::Journal;
-use pm_meaning::{CommandLine, End, Ending, Status, status_of};
-use pm_run::run_process;
+use pm_machine::{CommandLine, Ending, Status};
+use pm_meaning::End;
+use pm_run::run_processes;
+use pm_words::read_words;
 use std::alloc::Global;
 
 /// Reads the words and the message, carries out the recipes, notes each act in the journal, and answers the
@@ -142,14 +144,13 @@ fn run_mail<'a, H: Host, O: Sink, E: Sink>(
     ensures out { objects.new.out.ghost_name ≡ objects.old.out.ghost_name }
     ensures err { objects.new.err.ghost_name ≡ objects.old.err.ghost_name }
 {
-    let softly = line.fails_softly;
     match run_objects(alloc, line, env, bytes, objects, journal) {
-        Ok(ending) => finish(&mut *objects.err, softly, ending),
+        Ok(ending) => finish(&mut *objects.err, ending),
         Err(Memory) => refuse(&mut *objects.err, Status::SystemError),
     }
 }
 
-// The process, after which the objects are the same ones.
+// The processes, after which the objects are the same ones.
 fn run_objects<'a, H: Host, O: Sink, E: Sink>(
     alloc: Global,
     line: CommandLine,
@@ -159,11 +160,11 @@ fn run_objects<'a, H: Host, O: Sink, E: Sink>(
     journal: &mut Journal,
 ) -> Result<Ending, Memory>
     requires keeping { Keeping journal.old [] }
-    ensures ok { IfOk result (λ ending. Completes step (Arrived line env.now bytes) ending
+    ensures ok { IfOk result (λ ending. Completes advance (run_of line env.now bytes) ending
         journal.old journal.new
         (view_of (H.told objects.old.host.now) (O.told objects.old.out.now) (E.told objects.old.err.now))
         (view_of (H.told objects.new.host.now) (O.told objects.new.out.now) (E.told objects.new.err.now))) }
-    ensures memory { OnErr result (Abandoned {X = Ending} step (Arrived line env.now bytes)
+    ensures memory { OnErr result (Abandoned {X = Ending} advance (run_of line env.now bytes)
         journal.old journal.new
         (view_of (H.told objects.old.host.now) (O.told objects.old.out.now) (E.told objects.old.err.now))
         (view_of (H.told objects.new.host.now) (O.told objects.new.out.now) (E.told objects.new.err.now))) }
@@ -172,18 +173,18 @@ fn run_objects<'a, H: Host, O: Sink, E: Sink>(
     ensures out { objects.new.out.ghost_name ≡ objects.old.out.ghost_name }
     ensures err { objects.new.err.ghost_name ≡ objects.old.err.ghost_name }
 {
-    run_process(alloc, line, env, bytes, objects, journal)
+    run_processes(alloc, line, env, bytes, objects, journal)
 }
 
-// The status of a run that ended so, softly or not; a mail filter without its rcfile says so.
-fn finish<E: Sink>(err: &mut E, softly: bool, ending: Ending) -> u8
-    ensures status { result ≡ status_number (end_status softly ending.end) }
+// The status of a run that ended so; a mail filter without its rcfile says so.
+fn finish<E: Sink>(err: &mut E, ending: Ending) -> u8
+    ensures status { result ≡ ending.status }
     ensures last { LastLine ending.end (E.told err.old) (E.told err.new) }
 {
-    match ending.end {
-        End::NoRc => refuse(err, Status::NoInput),
-        other => status_of(softly, other).number(),
+    if ending.end == End::NoRc {
+        write_text(err, line_of(Status::NoInput));
     }
+    ending.status
 }
 
 /// Says the line of this status, if it has one, and answers its number. It takes no memory.
@@ -207,6 +208,5 @@ fn line_of(status: Status) -> &'static [u8]
         Status::Success => b"",
         Status::CannotCreate => b"",
         Status::TemporaryFailure => b"",
-        Status::NotBuilt => b"",
     }
 }

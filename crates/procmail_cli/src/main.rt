@@ -4,7 +4,7 @@
 
 use pm_bytes::{Environ, Memory};
 use pm_journal::Journal;
-use pm_meaning::Status;
+use pm_machine::Status;
 use pm_real::{RealHost, RealSink, RealSource};
 use pm_start::{Words, machine_name, read_environment, read_words};
 use pm_top::{procmail, refuse};
