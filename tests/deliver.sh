@@ -34,7 +34,7 @@ status=0
 [ "$(cat said)" = "procmail: No rcfile" ] || fail "a missing rcfile said: $(cat said)"
 
 status=0
-"$program" < message 2> said || status=$?
-[ "$status" -eq 64 ] || fail "no words gave status $status"
-[ "$(cat said)" = "procmail: Bad words" ] || fail "no words said: $(cat said)"
+"$program" -f < message 2> said || status=$?
+[ "$status" -eq 64 ] || fail "a missing sender gave status $status"
+[ "$(cat said)" = "procmail: Bad words" ] || fail "a missing sender said: $(cat said)"
 echo "deliver: passed"

@@ -15,8 +15,11 @@ refused() {
     cmp -s said want || fail "the words $* gave another line: $(cat said)"
     [ ! -e mbox ] || fail "the words $* delivered"
 }
-refused
 refused -x
+refused -m
+refused -f
+refused 1X=2
+refused ''
 refused "$(printf './rc\377')"
 refused -m "$(printf 'rc\377')"
 
