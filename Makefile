@@ -4,13 +4,12 @@
 
 build: build-procmail build-lockfile build-formail
 
-# bin/procmail, built once its crates are proved. The build ends by starting the program without words, which is a
-# usage error (64).
+# bin/procmail, built once its crates are proved. The build ends by starting the program with a word that isn't read (64).
 build-procmail:
 	@mkdir -p bin
 	@echo "Building bin/procmail. Its crates are proved first: from nothing about a quarter of an hour on four processors,"
 	@echo "with nothing changed some seconds. The log is bin/build.log."
-	@cd crates/procmail_cli && { bash ../../.ci/watch ../../bin/build.log rt run; status=$$?; \
+	@cd crates/procmail_cli && { bash ../../.ci/watch ../../bin/build.log rt run -- -x; status=$$?; \
 	    if [ $$status -ne 64 ]; then tail -n 40 ../../bin/build.log >&2; exit 1; fi; }
 	@cp crates/procmail_cli/out/procmail_cli bin/procmail
 
