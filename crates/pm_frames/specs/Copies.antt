@@ -1,9 +1,10 @@
 -- Copies of a process for blocks, as the meaning sees them.
-use Rattle.std.specs.Prelude.{ℕ, List, map, drop, Option, None}
+use Rattle.std.specs.Prelude.{◌≡◌, ℕ, List, ◌∷◌, map, drop, Option, None}
 use Rattle.pm_recipe.specs.Tree.{Trees}
 use Rattle.pm_code.specs.Flat.{Flat, flats_of}
 use Rattle.pm_code.specs.Ahead.{first, lists_of}
 use Rattle.pm_meaning.specs.Minds.{mind_of}
+use Rattle.pm_meaning.specs.declared.chain.Chain.{Chain}
 use Rattle.pm_machine.specs.Courses.{Others}
 use Rattle.pm_machine.specs.Running.{Task}
 use Rattle.pm_machine.specs.declared.ending.Ending.{Ending}
@@ -43,3 +44,11 @@ left_of w = record { name = w.name; steps = flats_of w.code.steps.items; place =
 -- the same in a copy
 abbrev pub unlocked_left : Waiting → Left
 unlocked_left w = record { name = w.name; steps = flats_of w.code.steps.items; place = w.place; blocks = map unlocked_block w.blocks.items }
+
+-- A copy's rcfile in progress: the same code at this place, a block of a recipe with this chain and then those that were open, and the
+-- rcfiles that wait, all of them without locks.
+pub record IsCopied (place : ℕ) (chain : Chain) (old new : RcFrame) : Type 0 where
+  pub steps : steps_of new ≡ steps_of old
+  pub at : new.place ≡ place
+  pub blocks : new.blocks.items ≡ record { saved = chain; lock = None } ∷ map unlocked_block old.blocks.items
+  pub outer : map left_of new.outer.items ≡ map unlocked_left old.outer.items

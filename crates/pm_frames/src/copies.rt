@@ -6,7 +6,7 @@ ghost use Rattle.pm_meaning.specs.Minds.{mind_of};
 ghost use Rattle.pm_machine.specs.Running.{Item, clone_of, copied, inside, unlocked};
 ghost use Rattle.pm_frames.specs.Frames.{items_of, steps_of, weave};
 ghost use Rattle.pm_frames.specs.declared.frames.Open.{Open as OpenBlock};
-ghost use Rattle.pm_frames.specs.Copies.{task_of, block_at, left_of, unlocked_block, unlocked_left};
+ghost use Rattle.pm_frames.specs.Copies.{task_of, block_at, left_of, unlocked_block, unlocked_left, IsCopied};
 
 use crate::frames::{Open, RcFrame, Waiting};
 use crate::queue::Copy;
@@ -28,8 +28,9 @@ pub fn copy_for_block(
     requires behind { (blocks : List OpenBlock) (rest : List Item) →
         weave (others (lists_of (drop place (steps_of frame.now)))) blocks rest
         ≡ weave (lists_of (drop frame.now.place (steps_of frame.now))) blocks rest }
-    ensures { IfOk result (λ copy. task_of copy
+    ensures task { IfOk result (λ copy. task_of copy
         ≡ clone_of (block_at place frame.now) (items_of frame.now) (mind_of process.now)) }
+    ensures frame { IfOk result (λ copy. IsCopied place process.now.chain frame.now copy.frame) }
 {
     Ok(Copy {
         frame: copy_frame(alloc, place, process.chain, frame)?,
@@ -42,8 +43,9 @@ fn copy_frame(alloc: Global, place: usize, chain: Chain, frame: &RcFrame) -> Res
     requires behind { (blocks : List OpenBlock) (rest : List Item) →
         weave (others (lists_of (drop place (steps_of frame.now)))) blocks rest
         ≡ weave (lists_of (drop frame.now.place (steps_of frame.now))) blocks rest }
-    ensures { IfOk result (λ copy. items_of copy
+    ensures items { IfOk result (λ copy. items_of copy
         ≡ unlocked (inside (block_at place frame.now) chain None (items_of frame.now))) }
+    ensures copied { IfOk result (λ copy. IsCopied place chain frame.now copy) }
 {
     let code = frame.code.copy(alloc)?;
     let mut blocks = copy_blocks(alloc, &frame.blocks)?;

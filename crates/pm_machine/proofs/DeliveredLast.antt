@@ -36,7 +36,7 @@ abbrev OverOrDelivers : Course → List Entry → Ending → Type 0
 OverOrDelivers c es z = IsOverBy c es z ⊎ DeliversLast c es z
 
 -- a step of the process is one of the run
-advanced : (o : Others) (s : State) (es : List Entry) (next : Next State Event) → Plays (step s) es next → Plays (advance (now_at o s)) es (onward o next)
+pub advanced : (o : Others) (s : State) (es : List Entry) (next : Next State Event) → Plays (step s) es next → Plays (advance (now_at o s)) es (onward o next)
 advanced o s es next h =
     subst (λ l. Plays (advance (now_at o s)) l (onward o next)) (append-nil es)
     (plays_then (step s) (λ m. Ends (onward o m)) es [] next (onward o next) h refl)

@@ -30,10 +30,10 @@ one_of_two true n c d es z P first second h = first h
 one_of_two false n c d es z P first second h = second h
 
 -- within so many steps the run ends as its first process did
-abbrev Kept : ℕ → Type 0
+abbrev pub Kept : ℕ → Type 0
 Kept n = (o : Others) (first : Ending) (s : State) (es : List Entry) (z : Ending) → o.first ≡ Some first → Plays (walk advance n (now_at o s)) es (Some z) → z ≡ first
 
-next_kept : (n : ℕ) (queue : List Task) (made : ℕ) (first : Ending) (placed openings : ℕ) (es : List Entry) (z : Ending) → Kept n → Plays (on_with n (next_process queue made first placed openings)) es (Some z) → z ≡ first
+pub next_kept : (n : ℕ) (queue : List Task) (made : ℕ) (first : Ending) (placed openings : ℕ) (es : List Entry) (z : Ending) → Kept n → Plays (on_with n (next_process queue made first placed openings)) es (Some z) → z ≡ first
 next_kept n [] made first placed openings [] z keeps h = let e : Some z ≡ Some first = h in cc
 next_kept n [] made first placed openings (e ∷ es) z keeps h = absurd h
 next_kept n (task ∷ tasks) made first placed openings es z keeps h =

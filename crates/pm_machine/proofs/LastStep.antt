@@ -21,7 +21,7 @@ use Rattle.pm_machine.proofs.Closings.{block_given, delivery_told, trapped, glob
 use Rattle.pm_machine.proofs.Lines.{then_end}
 use Rattle.pm_machine.proofs.MailboxDelivered.{delivered_to}
 use Rattle.pm_machine.proofs.NoDelivery.{delivers, never_ends}
-use Rattle.pm_machine.proofs.NoLast.{is_last, never_prepared, never_setting, never_opening, never_opened, never_left, never_refused, never_lost}
+use Rattle.pm_machine.proofs.NoLast.{is_last, not_last, never_prepared, never_setting, never_opening, never_opened, never_left, never_refused, never_lost}
 use Rattle.pm_machine.proofs.TreeDelivered.{DeliversTree, DeliversState, by_statement, by_tree}
 
 -- after a step that is the last, the turn delivered
@@ -138,15 +138,15 @@ closed_last ending p next es h passes =
     record { ended = delivered_end ending.end (sym (ap is_last (given_end p.locks last es next h)) ∙ passes); closing = all_given p.locks last es next h }
 
 pub last_step : (s : State) (next : Next State Event) (es : List Entry) → Plays (step s) es next → is_last next ≡ true → EndsOrDelivers s es
-last_step (Arrived line env bytes) next es h passes = absurd (never_prepared line env bytes es next h passes)
-last_step (Setting pairs line home p) next es h passes = absurd (never_setting pairs line home p es next h passes)
+last_step (Arrived line env bytes) next es h passes = absurd (never_prepared is_last not_last line env bytes es next h passes)
+last_step (Setting pairs line home p) next es h passes = absurd (never_setting is_last not_last pairs line home p es next h passes)
 last_step (Opening o names p) next es h passes = absurd (never_opening o names p es next h passes)
 last_step (Running items p) next es h passes = inr (running_last items p es next h passes)
-last_step (Including name rest p) next es h passes = absurd (never_opened name rest p (included name rest) (λ trees q. refl) es next h passes)
-last_step (Switching name rest p) next es h passes = absurd (never_opened name rest p (switched name rest) (λ trees q. refl) es next h passes)
-last_step (LeavingFile locks items p) next es h passes = absurd (never_left locks items p es next h passes)
+last_step (Including name rest p) next es h passes = absurd (never_opened is_last not_last name rest p (included name rest) (λ trees q. refl) es next h passes)
+last_step (Switching name rest p) next es h passes = absurd (never_opened is_last not_last name rest p (switched name rest) (λ trees q. refl) es next h passes)
+last_step (LeavingFile locks items p) next es h passes = absurd (never_left is_last not_last locks items p es next h passes)
 last_step (Cloning trees items p) next es h passes = absurd (never_ends is_last (Stop (WantsClone trees items p)) refl es next h passes)
-last_step (Refusing items p) next es h passes = absurd (never_refused items p es next h passes)
+last_step (Refusing items p) next es h passes = absurd (never_refused is_last not_last items p es next h passes)
 last_step (FallingOff mailboxes p) next es h passes = inr (falling_last mailboxes p es next h passes)
 last_step (Leaving [] end p) next es h passes = inl (left_all end p next es h passes)
 last_step (Leaving (lock ∷ locks) end p) next es h passes = inl (left_one lock locks end p next es h passes)

@@ -11,5 +11,8 @@ pub mod TreeDelivered
 pub mod LastStep
 pub mod FirstKept
 pub mod DeliveredLast
+pub mod NoStray
+pub mod DefaultDelivered
+pub mod ClearRun
 pub mod Lifting
 mod StatusRows

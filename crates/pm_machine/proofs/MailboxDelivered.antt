@@ -30,7 +30,7 @@ use Rattle.pm_meaning.specs.declared.process.End.TheVariants.{Delivered}
 use Rattle.pm_journal.proofs.WalkJoin.{parts_of}
 use Rattle.pm_meaning.proofs.StoredDone.{stored_is_done}
 use Rattle.pm_machine.proofs.Lines.{told_of, lines_join}
-use Rattle.pm_machine.proofs.NoDelivery.{delivers, never_told, never_skipped}
+use Rattle.pm_machine.proofs.NoDelivery.{delivers, no_delivery, never_told, never_skipped}
 
 -- what a delivery for good did, in its own entries
 pub record DeliversHere (flags : Flags) (words : List (List ℕ)) (p : Mind) (es : List Entry) : Type 0 where
@@ -179,8 +179,8 @@ delivered_at flags lock blamed text words p es turn usable h passes =
     let ds = map destination_of words in
     let filing = file_and_say flags lock text ds p in
     let free : Plan Turn = if any_held (map (full_of p.base) ds) p.locks then refuse_name text p else filing in
-    if_last P (is_taken lock (map (full_of p.base) ds) p.locks) (refuse_name blamed p) free es turn (λ l. absurd (never_told p (unusable_name_line blamed) es turn l passes))
-    (if_last P (any_held (map (full_of p.base) ds) p.locks) (refuse_name text p) filing es turn (λ l. absurd (never_told p (unusable_name_line text) es turn l passes))
+    if_last P (is_taken lock (map (full_of p.base) ds) p.locks) (refuse_name blamed p) free es turn (λ l. absurd (never_told delivers no_delivery p (unusable_name_line blamed) es turn l passes))
+    (if_last P (any_held (map (full_of p.base) ds) p.locks) (refuse_name text p) filing es turn (λ l. absurd (never_told delivers no_delivery p (unusable_name_line text) es turn l passes))
     (λ l. filed_and_said flags lock text words p es turn usable l passes)) h
 
 delivered_named : (flags : Flags) (word : Option (List ℕ)) (blamed text : List ℕ) (words : List (List ℕ)) (p : Mind) (es : List Entry) (turn : Turn) → Plays (deliver_named flags word blamed text words p) es turn → delivers turn ≡ true
@@ -189,7 +189,7 @@ delivered_named flags word blamed text words p es turn h passes =
     let last = deliver_at flags (full_lock p.base word) blamed text (map destination_of words) p in
     elim (are_file_texts words) as (λ b. are_file_texts words ≡ b → Plays (if not b then refuse_name text p else last) es turn → DeliversHere flags words p es) [
       | true ↦ λ usable l. delivered_at flags (full_lock p.base word) blamed text words p es turn usable l passes
-      | false ↦ λ usable l. absurd (never_told p (unusable_name_line text) es turn l passes)
+      | false ↦ λ usable l. absurd (never_told delivers no_delivery p (unusable_name_line text) es turn l passes)
     ] refl h
 
 pub delivered_to : (flags : Flags) (lock : Option (List ℕ)) (value text : List ℕ) (words : List (List ℕ)) (p : Mind) (es : List Entry) (turn : Turn) → Plays (deliver_to flags lock value text words p) es turn → delivers turn ≡ true
@@ -200,8 +200,8 @@ delivered_to flags lock value text words p es turn h passes =
     let blamed = blamed_text lock text in
     let last = deliver_named flags word blamed text words p in
     let locks : Plan Turn = if not (is_lock_word word) then refuse_name blamed p else last in
-    if_last P (is_without words) (refuse_name text p) locks es turn (λ l. absurd (never_told p (unusable_name_line text) es turn l passes))
-    (if_last P (not (is_lock_word word)) (refuse_name blamed p) last es turn (λ l. absurd (never_told p (unusable_name_line blamed) es turn l passes))
+    if_last P (is_without words) (refuse_name text p) locks es turn (λ l. absurd (never_told delivers no_delivery p (unusable_name_line text) es turn l passes))
+    (if_last P (not (is_lock_word word)) (refuse_name blamed p) last es turn (λ l. absurd (never_told delivers no_delivery p (unusable_name_line blamed) es turn l passes))
     (λ l. delivered_named flags word blamed text words p es turn l passes)) h
 
 delivered_with : (flags : Flags) (lock : Option (List ℕ)) (text : List ℕ) (r : Ready) (es : List Entry) (turn : Turn) → Plays (deliver_with flags lock text r) es turn → delivers turn ≡ true
@@ -214,8 +214,8 @@ delivered_with flags lock text r es turn h passes =
     let value = value_in p.vars r.lock_outputs held in
     let last = deliver_to flags lock value text words p in
     let texts = deliver_text flags lock value text r.outputs p in
-    if_last P (is_too_long One held p.vars r.lock_outputs) (skip_value One held r.lock_outputs p) texts es turn (λ l. absurd (never_skipped One held r.lock_outputs p es turn l passes))
-    (if_last P (is_too_long Many text p.vars r.outputs) (skip_value Many text r.outputs p) last es turn (λ l. absurd (never_skipped Many text r.outputs p es turn l passes))
+    if_last P (is_too_long One held p.vars r.lock_outputs) (skip_value One held r.lock_outputs p) texts es turn (λ l. absurd (never_skipped delivers no_delivery One held r.lock_outputs p es turn l passes))
+    (if_last P (is_too_long Many text p.vars r.outputs) (skip_value Many text r.outputs p) last es turn (λ l. absurd (never_skipped delivers no_delivery Many text r.outputs p es turn l passes))
     (λ l. delivered_to flags lock value text words p es turn l passes)) h
 
 pub delivered_by : (flags : Flags) (lock : Option (List ℕ)) (text : List ℕ) (p : Mind) (es : List Entry) (turn : Turn) → Plays (deliver flags lock text p) es turn → delivers turn ≡ true → DeliversReady flags lock text p es

@@ -5,6 +5,7 @@ use Rattle.pm_bytes.specs.declared.environment.Environ.{Environ}
 use Rattle.pm_bytes.specs.declared.environment.Pair.{Pair}
 use Rattle.pm_message.specs.FromLine.{makes_line, prepared_of}
 use Rattle.pm_message.specs.Split.{split_of}
+use Rattle.pm_message.specs.declared.head.Message.{Message}
 use Rattle.pm_recipe.specs.Listed.{rc_of}
 use Rattle.pm_recipe.specs.Tree.{Trees}
 use Rattle.pm_journal.specs.LogText.{couldnt_read_line, too_many_rcfiles_line, too_many_clones_line, no_delivery_line}
@@ -15,12 +16,12 @@ use Rattle.pm_journal.specs.Plan.{Plan, Ends, and_then, ask}
 use Rattle.pm_journal.specs.Walking.{Next, Stop, Go}
 use Rattle.pm_meaning.specs.Blocks.{begun_block, give_maybe}
 use Rattle.pm_meaning.specs.Changes.{opened}
-use Rattle.pm_meaning.specs.FirstValues.{login_name}
+use Rattle.pm_meaning.specs.FirstValues.{login_name, home_folder, first_process}
 use Rattle.pm_meaning.specs.Minds.{Mind}
 use Rattle.pm_meaning.specs.Turns.{say_then}
 use Rattle.pm_meaning.specs.declared.process.End.TheVariants.{FellOff, NoRc, HostOff}
 use Rattle.pm_machine.specs.Ends.{is_delivered}
-use Rattle.pm_machine.specs.Running.{State, Setting, Opening, Running, LeavingFile, Leaving, Over, Trapping, Unlocking, Closing, Item, OpeningRule, Event, Ended, WantsClone, begun, dated, prepare, set_by_word, mind_in, rcfiles_of, opening_of, setting, ahead, is_first, entered, with_later, is_missing, pass_over, after_read, without_rcfile, open_next, Reading, with_statements, open_rcfile, leaving_file}
+use Rattle.pm_machine.specs.Running.{State, Setting, Opening, Running, LeavingFile, Leaving, Over, Trapping, Unlocking, Closing, Item, OpeningRule, Event, Ended, WantsClone, home_by, begun, dated, prepare, set_by_word, mind_in, rcfiles_of, opening_of, setting, ahead, is_first, entered, with_later, is_missing, pass_over, after_read, without_rcfile, open_next, Reading, with_statements, open_rcfile, leaving_file}
 use Rattle.pm_machine.specs.declared.command_line.CommandLine.{CommandLine}
 use Rattle.pm_machine.proofs.NoDelivery.{Never, never_ends, never_asked, never_then, never_said, never_if}
 
@@ -35,19 +36,32 @@ is_last (Go (Unlocking ending p)) = is_delivered ending.end
 is_last (Go (Closing ending p)) = is_delivered ending.end
 is_last (Go other) = false
 
-never_dated : (line : CommandLine) (env : Environ) (bytes : List ℕ) (reply : Reply) → Never is_last (dated line env bytes reply)
-never_dated line env bytes (Now moment) = never_ends is_last (begun line env (prepared_of bytes line.renew (login_name env) moment)) refl
-never_dated line env bytes other = never_ends is_last (begun line env (split_of bytes)) refl
+-- the test fails on each state in the midst of a process
+pub record FailsMidway (test : Next State Event → Bool) : Type 0 where
+  pub setting : (pairs : List Pair) (line : CommandLine) (home : List ℕ) (p : Mind) → test (Go (Setting pairs line home p)) ≡ false
+  pub opening : (o : OpeningRule) (names : List (List ℕ)) (p : Mind) → test (Go (Opening o names p)) ≡ false
+  pub running : (items : List Item) (p : Mind) → test (Go (Running items p)) ≡ false
+  pub leaving : (locks : List (Option (List ℕ))) (items : List Item) (p : Mind) → test (Go (LeavingFile locks items p)) ≡ false
 
-pub never_prepared : (line : CommandLine) (env : Environ) (bytes : List ℕ) → Never is_last (prepare line env bytes)
-never_prepared line env bytes =
-    never_if is_last (makes_line bytes line.renew) (and_then (ask Moment) (dated line env bytes)) (Ends (begun line env (split_of bytes)))
-    (never_asked is_last Moment (dated line env bytes) (never_dated line env bytes)) (never_ends is_last (begun line env (split_of bytes)) refl)
+pub not_last : FailsMidway is_last
+not_last = record { setting = λ pairs line home p. refl; opening = λ o names p. refl; running = λ items p. refl; leaving = λ locks items p. refl }
 
-pub never_setting : (pairs : List Pair) (line : CommandLine) (home : List ℕ) (p : Mind) → Never is_last (setting pairs line home p)
-never_setting [] line home p = never_ends is_last (Go (Opening (opening_of line) (rcfiles_of line home) p)) refl
-never_setting (pair ∷ pairs) line home p =
-    never_then is_last (set_by_word pair p) (λ turn. Ends (Go (Setting pairs line home (mind_in turn)))) (λ turn. never_ends is_last (Go (Setting pairs line home (mind_in turn))) refl)
+begun_fails : (test : Next State Event → Bool) → FailsMidway test → (line : CommandLine) (env : Environ) (message : Message) → test (begun line env message) ≡ false
+begun_fails test fails line env message = fails.setting line.values line (home_by line.values (home_folder env)) (first_process line.filter line.fails_softly line.arguments env message)
+
+never_dated : (test : Next State Event → Bool) → FailsMidway test → (line : CommandLine) (env : Environ) (bytes : List ℕ) (reply : Reply) → Never test (dated line env bytes reply)
+never_dated test fails line env bytes (Now moment) = never_ends test (begun line env (prepared_of bytes line.renew (login_name env) moment)) (begun_fails test fails line env (prepared_of bytes line.renew (login_name env) moment))
+never_dated test fails line env bytes other = never_ends test (begun line env (split_of bytes)) (begun_fails test fails line env (split_of bytes))
+
+pub never_prepared : (test : Next State Event → Bool) → FailsMidway test → (line : CommandLine) (env : Environ) (bytes : List ℕ) → Never test (prepare line env bytes)
+never_prepared test fails line env bytes =
+    never_if test (makes_line bytes line.renew) (and_then (ask Moment) (dated line env bytes)) (Ends (begun line env (split_of bytes)))
+    (never_asked test Moment (dated line env bytes) (never_dated test fails line env bytes)) (never_ends test (begun line env (split_of bytes)) (begun_fails test fails line env (split_of bytes)))
+
+pub never_setting : (test : Next State Event → Bool) → FailsMidway test → (pairs : List Pair) (line : CommandLine) (home : List ℕ) (p : Mind) → Never test (setting pairs line home p)
+never_setting test fails [] line home p = never_ends test (Go (Opening (opening_of line) (rcfiles_of line home) p)) (fails.opening (opening_of line) (rcfiles_of line home) p)
+never_setting test fails (pair ∷ pairs) line home p =
+    never_then test (set_by_word pair p) (λ turn. Ends (Go (Setting pairs line home (mind_in turn)))) (λ turn. never_ends test (Go (Setting pairs line home (mind_in turn))) (fails.setting pairs line home (mind_in turn)))
 
 never_passed : (o : OpeningRule) (name : List ℕ) (names : List (List ℕ)) (missing : Bool) (p : Mind) → Never is_last (pass_over o name names missing p)
 never_passed o name names missing p =
@@ -75,24 +89,24 @@ never_opening o (name ∷ names) p =
     (never_asked is_last (ReadFile name) (after_read o name names (opened p)) (never_after o name names (opened p)))
 
 -- an rcfile that is opened, whatever it has, when what comes then isn't the end
-never_with : (name : List ℕ) (rest : List Item) (p : Mind) (go : Reading) (reply : Reply) → ((trees : Trees) (q : Mind) → is_last (go trees q) ≡ false) → Never is_last (with_statements name rest p go reply)
-never_with name rest p go (Content bytes) goes = never_ends is_last (go (rc_of bytes) p) (goes (rc_of bytes) p)
-never_with name rest p go other goes = never_said is_last p (couldnt_read_line name) (Go (Running rest p)) refl
+never_with : (test : Next State Event → Bool) → FailsMidway test → (name : List ℕ) (rest : List Item) (p : Mind) (go : Reading) (reply : Reply) → ((trees : Trees) (q : Mind) → test (go trees q) ≡ false) → Never test (with_statements name rest p go reply)
+never_with test fails name rest p go (Content bytes) goes = never_ends test (go (rc_of bytes) p) (goes (rc_of bytes) p)
+never_with test fails name rest p go other goes = never_said test p (couldnt_read_line name) (Go (Running rest p)) (fails.running rest p)
 
-pub never_opened : (name : List ℕ) (rest : List Item) (p : Mind) (go : Reading) → ((trees : Trees) (q : Mind) → is_last (go trees q) ≡ false) → Never is_last (open_rcfile name rest p go)
-never_opened name rest p go goes =
+pub never_opened : (test : Next State Event → Bool) → FailsMidway test → (name : List ℕ) (rest : List Item) (p : Mind) (go : Reading) → ((trees : Trees) (q : Mind) → test (go trees q) ≡ false) → Never test (open_rcfile name rest p go)
+never_opened test fails name rest p go goes =
     let read = and_then (ask (ReadFile name)) (with_statements name rest (opened p) go) in
-    never_if is_last (nat_le 256 p.openings) (say_then p (too_many_rcfiles_line name) (Go (Running rest p))) read
-    (never_said is_last p (too_many_rcfiles_line name) (Go (Running rest p)) refl)
-    (never_asked is_last (ReadFile name) (with_statements name rest (opened p) go) (λ reply. never_with name rest (opened p) go reply goes))
+    never_if test (nat_le 256 p.openings) (say_then p (too_many_rcfiles_line name) (Go (Running rest p))) read
+    (never_said test p (too_many_rcfiles_line name) (Go (Running rest p)) (fails.running rest p))
+    (never_asked test (ReadFile name) (with_statements name rest (opened p) go) (λ reply. never_with test fails name rest (opened p) go reply goes))
 
-pub never_left : (locks : List (Option (List ℕ))) (items : List Item) (p : Mind) → Never is_last (leaving_file locks items p)
-never_left [] items p = never_ends is_last (Go (Running items p)) refl
-never_left (lock ∷ locks) items p =
-    never_then is_last (give_maybe lock p) (λ q. Ends (Go (LeavingFile locks items q))) (λ q. never_ends is_last (Go (LeavingFile locks items q)) refl)
+pub never_left : (test : Next State Event → Bool) → FailsMidway test → (locks : List (Option (List ℕ))) (items : List Item) (p : Mind) → Never test (leaving_file locks items p)
+never_left test fails [] items p = never_ends test (Go (Running items p)) (fails.running items p)
+never_left test fails (lock ∷ locks) items p =
+    never_then test (give_maybe lock p) (λ q. Ends (Go (LeavingFile locks items q))) (λ q. never_ends test (Go (LeavingFile locks items q)) (fails.leaving locks items q))
 
-pub never_refused : (items : List Item) (p : Mind) → Never is_last (say_then p too_many_clones_line (Go (Running items p)))
-never_refused items p = never_said is_last p too_many_clones_line (Go (Running items p)) refl
+pub never_refused : (test : Next State Event → Bool) → FailsMidway test → (items : List Item) (p : Mind) → Never test (say_then p too_many_clones_line (Go (Running items p)))
+never_refused test fails items p = never_said test p too_many_clones_line (Go (Running items p)) (fails.running items p)
 
 pub never_lost : (p : Mind) → Never is_last (say_then p no_delivery_line (Go (Over FellOff p)))
 never_lost p = never_said is_last p no_delivery_line (Go (Over FellOff p)) refl

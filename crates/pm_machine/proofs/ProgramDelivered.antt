@@ -33,7 +33,7 @@ use Rattle.pm_meaning.specs.declared.process.Trial.TheVariants.{Unlocked}
 use Rattle.pm_journal.proofs.WalkJoin.{parts_of}
 use Rattle.pm_machine.proofs.MailboxDelivered.{all_said, if_last}
 use Rattle.pm_machine.proofs.Lines.{told_of}
-use Rattle.pm_machine.proofs.NoDelivery.{delivers, never_said, never_told, never_skipped}
+use Rattle.pm_machine.proofs.NoDelivery.{delivers, no_delivery, never_said, never_told, never_skipped}
 
 fine_is : (outcome : Outcome) → is_fine outcome ≡ true → outcome ≡ Done
 fine_is Done h = refl
@@ -186,8 +186,8 @@ named_end t Passes word work p es turn one h passes =
     let lock = full_lock p.base word in
     let blamed = blamed_text t.lock t.text in
     let next = told_first t p (try_and_say t lock work p) in
-    if_last P (not (is_lock_word word)) (refuse_name blamed p) (do_under t lock work p) es turn (λ l. absurd (never_told p (unusable_name_line blamed) es turn l passes))
-    (if_last P (is_taken lock [] p.locks) (refuse_name blamed p) next es turn (λ l. absurd (never_told p (unusable_name_line blamed) es turn l passes))
+    if_last P (not (is_lock_word word)) (refuse_name blamed p) (do_under t lock work p) es turn (λ l. absurd (never_told delivers no_delivery p (unusable_name_line blamed) es turn l passes))
+    (if_last P (is_taken lock [] p.locks) (refuse_name blamed p) next es turn (λ l. absurd (never_told delivers no_delivery p (unusable_name_line blamed) es turn l passes))
     (λ l. told_end t Passes lock work p (lacks_lock t) es turn one l passes)) h
 
 -- the lock file's text was expanded, and then this came
@@ -197,7 +197,7 @@ first_end P t outputs next p es turn ends h passes =
     let mode = lock_mode t in
     let source = lock_source t in
     let word = named_lock t (first_word (words_in mode p.vars outputs source)) p in
-    if_last P (is_too_long mode source p.vars outputs) (skip_value mode source outputs p) (next word) es turn (λ l. absurd (never_skipped mode source outputs p es turn l passes)) (ends word) h
+    if_last P (is_too_long mode source p.vars outputs) (skip_value mode source outputs p) (next word) es turn (λ l. absurd (never_skipped delivers no_delivery mode source outputs p es turn l passes)) (ends word) h
 
 -- the program of a line did its work for good
 record IsRun (t : Task) (Passes : Command → Entry → Type 0) (line : ProgramLine) (es : List Entry) : Type 0 where
@@ -208,8 +208,8 @@ record IsRun (t : Task) (Passes : Command → Entry → Type 0) (line : ProgramL
 line_end : (t : Task) (Passes : Command → Entry → Type 0) (word : Option (List ℕ)) (work : Command → Mind → Plan Tried) (line : ProgramLine) (p : Mind) (es : List Entry) (turn : Turn)
     → ((command : Command) → OneOf (Passes command) (work command)) → Plays (do_line t word work line p) es turn → delivers turn ≡ true → IsRun t Passes line es
 line_end t Passes word work (Runs command) p es turn one h passes = record { command = command; runs = refl; done = named_end t (Passes command) word (work command) p es turn (one command) h passes }
-line_end t Passes word work NoWords p es turn one h passes = absurd (never_told p (unusable_name_line t.text) es turn h passes)
-line_end t Passes word work Unusable p es turn one h passes = absurd (never_told p (unusable_name_line (unusable_text t word)) es turn h passes)
+line_end t Passes word work NoWords p es turn one h passes = absurd (never_told delivers no_delivery p (unusable_name_line t.text) es turn h passes)
+line_end t Passes word work Unusable p es turn one h passes = absurd (never_told delivers no_delivery p (unusable_name_line (unusable_text t word)) es turn h passes)
 line_end t Passes word work (TooLong count) p es turn one h passes = absurd (never_said delivers p (value_too_long_line count) (GoesOn (overflowed p)) refl es turn h passes)
 
 final_is : (copy : Bool) → not copy ≡ true → copy ≡ false

@@ -27,7 +27,7 @@ use Rattle.pm_machine.specs.Running.{State, Running, Item, Do, statement}
 use Rattle.pm_machine.proofs.MailboxDelivered.{DeliversReady, delivered_by}
 use Rattle.pm_machine.proofs.ProgramDelivered.{PipeMade, pipe_made, never_captured, ForwardMade, forward_made, OutputMade, output_made}
 use Rattle.pm_machine.proofs.RecipeReady.{IsExecuted, ready_of, read_of}
-use Rattle.pm_machine.proofs.NoDelivery.{delivers, never_goes, never_entered, never_said, never_told, never_assign, never_unset}
+use Rattle.pm_machine.proofs.NoDelivery.{delivers, no_delivery, never_goes, never_entered, never_said, never_told, never_assign, never_unset}
 
 -- the action of a recipe delivered so, behind its conditions
 pub data DeliversBy (top : Top) (act : Action) (p : Mind) (es : List Entry) : Type 0 where
@@ -62,7 +62,7 @@ by_act top (Pipe line) p es turn h passes = to_program line refl (pipe_made top.
 by_act top (Capture name line) p es turn h passes = absurd (never_captured top.flags top.lock name line p es turn h passes)
 by_act top (Forward text) p es turn h passes = to_sendmail text refl (forward_made top.flags top.lock text p es turn h passes)
 by_act top WriteOut p es turn h passes = to_output refl (output_made top.flags top.lock p es turn h passes)
-by_act top (Block trees) p es turn h passes = absurd (never_entered top p es turn h passes)
+by_act top (Block trees) p es turn h passes = absurd (never_entered delivers no_delivery top p es turn h passes)
 
 -- the conditions hold, and then the action delivered so
 with_conditions : (top : Top) (act : Action) (p : Mind) (judged : Judged) (front rest es : List Entry) → is_admitted top.flags p.chain ≡ true → judged.verdict ≡ Matched → es ≡ front ++ rest
@@ -92,8 +92,8 @@ by_judgement top act p es turn admitted h passes =
     let r = executed top.flags k.middle.mind in
     elim k.middle.verdict as (λ v. k.middle.verdict ≡ v → Plays (by_verdict v q (carry_out top act r)) k.rest turn → DeliversTree (Recipe top act) p es) [
       | Matched ↦ λ holds l. with_conditions top act p k.middle k.front k.rest es admitted holds k.whole k.plays_front (by_act top act r k.rest turn l passes)
-      | Unmatched ↦ λ holds l. absurd (never_goes q k.rest turn l passes)
-      | Defective text ↦ λ holds l. absurd (never_told q (defective_condition_line text) k.rest turn l passes)
+      | Unmatched ↦ λ holds l. absurd (never_goes delivers no_delivery q k.rest turn l passes)
+      | Defective text ↦ λ holds l. absurd (never_told delivers no_delivery q (defective_condition_line text) k.rest turn l passes)
       | TooLong size ↦ λ holds l. absurd (never_said delivers q (value_too_long_line size) (GoesOn (overflowed q)) refl k.rest turn l passes)
     ] refl k.plays_rest
 
@@ -102,14 +102,14 @@ by_conditions top act p es turn h passes =
     let judged = and_then (judge top.conditions top.flags p) (λ j. behind_conditions top.flags (λ q. carry_out top act q) j) in
     elim (is_admitted top.flags p.chain) as (λ b. is_admitted top.flags p.chain ≡ b → Plays (if not b then Ends (GoesOn (passed top.flags p)) else judged) es turn → DeliversTree (Recipe top act) p es) [
       | true ↦ λ admitted k. by_judgement top act p es turn admitted k passes
-      | false ↦ λ admitted k. absurd (never_goes (passed top.flags p) es turn k passes)
+      | false ↦ λ admitted k. absurd (never_goes delivers no_delivery (passed top.flags p) es turn k passes)
     ] refl h
 
 pub by_statement : (tree : Tree) (p : Mind) (es : List Entry) (turn : Turn) → Plays (statement tree p) es turn → delivers turn ≡ true → DeliversTree tree p es
-by_statement (Assign name text) p es turn h passes = absurd (never_assign name text p es turn h passes)
-by_statement (Unset name) p es turn h passes = absurd (never_unset name p es turn h passes)
+by_statement (Assign name text) p es turn h passes = absurd (never_assign delivers no_delivery name text p es turn h passes)
+by_statement (Unset name) p es turn h passes = absurd (never_unset delivers no_delivery name p es turn h passes)
 by_statement (Recipe top act) p es turn h passes = by_conditions top act p es turn h passes
-by_statement (Defect line text) p es turn h passes = absurd (never_told p (skipped_line text) es turn h passes)
+by_statement (Defect line text) p es turn h passes = absurd (never_told delivers no_delivery p (skipped_line text) es turn h passes)
 
 by_recipe : (top : Top) (act : Action) (rest : List Item) (p q : Mind) (judged last es : List Entry) → es ≡ judged ++ last → IsExecuted top p judged q → DeliversBy top act q last
     → DeliversState (Running (Do (Recipe top act) ∷ rest) p) es

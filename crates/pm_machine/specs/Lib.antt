@@ -3,3 +3,4 @@ pub mod Ends
 pub mod Running
 pub mod Courses
 pub mod Laws
+pub mod Completeness

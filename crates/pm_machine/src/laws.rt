@@ -1,5 +1,6 @@
 //! Laws of a run, each as the contract of a call that does nothing.
 ghost use Rattle.pm_machine.specs.Laws.{EndsOrWants, OneEnd, DeliveredIsDone};
+ghost use Rattle.pm_machine.specs.Completeness.{ClearIsWell};
 
 /// Over the same entries a step that ends wants no act.
 pub fn ends_or_wants()
@@ -17,4 +18,11 @@ pub fn one_end()
 /// process only gives locks back, logs lines and runs programs, and then only copies of it made for blocks go on.
 pub fn delivered_is_done()
     ensures { DeliveredIsDone }
+{}
+
+/// Where each lock is got and each mailbox and folder takes its piece, where a mail filter's rcfile is read, and where a
+/// process that has nothing left to do has a default mailbox that it can deliver to, the first process delivers the mail,
+/// or HOST names another host.
+pub fn clear_is_well()
+    ensures { ClearIsWell }
 {}

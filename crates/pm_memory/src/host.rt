@@ -73,7 +73,8 @@ impl MemoryHost {
         self.plan.fail(call)
     }
 
-    /// An `append` or a `feed` with this number takes at most so many bytes; of several limits the least holds.
+    /// An `append` or a `feed` with this number takes at most so many bytes, and memory is wanting to a `names` with
+    /// this number for more names than that; of several limits the least holds.
     pub fn limit(&mut self, call: u64, most: usize) -> Result<(), Memory>
         requires { 1 ≤ most }
         ensures ok { OnOk result (limits_of self.new ≡ limits_of self.old ++ (call, most) ∷ []) }

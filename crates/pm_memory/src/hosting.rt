@@ -133,7 +133,12 @@ impl MemoryHost {
         if self.fails_now() {
             return Err(Denied::ToFail);
         }
-        self.tree.names(alloc, folder)
+        let names = self.tree.names(alloc, folder)?;
+        let count = names.as_slice().len();
+        if self.plan.most(self.calls.next(), count) < count {
+            return Err(Denied::Memory);
+        }
+        Ok(names)
     }
 
     pub(crate) fn age_now(&self, name: &str) -> Result<Aged, Denied>

@@ -3,3 +3,4 @@ pub mod Tracing
 pub mod Grown
 pub mod Promised
 pub mod Refusals
+pub mod Faultless

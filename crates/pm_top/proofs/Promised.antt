@@ -17,6 +17,8 @@ use Rattle.pm_top.specs.Account.{done_in, calls_in, given_in, Account}
 use Rattle.pm_top.specs.Promise.{IsFramed, Promise}
 use Rattle.pm_top.specs.Traced.{Traced}
 use Rattle.pm_journal.proofs.ChildrenStay.{no_child_left}
+use Rattle.pm_machine.proofs.ClearRun.{clear_is_well}
+use Rattle.pm_top.proofs.Faultless.{faultless_in}
 use Rattle.pm_top.proofs.Grown.{grown_in, calls_child}
 use Rattle.pm_top.proofs.Refusals.{meaning_of, starved_of, refuses_of}
 
@@ -96,6 +98,8 @@ promised run t locks child = let a = t.account in record {
   };
   refusals = refuses_of run t.how;
   memory = starved_of run t.how;
+  complete = λ h clear. clear_is_well h.line run.env h.mail run.entries h.ending h.means clear;
+  faultless = faultless_in run t.how a;
   children = (ran_in run t.how a).child ∙ (ap (child_after (joined a.accounts.groups ++ calls_in run t.how ++ joined a.back.groups)) child ∙ none_runs run t.how a);
 }
 

@@ -1,12 +1,15 @@
 -- What is promised of every run.
 use Rattle.std.specs.Prelude.{◌≡◌, ◌<◌, ◌⊎◌, List, ℕ, ◌++◌, length, Some, None}
-use Rattle.pm_host.specs.Told.{Tells, Adds}
+use Rattle.pm_host.specs.Told.{Tells, Adds, Rose}
 use Rattle.pm_host.specs.Runs.{Ran, after_calls}
 use Rattle.pm_host.specs.declared.answers.Child.TheVariants.{NoChild}
 use Rattle.pm_journal.specs.Entries.{counts_of, view_of, Honest, joined, after_entries, all_said, all_written, Frame, AllCovered}
 use Rattle.pm_journal.specs.declared.acts.Counts.{Counts}
 use Rattle.pm_journal.specs.Deliveries.{all_folders, asked_folders, AllDelivered, AllGrow}
 use Rattle.pm_journal.specs.Held.{AllGivenBack}
+use Rattle.pm_journal.specs.Laws.{SomeFaulty}
+use Rattle.pm_machine.specs.Completeness.{IsClear, EndsWell}
+use Rattle.pm_machine.specs.Courses.{run_of}
 use Rattle.pm_words.specs.Words.{command_line}
 use Rattle.pm_top.specs.Run.{Run}
 use Rattle.pm_top.specs.Outcome.{BadWords, ReadFault, TooLong, NotBegun, LeftOff, HasMeaning, Outcome, left_off}
@@ -101,5 +104,10 @@ pub record Promise (run : Run) : Type 0 where
   pub refusals : Refuses run
   -- a run with status 71 was starved, or its meaning gives that status
   pub memory : run.status ≡ 71 → IsStarved run ⊎ HasMeaning run
+  -- where nothing stands in its way, the first process delivers the mail or goes off on another host, and the status is 0, unless
+  -- EXITCODE or TRAP says otherwise
+  pub complete : (h : HasMeaning run) → IsClear (run_of h.line run.env h.mail) run.entries → EndsWell h.ending
+  -- where an entry of the host's tells of a fault, the host's count rose in the run
+  pub faultless : SomeFaulty run.entries → Rose run.before.host.faults run.after.host.faults
   -- no child runs afterwards
   pub children : run.after.host.child ≡ NoChild
