@@ -1,5 +1,5 @@
 -- Where nothing stands in its way a first process ends as delivered, or on another host.
-use Rattle.std.proofs.Common.{◌≡◌, ℕ, zero, suc, Bool, true, false, ◌&&◌, List, [], ◌∷◌, ◌++◌, Option, Some, None, refl, sym, ap, ◌∙◌, subst, append_assoc}
+use Rattle.std.proofs.Common.{◌≡◌, ℕ, zero, suc, Bool, true, false, ◌&&◌, List, [], ◌∷◌, ◌++◌, Some, None, refl, sym, ap, ◌∙◌, subst, append_assoc}
 use Rattle.std.specs.Prelude.{if◌then◌else◌, nat_le}
 use Rattle.pm_bytes.specs.declared.environment.Environ.{Environ}
 use Rattle.pm_recipe.specs.Listed.{rc_of}
@@ -9,7 +9,7 @@ use Rattle.pm_journal.specs.declared.acts.Act.TheVariants.{ReadFile}
 use Rattle.pm_journal.specs.declared.acts.Entry.{Entry}
 use Rattle.pm_journal.specs.declared.acts.Reply.{Reply}
 use Rattle.pm_journal.specs.declared.acts.Reply.TheVariants.{Content}
-use Rattle.pm_journal.specs.Plan.{Plan, Ends, and_then, ask, Plays}
+use Rattle.pm_journal.specs.Plan.{Ends, and_then, ask, Plays}
 use Rattle.pm_journal.specs.Walking.{Next, Stop, Go, walk, Means, ArrivesAt}
 use Rattle.pm_journal.proofs.WalkJoin.{arrives_go, arrives_here}
 use Rattle.pm_meaning.specs.Blocks.{begun_block, closed, give_maybe}
@@ -22,7 +22,7 @@ use Rattle.pm_meaning.specs.Minds.{Mind}
 use Rattle.pm_meaning.specs.Turns.{Turn, GoesOn, Halts, Enters, Includes, Switches, EndsFile, Clones, say_then}
 use Rattle.pm_meaning.specs.declared.process.End.{End}
 use Rattle.pm_meaning.specs.declared.process.End.TheVariants.{Delivered, FellOff, NoRc, HostOff}
-use Rattle.pm_machine.specs.Completeness.{AllServed, IsContent, HasDefault, CanTake, ComesTo, IsClear, IsWell, EndsWell}
+use Rattle.pm_machine.specs.Completeness.{AllServed, IsContent, HasDefault, IsClear, IsWell, EndsWell}
 use Rattle.pm_machine.specs.Courses.{Others, Course, now_at, first_end, with_copy, onward, advance, alone, run_of}
 use Rattle.pm_machine.specs.Ends.{tell_delivery, trap}
 use Rattle.pm_machine.specs.Running.{State, Arrived, Setting, Opening, Running, Including, Switching, LeavingFile, Cloning, Refusing, FallingOff, Leaving, Over, Trapping, Unlocking, Closing, Item, Do, BlockEnd, FileEnd, OpeningRule, Event, Ended, WantsClone, clone_of, ahead, is_first, entered, with_later, is_missing, after_read, without_rcfile, included, switched, left_by, ending_of, default_mailboxes, next_default, step, statement, next_of}

@@ -1,14 +1,12 @@
 -- A default mailbox that can take the mail gets it where each lock is got and each piece is taken.
-use Rattle.std.proofs.Common.{◌≡◌, ℕ, Bool, true, false, not, List, [], ◌∷◌, ◌++◌, Option, Some, None, refl, sym, ap, ◌∙◌, subst}
+use Rattle.std.proofs.Common.{◌≡◌, ℕ, Bool, true, false, not, List, [], ◌∷◌, ◌++◌, Option, Some, None, refl, ap, ◌∙◌, subst}
 use Rattle.std.specs.Prelude.{if◌then◌else◌, length}
 use Rattle.pm_bytes.specs.Name.{is_usable}
 use Rattle.pm_bytes.specs.Path.{full_name}
 use Rattle.pm_recipe.specs.declared.tree.Flags.{Flags}
-use Rattle.pm_journal.specs.Locking.{lock_act}
 use Rattle.pm_journal.specs.Plan.{Plan, Ends, and_then, ask, Plays}
 use Rattle.pm_journal.specs.Replies.{IsMomentReply}
-use Rattle.pm_journal.specs.declared.acts.Act.{Act}
-use Rattle.pm_journal.specs.declared.acts.Act.TheVariants.{Append, Place, Lock}
+use Rattle.pm_journal.specs.declared.acts.Act.TheVariants.{Append}
 use Rattle.pm_journal.specs.declared.acts.Entry.{Entry}
 use Rattle.pm_journal.specs.declared.acts.Reply.{Reply}
 use Rattle.pm_journal.specs.declared.acts.Reply.TheVariants.{Done, IsFolder, Placed, Held, Now}
@@ -16,10 +14,10 @@ use Rattle.pm_journal.specs.declared.placing.FolderKind.{FolderKind}
 use Rattle.pm_journal.specs.declared.placing.FolderKind.TheVariants.{Plain}
 use Rattle.pm_journal.proofs.WalkJoin.{parts_of}
 use Rattle.pm_meaning.specs.Abstracts.{copy_lines}
-use Rattle.pm_meaning.specs.Delivering.{folder_piece, mailbox_piece, Filing, next_stamp, placed_by, placed_at, in_folder, plain_prefix, in_plain, appended_by, to_file, file_as, file_one, file_size, is_stored, file_all, Attempted, give_back, under_lock, attempt, attempt_lines, attempt_turn, is_done, settled, after_attempt, file_and_say, deliver_at, deliver_named, no_flags, deliver_default}
+use Rattle.pm_meaning.specs.Delivering.{folder_piece, mailbox_piece, Filing, placed_by, placed_at, in_folder, plain_prefix, appended_by, file_as, file_one, file_size, is_stored, file_all, Attempted, give_back, under_lock, attempt, attempt_lines, attempt_turn, is_done, settled, after_attempt, file_and_say, deliver_at, deliver_named, no_flags, deliver_default}
 use Rattle.pm_meaning.specs.Changes.{counted, stored_in}
 use Rattle.pm_meaning.specs.Destinations.{destination_of, are_file_texts}
-use Rattle.pm_meaning.specs.Locks.{is_nothing, is_lock_word, full_lock, is_taken, any_held, rule_of, with_lock}
+use Rattle.pm_meaning.specs.Locks.{is_nothing, is_lock_word, full_lock, is_taken, any_held, with_lock}
 use Rattle.pm_meaning.specs.Minds.{Mind}
 use Rattle.pm_meaning.specs.Turns.{Turn, refuse_name}
 use Rattle.pm_meaning.specs.declared.process.Attempt.{Attempt}

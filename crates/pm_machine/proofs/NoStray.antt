@@ -1,5 +1,5 @@
 -- No statement ends a process but as delivered, or on another host.
-use Rattle.std.proofs.Common.{◌≡◌, ℕ, Bool, true, false, not, ◌&&◌, List, [], ◌∷◌, ◌++◌, Option, Some, None, refl}
+use Rattle.std.proofs.Common.{◌≡◌, ℕ, Bool, true, false, not, ◌&&◌, List, [], ◌∷◌, ◌++◌, Option, refl}
 use Rattle.std.specs.Prelude.{if◌then◌else◌, map}
 use Rattle.pm_host.specs.declared.command.Command.{Command}
 use Rattle.pm_recipe.specs.Tree.{Tree, Top, Act, Assign, Unset, Recipe, Defect, Mailbox, Pipe, Capture, Forward, WriteOut, Block}
@@ -14,16 +14,16 @@ use Rattle.pm_meaning.specs.Assigning.{value_in, first_word}
 use Rattle.pm_meaning.specs.Blocks.{carry_out}
 use Rattle.pm_meaning.specs.Chains.{is_admitted, passed, executed}
 use Rattle.pm_meaning.specs.Changes.{overflowed}
-use Rattle.pm_meaning.specs.Delivering.{all_stored, filed_turn, attempt_turn, attempt_lines, say_each, is_done, settled, after_attempt, file_and_say, attempt, deliver_at, deliver_named, is_without, deliver_to, deliver_text, Ready, deliver_with, make_ready, deliver}
+use Rattle.pm_meaning.specs.Delivering.{filed_turn, attempt_turn, attempt_lines, say_each, is_done, settled, after_attempt, file_and_say, attempt, deliver_at, deliver_named, is_without, deliver_to, deliver_text, Ready, deliver_with, make_ready, deliver}
 use Rattle.pm_meaning.specs.Destinations.{destination_of, full_of, are_file_texts}
 use Rattle.pm_meaning.specs.Forwards.{forward_reading}
-use Rattle.pm_meaning.specs.Judging.{Judged, judge, by_verdict, behind_conditions, judge_first}
+use Rattle.pm_meaning.specs.Judging.{judge, by_verdict, behind_conditions, judge_first}
 use Rattle.pm_meaning.specs.Locks.{text_or, lock_word, blamed_text, is_lock_word, full_lock, is_taken, any_held}
 use Rattle.pm_meaning.specs.Logging.{log}
 use Rattle.pm_meaning.specs.Minds.{Mind}
-use Rattle.pm_meaning.specs.ProgramActions.{Task, Purpose, Tried, Trying, settled_by, trial_turn, trial_lines, is_fine_trial, is_delivery, is_final, after_trial, try_and_say, try_under, lacks_lock, told_first, do_under, do_named, unusable_text, do_line, lock_commands, lock_source, lock_mode, named_lock, lock_first, fed_piece, work_of, program_with, do_program, pipe_task, capture_task, forward_task, write_task, write, write_with}
+use Rattle.pm_meaning.specs.ProgramActions.{Task, Tried, settled_by, trial_turn, trial_lines, is_fine_trial, is_delivery, is_final, after_trial, try_and_say, try_under, lacks_lock, told_first, do_under, do_named, unusable_text, do_line, lock_commands, lock_source, lock_mode, named_lock, lock_first, fed_piece, work_of, program_with, do_program, pipe_task, capture_task, forward_task, write_task, write, write_with}
 use Rattle.pm_meaning.specs.Programs.{Reading, line_reading}
-use Rattle.pm_meaning.specs.Turns.{Turn, GoesOn, Halts, refuse_name, is_too_long, skip_value, say_then}
+use Rattle.pm_meaning.specs.Turns.{Turn, GoesOn, Halts, refuse_name, is_too_long, skip_value}
 use Rattle.pm_meaning.specs.declared.process.Attempt.{Attempt}
 use Rattle.pm_meaning.specs.declared.process.Attempt.TheVariants.{Unlocked, NotLocked, Locked}
 use Rattle.pm_meaning.specs.declared.process.Destination.{Destination}
@@ -87,7 +87,7 @@ never_filed : (flags : Flags) (lock : Option (List ℕ)) (text : List ℕ) (ds :
 never_filed flags lock text ds p =
     never_then strays (attempt lock flags ds p) (after_attempt flags text)
     (λ done. let q = settled done.attempt done.mind in
-        never_each q (attempt_lines text done.attempt ++ copy_lines (is_done done.attempt) flags q) (attempt_turn flags done.attempt q) (attempt_fine flags done.attempt q))
+    never_each q (attempt_lines text done.attempt ++ copy_lines (is_done done.attempt) flags q) (attempt_turn flags done.attempt q) (attempt_fine flags done.attempt q))
 
 never_refused : (text : List ℕ) (p : Mind) → Never strays (refuse_name text p)
 never_refused text p = never_told strays no_stray p (unusable_name_line text)
@@ -138,8 +138,8 @@ never_tried : (t : Task) (lock : Option (List ℕ)) (work : Mind → Plan Tried)
 never_tried t lock work p =
     never_then strays (try_under lock work p) (after_trial t)
     (λ done. let q = settled_by done.trial done.mind in
-        never_each q (trial_lines t.flags t.text done.trial ++ copy_lines (is_delivery t.purpose && is_fine_trial done.trial) t.flags q) (trial_turn (is_final t.purpose t.flags) done.trial q)
-        (trial_fine (is_final t.purpose t.flags) done.trial q))
+    never_each q (trial_lines t.flags t.text done.trial ++ copy_lines (is_delivery t.purpose && is_fine_trial done.trial) t.flags q) (trial_turn (is_final t.purpose t.flags) done.trial q)
+    (trial_fine (is_final t.purpose t.flags) done.trial q))
 
 never_first : (t : Task) (p : Mind) (next : Plan Turn) → Never strays next → Never strays (told_first t p next)
 never_first t p next never =
@@ -173,15 +173,15 @@ never_program : (t : Task) (reading : Reading) (p : Mind) → Never strays (do_p
 never_program t reading p =
     never_then strays (make_ready (lock_commands t) reading.commands p) (λ ready. program_with t reading ready)
     (λ ready. let q = ready.mind in
-        let work : Command → Mind → Plan Tried = work_of t.purpose t.flags (fed_piece t.flags q) in
-        never_lock t ready.lock_outputs (λ word. do_line t word work (reading.read ready.outputs q) q) q (λ word. never_line t word work (reading.read ready.outputs q) q))
+    let work : Command → Mind → Plan Tried = work_of t.purpose t.flags (fed_piece t.flags q) in
+    never_lock t ready.lock_outputs (λ word. do_line t word work (reading.read ready.outputs q) q) q (λ word. never_line t word work (reading.read ready.outputs q) q))
 
 never_written : (flags : Flags) (lock : Option (List ℕ)) (p : Mind) → Never strays (and_then (make_ready (lock_commands (write_task flags lock)) [] p) (λ ready. write_with (write_task flags lock) ready))
 never_written flags lock p =
     let t = write_task flags lock in
     never_then strays (make_ready (lock_commands t) [] p) (λ ready. write_with t ready)
     (λ ready. let q = ready.mind in
-        never_lock t ready.lock_outputs (λ word. do_named t word (write (fed_piece t.flags q)) q) q (λ word. never_do_named t word (write (fed_piece t.flags q)) q))
+    never_lock t ready.lock_outputs (λ word. do_named t word (write (fed_piece t.flags q)) q) q (λ word. never_do_named t word (write (fed_piece t.flags q)) q))
 
 never_acted : (top : Top) (act : Act) (p : Mind) → Never strays (carry_out top act p)
 never_acted top (Mailbox text) p = never_delivered top.flags top.lock text p
