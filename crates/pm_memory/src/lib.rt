@@ -20,5 +20,3 @@ pub use host::MemoryHost;
 pub use sink::MemorySink;
 pub use source::MemorySource;
 
-#[cfg(test)]
-mod tests;
