@@ -79,6 +79,31 @@ run 'a filter of 50 MB' ':0 f\n| cat\n:0 r\nlarge.box\n' 0 large
 cmp -s large large.box || fail '50 MB are others behind a filter'
 run 'a filter that writes before it reads' ':0 f\n| head -c 5000000 /dev/zero; cat\n:0 r\nlarge.both\n' 0 large
 { head -c 5000000 /dev/zero; cat large; } | cmp -s - large.both || fail 'a filter that wrote first gave another mail'
+run 'a filter that writes for ever into a closed end' ':0 fi\n| yes | head -n 1\n:0 r\nforever\n' 0
+[ "$(cat forever)" = y ] || fail "a program that wrote for ever gave $(head -c 20 forever)"
+
+# A link and a file that somebody put at the names of the spool file aren't written to, nor removed.
+printf 'untouched\n' > victim
+printf ':0 fw\n| sed s/hi/yo/\n:0 r\nspooled\n' > rc
+cat > put_first << 'END'
+echo $$ > number
+ln -s "$PWD/victim" /tmp/procmail.$$.0
+ln -s "$PWD/victim" /tmp/procmail.$$.1
+cp victim /tmp/procmail.$$.2
+exec "$1" -m rc < message
+END
+sh put_first "$program" || fail 'a filter failed beside files at the names of its spool file'
+spools=/tmp/procmail.$(cat number)
+cmp -s changed spooled || fail 'the mail is another beside files at the names of the spool file'
+printf 'untouched\n' | cmp -s - victim || fail 'a link at the name of the spool file was written through'
+printf 'untouched\n' | cmp -s - "$spools.2" || fail 'a file at the name of the spool file was written to'
+[ "$(echo "$spools".*)" = "$spools.0 $spools.1 $spools.2" ] || fail "at the names of the spool file stand $(echo "$spools".*)"
+rm -f "$spools".*
+
+# A descriptor of the caller's isn't handed on.
+printf ':0 i\n| ls /proc/self/fd > descriptors\n' > rc
+"$program" -m rc < message 9< message || fail 'a program that lists its descriptors failed'
+[ "$(paste -s -d ' ' descriptors)" = '0 1 2 3' ] || fail "a program got the descriptors $(paste -s -d ' ' descriptors)"
 
 # Captures: what comes out is the value.
 run 'a capture' ':0 w\nN=| wc -l\n:0\ncount$N\n' 0
@@ -129,4 +154,11 @@ printf ':0\n| echo last >> hundred; cat > last; ps -o pid= --ppid $PPID > childr
 [ "$(wc -l < hundred)" -eq 100 ] || fail "$(wc -l < hundred) programs of 100"
 cmp -s message last || fail 'the mail is another behind 33 filters'
 [ "$(wc -l < children)" -eq 1 ] || fail "$(wc -l < children) children beside the last program"
+
+# Nothing is left of programs that have ended, killed ones and those that wrote too much among them.
+printf ':0 fw\n| cat > /dev/null; kill -9 $$\n:0 f\n| head -c 67108865 /dev/zero\n:0 fw\n| no-such-program x\n:0\n| ps -o stat= --ppid $PPID > states; cat > /dev/null\n' > rc
+echo 'exec "$1" -m rc < message' > numbered
+sh -c 'echo $$ > number; . ./numbered' sh "$program" 2> said || fail 'the recipe behind failed filters failed'
+grep -q Z states && fail 'a program that has ended is left as a zombie'
+[ "$(echo "/tmp/procmail.$(cat number)".*)" = "/tmp/procmail.$(cat number).*" ] || fail 'a spool file is left'
 echo "programs: pipes, filters, captures and forwards, their locks, codes and ends, 50 MB and a hundred programs"
