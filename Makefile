@@ -48,8 +48,8 @@ demo: build-procmail
 cases:
 	@bash tests/cases.sh
 
-# How long searches and the reading of rcfiles take, what a delivery costs, and formail beside formail 3.22. It isn't part of
-# the check.
+# How long searches and the reading of rcfiles take, what a delivery and a trial cost, and formail beside formail 3.22.
+# It isn't part of the check.
 bench:
 	@bash bench/egrep.sh
 	@bash bench/rcfiles.sh
@@ -57,6 +57,7 @@ bench:
 	@bash bench/conditions.sh
 	@bash bench/recipes.sh
 	@bash bench/programs.sh
+	@bash bench/trial.sh
 	@bash bench/formail.sh
 
 # The merge gate.

@@ -9,7 +9,7 @@ use pm_bytes::{Blob, Environ, Name, Pair, Pairs};
 use pm_host::{Change, Child, Script};
 use pm_journal::Journal;
 use pm_memory::{MemoryHost, MemorySink, MemorySource};
-use pm_top::procmail;
+use pm_trial::procmail;
 use std::alloc::Global;
 
 // How many calls of the host are kept: those of a long run.

@@ -1,0 +1,4 @@
+pub mod MessageLemmas
+pub mod RunLemmas
+pub mod TrialLemmas
+mod Rows
