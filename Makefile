@@ -1,6 +1,6 @@
 # Each target works on a fresh checkout with nothing built, says at once how long it may take, and keeps a log in bin/.
 
-.PHONY: build build-procmail build-lockfile build-formail build-cases demo cases bench check bugs clean
+.PHONY: build build-procmail build-lockfile build-formail build-cases install uninstall demo cases bench check bugs clean
 
 build: build-procmail build-lockfile build-formail
 
@@ -36,6 +36,27 @@ build-cases:
 	@cd crates/pm_cases && { bash ../../.ci/watch ../../bin/build-cases.log rt run || \
 	    { tail -n 40 ../../bin/build-cases.log >&2; exit 1; }; }
 	@cp crates/pm_cases/out/pm_cases bin/pm_cases
+
+# Where the programs and their pages are put: below PREFIX, and all of that below DESTDIR, for packages.
+PREFIX = /usr/local
+DESTDIR =
+PROGRAMS = procmail formail lockfile
+BINARIES = $(DESTDIR)$(PREFIX)/bin
+MANUALS = $(DESTDIR)$(PREFIX)/share/man
+
+# What is in bin/ is put in place, and nothing is built. No program is set-user-id: each runs as the user who starts it.
+install:
+	@for program in $(PROGRAMS); do \
+	    [ -f bin/$$program ] && [ -x bin/$$program ] || { echo "bin/$$program is missing: run make first" >&2; exit 1; }; done
+	install -d "$(BINARIES)" "$(MANUALS)/man1" "$(MANUALS)/man5"
+	install -m 0755 $(PROGRAMS:%=bin/%) "$(BINARIES)"
+	install -m 0644 man/*.1 "$(MANUALS)/man1"
+	install -m 0644 man/*.5 "$(MANUALS)/man5"
+
+# The same files are taken away, and their folders stay.
+uninstall:
+	rm -f $(PROGRAMS:%="$(BINARIES)/%")
+	rm -f $(patsubst man/%,"$(MANUALS)/man1/%",$(wildcard man/*.1)) $(patsubst man/%,"$(MANUALS)/man5/%",$(wildcard man/*.5))
 
 # The example message goes where the example rcfile says, in a fresh folder.
 demo: build-procmail
