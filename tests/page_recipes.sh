@@ -51,8 +51,8 @@ procmailex.5_Copies|accounting|an invoice
 procmailex.5_One_archive_a_month|archive-2*|Subject: hi
 procmailex.5_The_last_32_mails|backup/msg.*|Subject: hi
 procmailex.5_Large_mail|large|Subject: large
-procmailex.5_An_rcfile_in_parts|personal|Subject: hi
-procmailex.5_An_rcfile_in_parts|included|Subject: list
+procmailex.5_One_rcfile_in_parts|personal|Subject: hi
+procmailex.5_One_rcfile_in_parts|included|Subject: list
 procmailex.5_A_spam_filter|junk|lottery
 procmailex.5_A_part_of_a_mail_changed|invoices|PLEASE PAY
 procmailex.5_A_part_of_a_mail_changed|default|please pay
@@ -67,7 +67,7 @@ procmailex.5_The_sender_in_a_variable|colleagues|Subject: hi
 procmailex.5_Mail_for_an_address_that_is_gone|default|Subject: hi
 procmailex.5_Duplicates|msgid.cache|hi@example.org
 procmailex.5_Duplicates_2|duplicates|Subject: hi
-procmailex.5_Scores|important|X-Score: 20
+procmailex.5_Scores|important|X-Score: 25
 procmailex.5_A_list_of_all_heads|senders|from ann@example.org
 procmailex.5_What_was_done_with_the_mail|with-subject|Subject: hi
 procmailex.5_What_was_done_with_the_mail|folders.log|with-subject
