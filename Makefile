@@ -46,8 +46,8 @@ MANUALS = $(DESTDIR)$(PREFIX)/share/man
 
 # What is in bin/ is put in place, and nothing is built. No program is set-user-id: each runs as the user who starts it.
 install:
-	@for program in $(PROGRAMS); do \
-	    [ -f bin/$$program ] && [ -x bin/$$program ] || { echo "bin/$$program is missing: run make first" >&2; exit 1; }; done
+	@for program in $(PROGRAMS); do [ -f bin/$$program ] && [ -x bin/$$program ] || \
+	    { echo "bin/$$program is missing: run make first" >&2; exit 1; }; done
 	install -d "$(BINARIES)" "$(MANUALS)/man1" "$(MANUALS)/man5"
 	install -m 0755 $(PROGRAMS:%=bin/%) "$(BINARIES)"
 	install -m 0644 man/*.1 "$(MANUALS)/man1"

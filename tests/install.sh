@@ -1,6 +1,6 @@
 #!/usr/bin/env bash
-# make install puts the programs and the pages below DESTDIR and PREFIX, with their modes, and builds nothing; make uninstall
-# takes them away and nothing else. Without a program in bin/ nothing is put anywhere.
+# make install puts the programs and the pages below DESTDIR and PREFIX, with their modes, and builds nothing; make
+# uninstall takes them away and nothing else. Without a program in bin/ nothing is put anywhere.
 set -eu
 . "$(dirname "$0")/common.bash"
 top=$(dirname "$programs")

@@ -1,7 +1,7 @@
 #!/usr/bin/env bash
-# Each rcfile that stands as an example in a manual page is run by the built program over some mails of different kinds: no
-# line of it is told to be a defect, and the files are there afterwards that it is to make. Sendmail and the spam filter are
-# scripts of this test.
+# Each rcfile that stands as an example in a manual page is run by the built program over mails of different kinds: no
+# line of it is told to be a defect, and the files are there afterwards that it is to make. Sendmail and the spam filter
+# are scripts of this test.
 set -eu
 . "$(dirname "$0")/common.bash"
 pages=$(dirname "$programs")/man
@@ -75,7 +75,8 @@ procmailex.5_A_filter_of_the_mail_server|team/info|Subject: sales
 procmailex.5_A_filter_of_the_mail_server|team/team-sales|Subject: hi
 TABLE
 cut -d '|' -f 1 wanted | sort -u > named
-ls rcs | sort | cmp -s - named || fail "the examples of the pages aren't those of the table: $(ls rcs | sort | comm -3 - named)"
+ls rcs | sort > there
+cmp -s there named || fail "the examples of the pages aren't those of the table: $(comm -3 there named)"
 
 # The mails. The first two are the same.
 mkdir mails
@@ -132,8 +133,8 @@ for rc in rcs/*; do
         wanted=0
         [ "$about/${mail##*/}" != procmailex.5_Mail_for_an_address_that_is_gone/10 ] || wanted=67
         status=0
-        "$program" -a sales "SENDMAIL=$folder/stubs/sendmail" "DEFAULT=$HOME/default" "ORGMAIL=$HOME/orgmail" ./rc < "$mail" 2>> said ||
-            status=$?
+        "$program" -a sales "SENDMAIL=$folder/stubs/sendmail" "DEFAULT=$HOME/default" "ORGMAIL=$HOME/orgmail" ./rc \
+            < "$mail" 2>> said || status=$?
         [ "$status" -eq "$wanted" ] || fail "$about ended with status $status over the mail ${mail##*/}: $(cat said)"
     done
     if cat said Mail/log Maildir/log 2> /dev/null | grep '^procmail: ' > told; then
@@ -143,7 +144,8 @@ for rc in rcs/*; do
     [ ! -e orgmail ] || fail "$about couldn't write to its default mailbox"
     while IFS='|' read -r one pattern text; do
         [ "$one" = "$about" ] || continue
-        stands "$text" "$pattern" || fail "$about: '$text' doesn't stand in $pattern; there are: $(find . -type f | sort | paste -sd ' ')"
+        stands "$text" "$pattern" ||
+            fail "$about: '$text' doesn't stand in $pattern; there are: $(find . -type f | sort | paste -sd ' ')"
     done < "$folder/wanted"
     cd "$folder"
 done

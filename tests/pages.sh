@@ -1,6 +1,7 @@
 #!/usr/bin/env bash
-# The manual pages: mandoc finds nothing in them, where it is installed. The log lines, variables, flags, options and statuses
-# that they name are those of the definitions, none more and none less. What stands in a list of a page is an item `.It` of it.
+# The manual pages: mandoc finds nothing in them, where it is installed. The log lines, variables, flags, options and
+# statuses that they name are those of the definitions, none more and none less. What stands in a list of a page is an
+# item `.It` of it.
 set -eu
 name=$(basename "$0" .sh)
 cd "$(dirname "$0")/.."
@@ -19,9 +20,10 @@ else
     echo "$name: no mandoc here: the form of the pages isn't looked at"
 fi
 
-# In an example a caret, a quote, a backquote, a tilde and a hyphen are escaped, so that they can be copied from any terminal.
-awk '/^\.Bd -literal/ { inside = 1; next } /^\.Ed/ { inside = 0 } inside && /[\^`'"'"'~]|(^|[^\\])-/ { print FILENAME ": " $0 }' man/*.[15] \
-    > "$folder/bare"
+# In an example a caret, a quote, a backquote, a tilde and a hyphen are escaped, so that they can be copied anywhere.
+awk '/^\.Bd -literal/ { inside = 1; next }
+    /^\.Ed/ { inside = 0 }
+    inside && /[\^`'"'"'~]|(^|[^\\])-/ { print FILENAME ": " $0 }' man/*.[15] > "$folder/bare"
 [ ! -s "$folder/bare" ] || fail "these examples have bare characters: $(cat "$folder/bare")"
 
 # section PAGE TITLE: the lines of the section with this title.
@@ -47,11 +49,12 @@ same() {
     [ ! -s "$folder/foreign" ] || fail "$2 has these $1, which no definition has: $(paste -sd, "$folder/foreign")"
 }
 
-# Log lines. A definition is a name, what it is of, and the text; the last word of what it is of stands between the quotes.
+# Log lines. A definition is a name, what it is of, and the text; the last word of what it is of stands in the quotes.
 texts=crates/pm_journal/specs/LogText.antt
-sed -n '/_line/s/ ++ / /g; s/^\([a-z_]*_line\)\( [a-z ]*\)\{0,1\}= /\1 /p' "$texts" | grep -v '^name_line ' > "$folder/definitions"
-[ "$(wc -l < "$folder/definitions")" -eq "$(grep -c '^abbrev pub [a-z_]*_line :' "$texts" | awk '{ print $1 - 1 }')" ] ||
-    fail "a log line is defined in another way now"
+sed -n 's/ ++ / /g; s/^\([a-z_]*_line\)\( [a-z ]*\)\{0,1\}= /\1 /p' "$texts" |
+    grep -v '^name_line ' > "$folder/definitions"
+count=$(grep -c '^abbrev pub [a-z_]*_line :' "$texts")
+[ "$(wc -l < "$folder/definitions")" -eq $((count - 1)) ] || fail "a log line is defined in another way now"
 awk '{
     line = $0
     sub(/^[a-z_]+ /, "", line)
@@ -83,10 +86,9 @@ awk '{
 sed -n 's/.*codes "procmail: \(.*\)\\n".*/\1/p' crates/pm_top/specs/*.antt >> "$folder/defined"
 section procmail.1 DIAGNOSTICS | sed -n 's/^\.It //p' | sed 's/\\&//g; s/\\(dq/"/g' > "$folder/named"
 same "log lines" procmail.1
-cat "$folder/one" > "$folder/lines"
 
 # No other file of definitions has a log line of procmail's.
-grep -l 'codes "procmail: ' crates/*/specs/*.antt | grep -v -e "$texts" -e crates/pm_top/specs/ > "$folder/files" || true
+grep -l 'codes "procmail: ' crates/*/specs/*.antt | grep -v -e "$texts" -e crates/pm_top/ > "$folder/files" || true
 [ ! -s "$folder/files" ] || fail "log lines stand elsewhere too: $(cat "$folder/files")"
 
 sed -n 's/.*codes "lockfile: \([^"\\]*\)\\"".*/\1"NAME"/p' crates/lockfile_top/specs/*.antt > "$folder/defined"
@@ -103,7 +105,7 @@ same "variables" procmailrc.5
 cp "$folder/one" "$folder/variables"
 section procmailrc.5 'Variables without effect' | sed -n 's/^\.Ev \([A-Z_]*\).*/\1/p' | sort > "$folder/idle"
 comm -12 "$folder/variables" "$folder/idle" > "$folder/missing"
-[ ! -s "$folder/missing" ] || fail "procmailrc.5 says of these that they have no effect: $(paste -sd, "$folder/missing")"
+[ ! -s "$folder/missing" ] || fail "procmailrc.5 says that these have no effect: $(paste -sd, "$folder/missing")"
 # Whatever else a page calls a variable is one of them; FILENO is one of formail 3.22's.
 sed -n 's/^\.\(It \)\{0,1\}Ev \([A-Z_][A-Z_]*\).*/\2/p' man/*.[15] | sort -u > "$folder/named"
 sort -u "$folder/variables" "$folder/idle" | comm -13 - "$folder/named" | grep -v -x FILENO > "$folder/foreign" || true
@@ -115,9 +117,9 @@ section procmailrc.5 Flags | items Cm > "$folder/named"
 same "flags" procmailrc.5
 
 # Parameters and forms in braces have an item each.
-sed -n 's/^parameter_value table (*\([A-Z][A-Za-z]*\).*/\1/p' crates/pm_subst/specs/Values.antt | sort > "$folder/defined"
+sed -n 's/^parameter_value table (*\([A-Z][A-Za-z]*\).*/\1/p' crates/pm_subst/specs/Values.antt > "$folder/defined"
 printf '%s\n' Program Argument ArgumentCount Process ExitCode Score Rcfile LastFolder > "$folder/named"
-same "parameters" "tests/pages.sh"
+same "parameters" "the next line"
 for form in '$0' '$1 No' '$#' '$$' '$?' '$=' '$_' '$-' '$\eNAME' '$NAME ,' '${NAME:-' '${NAME-' '${NAME:+' '${NAME+'; do
     section procmailrc.5 SUBSTITUTION | grep -qF ".It Li $form" || fail "procmailrc.5 has no item $form"
 done
@@ -138,10 +140,15 @@ section procmail.1 DESCRIPTION | items Fl > "$folder/named"
 grep -qx -e -trial "$folder/defined" || sed -i '/^-trial$/d' "$folder/named"
 same "options" procmail.1
 
+# letters: the letters of the bytes that come by their numbers, a line each.
+letters() {
+    while read -r byte; do printf "\\x$(printf %x "$byte")\n"; done
+}
+
 # Those of lockfile: letters by their bytes, whole words, and the seconds.
 words=crates/lockfile_top/specs/Words.antt
 {
-    sed -n 's/.*nat_eq letter \([0-9]*\) .*/\1/p' "$words" | while read -r byte; do printf "\\x$(printf %x "$byte")\n"; done
+    sed -n 's/.*nat_eq letter \([0-9]*\) .*/\1/p' "$words" | letters
     grep -o 'codes "-[a-z!]\{1,\}"' "$words" | sed 's/codes "-\(.*\)"/\1/'
     echo Ns
 } > "$folder/defined"
@@ -151,7 +158,7 @@ same "options" lockfile.1
 # Those of formail; `-N` is an item of its own, and `+N` no option.
 words=crates/formail_top/specs/Words.antt
 {
-    grep -o 'letter == [0-9][0-9]*' "$words" | sed 's/.* //' | while read -r byte; do printf "\\x$(printf %x "$byte")\n"; done
+    grep -o 'letter == [0-9][0-9]*' "$words" | sed 's/.* //' | letters
     sed -n 's/.*(codes "\([a-zA-Z]*\)").*/\1/p' "$words" | grep -o .
     echo Ns
 } > "$folder/defined"
@@ -167,7 +174,8 @@ same "statuses" procmail.1
 sed -n 's/^status_number [A-Za-z]* = \([0-9]*\)$/\1/p' crates/lockfile_top/specs/Status.antt > "$folder/defined"
 section lockfile.1 'EXIT STATUS' | sed -n 's/^\.It \([0-9]*\).*/\1/p' > "$folder/named"
 same "statuses" lockfile.1
-grep -o 'status ≡ [0-9]*\|Stops [0-9]*\|^feed_status [A-Za-z]* = [0-9]*' crates/formail_top/specs/Run.antt | sed -n 's/.* \([0-9]\{1,\}\)$/\1/p' > "$folder/defined"
+grep -o -e 'status ≡ [0-9]*' -e 'Stops [0-9]*' -e '^feed_status [A-Za-z]* = [0-9]*' crates/formail_top/specs/Run.antt |
+    sed -n 's/.* \([0-9]\{1,\}\)$/\1/p' > "$folder/defined"
 section formail.1 'EXIT STATUS' | sed -n 's/^\.It \([0-9]*\).*/\1/p' > "$folder/named"
 same "statuses" formail.1
 echo "$name: passed"
