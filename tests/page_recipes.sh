@@ -78,10 +78,11 @@ cut -d '|' -f 1 wanted | sort -u > named
 ls rcs | sort > there
 cmp -s there named || fail "the examples of the pages aren't those of the table: $(comm -3 there named)"
 
-# The mails. The first two are the same.
+# The mails, each with its sender in the line From too. The first two are the same.
 mkdir mails
 mail() {
-    { printf 'From x@example.org Thu Jan  1 00:00:00 1970\n'; printf "$2"; } > "mails/$1"
+    sender=${2#From: }
+    { printf "From ${sender%%\\n*} Thu Jan  1 00:00:00 1970\n"; printf "$2"; } > "mails/$1"
 }
 hi='From: ann@example.org\nTo: joe@example.org\nSubject: hi\nMessage-ID: <hi@example.org>\n\nhello\n'
 mail 01 "$hi"
@@ -130,6 +131,8 @@ for rc in rcs/*; do
     cp "$rc" "$HOME/rc"
     cd "$HOME"
     for mail in "$folder"/mails/*; do
+        # The large mail is for those that ask for a size.
+        [ "${mail##*/}" != 14 ] || grep -q '^\* [<>] [0-9]' rc || continue
         wanted=0
         [ "$about/${mail##*/}" != procmailex.5_Mail_for_an_address_that_is_gone/10 ] || wanted=67
         status=0
@@ -156,7 +159,7 @@ cd "$folder/homes/procmailex.5_Duplicates"
 cd "$folder/homes/procmailex.5_A_vacation_reply"
 [ "$(grep -c '^To: ann@example.org' sent)" -eq 1 ] || fail "ann got $(grep -c '^To: ann@example.org' sent) replies"
 ! grep -q 'MAILER-DAEMON' sent || fail "a daemon got a reply"
-[ "$(grep -c '^Subject: ' default)" -eq 14 ] || fail "the vacation's mails weren't all delivered"
+[ "$(grep -c '^Subject: ' default)" -eq 13 ] || fail "the vacation's mails weren't all delivered"
 cd "$folder/homes/procmailex.5_Forwarding_without_loops"
 ! grep -q '^Subject: loop' sent || fail "a mail that came back was forwarded again"
 echo "$name: passed, with $(ls "$folder/rcs" | wc -l) rcfiles of the pages"
