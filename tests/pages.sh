@@ -133,7 +133,7 @@ same "macros" procmailrc.5
 words=crates/pm_words/specs/Words.antt
 {
     grep -o 'is letter (codes "[a-zA-Z]")' "$words" | sed 's/.*"\(.\)".*/\1/'
-    grep -ho 'codes "--[a-z]*"' crates/pm_words/specs/*.antt crates/pm_top/specs/*.antt | sed 's/codes "-\(.*\)"/\1/'
+    grep -ho 'codes "--[a-z]*"' crates/pm_*/specs/*.antt | sed 's/codes "-\(.*\)"/\1/'
 } | sort -u > "$folder/defined"
 section procmail.1 DESCRIPTION | items Fl > "$folder/named"
 # The word for a trial is in the page before its definition is: this line goes once that is there.
