@@ -43,8 +43,8 @@ begin() {
     for made in "${@:2}"; do mkdir "$home/$made"; done
 }
 
-# deliver MAIL..: each ends with status 0, and nothing is said on standard error. 3.22 wants HOME and LOGNAME as words. It
-# doesn't wait for its programs: `$(..)` does, since they have its output as descriptor 9.
+# deliver MAIL..: each ends with status 0, and nothing is said on standard error. 3.22 wants HOME and LOGNAME as words,
+# and doesn't wait for its programs: `$(..)` does, since they have its output as descriptor 9.
 deliver() {
     local mail status known=("HOME=$home" LOGNAME=joe)
     for mail in "$@"; do
@@ -220,7 +220,8 @@ forward() {
 }
 
 # 50 + 40 + 2 * 10 - 2; 10; 0; -60 - 3 * 2; 40 + 10 - 60
-mail boss boss@work.example 'From: boss@work.example' 'Subject: the deadline' '' 'joe, look' '> an older line' 'ask joe now'
+mail boss boss@work.example 'From: boss@work.example' 'Subject: the deadline' '' \
+    'joe, look' '> an older line' 'ask joe now'
 mail friend ann@x.example 'From: ann@x.example' 'Subject: tea' '' 'dear joe' 'hi'
 mail neutral ann@x.example 'From: ann@x.example' 'Subject: tea' '' 'dear joey' 'hi'
 mail quoted l@x.example 'From: ann@x.example' 'List-Id: <a.x>' 'Subject: old' '' '> a' '> b' 'well' '> c'
@@ -263,6 +264,9 @@ all() {
 [ "$(ls "$examples"/*.rc | wc -l)" -eq 9 ] || fail 'an example has no run here'
 all procmail "$program"
 if other=$(command -v procmail) && "$other" -v 2>&1 < /dev/null | grep -q 'v3\.2[23]'; then
+    # 3.22 makes the user's default mailbox where there is none.
+    spool=/var/mail/$(id -un)
+    [ -e "$spool" ] || trap 'rm -rf "$folder"; [ -s "$spool" ] || rm -f "$spool"' EXIT
     all 3.22 "$other"
     echo "examples: the 9 rcfiles deliver as they say, and procmail 3.22 makes the same files by them"
 else
