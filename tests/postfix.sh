@@ -161,7 +161,7 @@ for _ in 1 2 3 4 5 6 7 8 9 10; do
 done
 {
     for setting in daemon_directory command_directory meta_directory shlib_directory mail_owner setgid_group; do
-        postconf "$setting" 2> /dev/null
+        postconf -d "$setting" 2> /dev/null
     done
     cat << CF
 compatibility_level = 2
@@ -217,7 +217,7 @@ procmail unix - n n - - pipe
 no-rcfile unix - n n - - pipe
   flags=FRhu user=$user directory=$home argv=$folder/bin/procmail -t -m $home/no-such-rcfile
 CF
-chown "$(postconf -h mail_owner)" "$folder/data"
+chown "$(postconf -dh mail_owner)" "$folder/data"
 started=yes
 timeout 60 postfix -c "$config" start > start 2>&1 < /dev/null ||
     fail "postfix wasn't started: $(cat start "$log" 2> /dev/null)"
@@ -345,4 +345,4 @@ for pair in Mail/inbox:10 Mail/archive:5 Mail/copied:5 Mail/filtered:5 Mail/repa
 done
 ! grep -q 'bytes left' "$home/Mail/log" || wrong "the user's log tells of bytes that are left"
 [ -z "$(find "$home" -name '*.lock')" ] || wrong "a lock file is left"
-echo "postfix: 50 mails over SMTP by postfix $(postconf -h mail_version): delivered, deferred and returned, none lost"
+echo "postfix: 50 mails over SMTP by postfix $(postconf -dh mail_version): delivered, deferred and returned, none lost"
