@@ -193,7 +193,10 @@ recipient_delimiter = +
 biff = no
 notify_classes =
 mailbox_command = $folder/bin/procmail -a "\$EXTENSION" LOCKSLEEP=1 DEFAULT="\$HOME/mbox" ORGMAIL= || exit 75
+mailbox_size_limit = 0
+command_time_limit = 9000s
 procmail_destination_recipient_limit = 1
+procmail_time_limit = 9000s
 no-rcfile_destination_recipient_limit = 1
 CF
 } > "$config/main.cf"
