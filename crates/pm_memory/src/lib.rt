@@ -19,4 +19,3 @@ mod tree;
 pub use host::MemoryHost;
 pub use sink::MemorySink;
 pub use source::MemorySource;
-
