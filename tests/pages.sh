@@ -136,8 +136,6 @@ words=crates/pm_words/specs/Words.antt
     grep -ho 'codes "--[a-z]*"' crates/pm_*/specs/*.antt | sed 's/codes "-\(.*\)"/\1/'
 } | sort -u > "$folder/defined"
 section procmail.1 DESCRIPTION | items Fl > "$folder/named"
-# The word for a trial is in the page before its definition is: this line goes once that is there.
-grep -qx -e -trial "$folder/defined" || sed -i '/^-trial$/d' "$folder/named"
 same "options" procmail.1
 
 # letters: the letters of the bytes that come by their numbers, a line each.
