@@ -1,1 +1,4 @@
 pub mod NoChildAsked
+pub mod TreeFacts
+pub mod TreeSteps
+pub mod Faults

@@ -2,6 +2,8 @@
 ghost use Rattle.std.specs.Prelude.{◌≡◌, IfOk, OnErr};
 ghost use Rattle.pm_append.specs.ReadsFile.{ReadsFile, LeavesReading};
 ghost use Rattle.pm_journal.specs.Locking.{TakesLock};
+ghost use Rattle.pm_host.specs.Told.{Tells, Rose};
+ghost use Rattle.formail_cache.specs.Tree.{StepsRight, GivesUpRight};
 ghost use Rattle.formail_cache.specs.Stepping.{cache_rule, end_of, given_back, Remembers, Uses, UnderLock, LetGo, Steps, GivesUp};
 
 use crate::changing::{Change, Written, choose, make};
@@ -150,9 +152,8 @@ fn take<H: Host>(host: &mut H, lock: &Name) -> LockEnd
     take_lock(host, lock, rule())
 }
 
-/// Takes the cache's lock, holds the identifiers of some mails against the cache, adds those that are new, and gives
-/// the lock back (formail(1), option -D).
-pub fn cache_step<H: Host>(
+// The lock is taken, and the cache is used under it.
+fn step<H: Host>(
     alloc: Global,
     host: &mut H,
     cache: &Cache,
@@ -170,4 +171,25 @@ pub fn cache_step<H: Host>(
         LockEnd::Busy => Ok(CacheEnd::Busy),
         LockEnd::Failed => Ok(CacheEnd::Failed),
     }
+}
+
+/// Takes the cache's lock, holds the identifiers of some mails against the cache, adds those that are new, and gives
+/// the lock back (formail(1), option -D).
+pub fn cache_step<H: Host>(
+    alloc: Global,
+    host: &mut H,
+    cache: &Cache,
+    ids: &[Option<Blob>],
+) -> Result<CacheEnd, Memory>
+    ensures ok { IfOk result (λ end. Steps cache.now ids.now end (H.told host.old) (H.told host.new)) }
+    ensures tree { IfOk result
+        (λ end. Tells (StepsRight cache.now ids.now end) (H.told host.old).world (H.told host.new).world) }
+    ensures failed { IfOk result
+        (λ end. end ≡ CacheEnd.Failed → Rose (H.told host.old).faults (H.told host.new).faults) }
+    ensures err { OnErr result (GivesUp cache.now (H.told host.old) (H.told host.new)) }
+    ensures left { OnErr result (Tells (GivesUpRight cache.now) (H.told host.old).world (H.told host.new).world) }
+    ensures child { (H.told host.new).child ≡ (H.told host.old).child }
+{
+    let end = step(alloc, host, cache, ids)?;
+    Ok(end)
 }
