@@ -106,3 +106,10 @@ failed_rose cache ids a b (locked sleeps forced middle takes under) =
     rose_behind a.faults middle.faults b.faults takes.ran.later
     (under_rose cache ids under.used under.removed middle under.middle b under.is under.uses (uses_later cache ids under.used middle under.middle under.uses) under.gives.later
     (λ e. under.gives.failed (subst (λ r. IsFailed (AnswerRemove r)) (sym e) tt)))
+
+-- the count of the host never falls
+pub steps_later : (cache : Cache) (ids : List (Option (List ℕ))) (end : CacheEnd) (a b : HostView) → Steps cache ids end a b → a.faults ≤ b.faults
+steps_later cache ids end a b (busy is takes) = takes.ran.later
+steps_later cache ids end a b (unlocked is takes) = takes.ran.later
+steps_later cache ids end a b (locked sleeps forced middle takes under) =
+    le_trans takes.ran.later (le_trans (uses_later cache ids under.used middle under.middle under.uses) under.gives.later)

@@ -1,3 +1,4 @@
 pub mod OutputLemmas
 mod Rows
 mod LeavingLemmas
+pub mod Faults

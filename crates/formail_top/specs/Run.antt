@@ -1,7 +1,7 @@
 -- What a run of formail does.
 use Rattle.std.specs.Prelude.{◌≡◌, ◌⊎◌, ℕ, ℤ, Bool, true, false, Option, Some, None, List, codes, if◌then◌else◌}
 use Rattle.std.specs.List.{list_any}
-use Rattle.pm_host.specs.Told.{HostView, Makes}
+use Rattle.pm_host.specs.Told.{HostView, Makes, Tells}
 use Rattle.pm_host.specs.Streams.{StreamView}
 use Rattle.pm_host.specs.declared.calls.Call.TheVariants.{Now}
 use Rattle.pm_host.specs.declared.calls.Answer.TheVariants.{Now as AnswerNow}
@@ -15,6 +15,7 @@ use Rattle.formail_split.specs.Feeding.{FeedsEach}
 use Rattle.formail_split.specs.declared.feeding.Outcome.{Outcome}
 use Rattle.formail_split.specs.declared.feeding.Outcome.TheVariants.{Fine, Amiss, Failed}
 use Rattle.formail_cache.specs.Stepping.{Steps, GivesUp}
+use Rattle.formail_cache.specs.Tree.{StepsRight}
 use Rattle.formail_cache.specs.declared.stepping.Cache.{Cache}
 use Rattle.formail_cache.specs.declared.stepping.CacheEnd.{CacheEnd}
 use Rattle.formail_cache.specs.declared.stepping.CacheEnd.TheVariants.{Kept, Busy, Unusable, Failed as CacheFailed}
@@ -118,11 +119,13 @@ AfterStep Busy request vars mails status host host' out out' = Stops 73 status h
 AfterStep Unusable request vars mails status host host' out out' = Stops 73 status host host' out out'
 AfterStep CacheFailed request vars mails status host host' out out' = Stops 74 status host host' out out'
 
--- the mails were held against the cache, and treated by what came of that
+-- The mails were held against the cache, and treated by what came of that. Of a tree that is told it is stated what the
+-- step with the cache made of it.
 pub record Remembers (cache : Cache) (request : Request) (vars : List Pair) (mails : List (List ℕ)) (status : ℕ) (host host' : HostView) (out out' : StreamView) : Type 0 where
   pub end : CacheEnd
   pub middle : HostView
   pub steps : Steps cache (ids_of request mails) end host middle
+  pub tree : Tells (StepsRight cache (ids_of request mails) end) host.world middle.world
   pub after : AfterStep end request vars mails status middle host' out out'
 
 -- what became of the mails, without `-D` or with it

@@ -3,11 +3,13 @@
 
 mod feeding;
 mod filtering;
+mod laws;
 mod outputs;
 mod request;
 mod settings;
 mod words;
 
 pub use filtering::formail;
+pub use laws::failures_have_calls;
 pub use request::Request;
 pub use settings::{Setting, Waits};
