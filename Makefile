@@ -29,13 +29,16 @@ build-formail:
 	    { tail -n 40 ../../bin/build-formail.log >&2; exit 1; }; }
 	@cp crates/formail_cli/out/formail_cli bin/formail
 
-# bin/pm_cases, built once its crates are proved. The build ends by giving it no cases.
+# bin/pm_cases and bin/formail_cases, built once their crates are proved. Each build ends by giving the program no cases.
 build-cases:
 	@mkdir -p bin
-	@echo "Building bin/pm_cases. Its crates are proved first. The log is bin/build-cases.log."
+	@echo "Building bin/pm_cases and bin/formail_cases. Their crates are proved first. The log is bin/build-cases.log."
 	@cd crates/pm_cases && { bash ../../.ci/watch ../../bin/build-cases.log rt run || \
 	    { tail -n 40 ../../bin/build-cases.log >&2; exit 1; }; }
 	@cp crates/pm_cases/out/pm_cases bin/pm_cases
+	@cd crates/formail_cases && { bash ../../.ci/watch ../../bin/build-cases.log rt run || \
+	    { tail -n 40 ../../bin/build-cases.log >&2; exit 1; }; }
+	@cp crates/formail_cases/out/formail_cases bin/formail_cases
 
 # Where the programs and their pages are put: below PREFIX, and all of that below DESTDIR, for packages.
 PREFIX = /usr/local

@@ -1,5 +1,5 @@
 #!/usr/bin/env bash
-# Runs each file of cases by the built program, and tells how many cases passed and failed, for each file and in all.
+# Runs each file of cases by the built programs, and tells how many cases passed and failed, for each file and in all.
 set -u
 cd "$(dirname "$0")/.." || exit 1
 [ "${ARE_BUILT:-}" = yes ] || make -s build-cases || exit 1
@@ -8,7 +8,11 @@ passed=0
 failed=0
 ended=0
 for file in tests/cases/*.cases; do
-    report=$(bin/pm_cases < "$file")
+    case $file in
+        tests/cases/formail*) program=bin/formail_cases ;;
+        *) program=bin/pm_cases ;;
+    esac
+    report=$($program < "$file")
     status=$?
     printf '%s\n' "$report" | sed "\$ s|^|$file: |"
     if [ "$status" -gt 1 ]; then

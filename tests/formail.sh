@@ -1,5 +1,5 @@
 #!/usr/bin/env bash
-# The built formail on real files: the rows of tests/formail.rows but for those in memory alone. Where formail
+# The built formail on real files: the rows of tests/cases/formail.cases but for those in memory alone. Where formail
 # 3.22 is installed, each row that doesn't say that 3.22 differs is compared with what it writes too, and each that
 # says so must differ.
 set -eu
@@ -7,7 +7,7 @@ name=$(basename "$0" .sh)
 cd "$(dirname "$0")/.."
 [ "${ARE_BUILT:-}" = yes ] || make -s build-formail > /dev/null
 program=$PWD/bin/formail
-rows=$PWD/tests/formail.rows
+rows=$PWD/tests/cases/formail.cases
 folder=$(mktemp -d)
 trap 'rm -rf "$folder"' EXIT
 cd "$folder"
@@ -32,17 +32,16 @@ declare -A texts
 count=0
 compared=0
 
-# row INPUT WORD.. '->' STATUS [OUTPUT]
+# row WORD.. '<' INPUT '->' STATUS [OUTPUT]
 row() {
-    local input=$1 words=() wanted
-    shift
-    while [ "$1" != '->' ]; do
+    local words=() wanted
+    while [ "$1" != '<' ]; do
         words+=("$1")
         shift
     done
-    wanted=$2
-    printf '%s' "$input" > input
-    printf '%s' "${3-}" > want
+    wanted=$4
+    printf '%s' "$2" > input
+    printf '%s' "${5-}" > want
     outcome "$program" input "${words[@]}"
     [ "$status" -eq "$wanted" ] || fail "formail ${words[*]}: status $status, not $wanted"
     cmp -s got want || fail "formail ${words[*]}: wrote $(cat got)"
@@ -60,7 +59,8 @@ row() {
 
 # A line of words, in which "..\n.." is one word and @NAME a text, as words of the shell.
 words_of() {
-    sed -e "s/\"\([^\"]*\)\"/\$'\1'/g" -e 's/@\([A-Z]*\)/"${texts[\1]}"/g' -e "s/ -> / '->' /" <<< "$1"
+    sed -e "s/\"\([^\"]*\)\"/\$'\1'/g" -e 's/@\([A-Z][A-Z]*\)/"${texts[\1]}"/g' \
+        -e "s/ < / '<' /" -e "s/ -> / '->' /" <<< "$1"
 }
 
 set -f
@@ -72,12 +72,12 @@ while IFS= read -r next; do
         '-> '*) line="$line $next"; continue ;;
     esac
     case $line in
-        'formail 0 '*) [ "$alone" = yes ] || eval "row $(words_of "${line#formail 0 }")" ;;
+        'formail '*) [ "$alone" = yes ] || eval "row $(words_of "${line#formail}")" ;;
         'text '*) eval "set -- $(words_of "$line")" && texts[$2]=$3 ;;
         'about '*)
             differs=no
             alone=no
-            case $line in *'3.22 differs') differs=yes ;; *'in memory alone' | 'about sizes') alone=yes ;; esac
+            case $line in *'3.22 differs') differs=yes ;; *'in memory alone') alone=yes ;; esac
             ;;
     esac
     line=$next

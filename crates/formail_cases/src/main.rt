@@ -1,0 +1,54 @@
+//! Runs the cases of formail that standard input has, prints what differs from what is wanted, and last how many
+//! tries passed and failed. Its status is 0 only if none failed. It is safe and total; what it prints is not stated.
+#![tactic(auto)]
+
+mod case;
+mod running;
+mod session;
+
+use case_file::{Refused, read_lines};
+use session::{Session, Tally};
+use std::io;
+use std::process::ExitCode;
+
+// The status where a case failed, and where the cases aren't read (sysexits(3)).
+const FAILED: u8 = 1;
+
+const MISREAD: u8 = 65;
+
+fn main(rt: HostRuntime) -> ExitCode {
+    match run_all(&rt) {
+        Ok(tally) => if tally.failed == 0 {
+            ExitCode::SUCCESS
+        } else {
+            ExitCode::from(FAILED)
+        },
+        Err(refused) => {
+            let _ = print_refused(&rt, refused);
+            ExitCode::from(MISREAD)
+        }
+    }
+}
+
+fn print_refused(rt: &HostRuntime, refused: Refused) -> io::Result<()> {
+    match refused {
+        Refused::File { line, why } => println!(rt; "line {line}: {why}"),
+        Refused::Misread(why) => println!(rt; "{why}"),
+        Refused::Memory => println!(rt; "memory was wanting"),
+        Refused::Stream => Ok(()),
+    }
+}
+
+fn run_all(rt: &HostRuntime) -> Result<Tally, Refused> {
+    let alloc = rt.alloc();
+    let file = io::read_to_string(alloc, rt.reader())?;
+    let lines = read_lines(alloc, file.as_str())?;
+    let mut session = Session::new(alloc);
+    for line in &lines {
+        session.take(rt, line)?;
+    }
+    let tally = session.finish(rt)?;
+    let Tally { passed, failed } = tally;
+    println!(rt; "{passed} passed, {failed} failed")?;
+    Ok(tally)
+}
