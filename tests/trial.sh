@@ -92,17 +92,17 @@ if [ -w /dev/full ]; then
     rm mbox
 fi
 
-# 2,000 messages want no more memory than 20 do, but for a mebibyte at most.
+# 2,000 messages want no more memory than 200 do, but for a mebibyte at most.
 ends_with 0 --trial 2000
 printf 'messages 2000\nentries 4000\nappends 2000\nlocks 0\nbytes 127390\n' > want
 cmp -s out want || fail "2,000 messages said: $(cat out)"
 [ "$(grep -c '^From ' mbox)" -eq 2000 ] || fail "2,000 messages left $(grep -c '^From ' mbox)"
 if [ -x /usr/bin/time ]; then
     rm mbox
-    /usr/bin/time -f '%M' -o few "$program" --trial 20 > out
+    /usr/bin/time -f '%M' -o few "$program" --trial 200 > out
     rm mbox
     /usr/bin/time -f '%M' -o many "$program" --trial 2000 > out
     [ "$(cat many)" -le "$(($(cat few) + 1024))" ] ||
-        fail "2,000 messages took $(cat many) KiB of memory, and 20 took $(cat few) KiB"
+        fail "2,000 messages took $(cat many) KiB of memory, and 200 took $(cat few) KiB"
 fi
 echo "trial: passed"
