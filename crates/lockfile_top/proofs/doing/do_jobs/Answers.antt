@@ -14,6 +14,7 @@ returns-then-not-do_task g c =
     task_stops _ c.loop-job.jobs.items c.pop_front.new.self.items c.in-Some.job c.loop-job.made.items _ c.do_task.result _ _ _ _ _ _ _ _ _ c.loop-job.invariant.leads c.in-Some.ensures.items c.do_task.ensures.done missed same
     (subst AllReady c.in-Some.ensures.items c.loop-job.invariant.ready).0.sorry c.give_up.ensures
 
+-- where the job's line has other owners, and where it hasn't
 pub loop-job-preserved-else-not-do_task : goal.loop-job-preserved-else-not-do_task
 loop-job-preserved-else-not-do_task g c =
     let done : c.do_task.result ≡ true = search rules in
