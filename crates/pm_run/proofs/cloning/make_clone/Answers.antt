@@ -35,7 +35,7 @@ returns-clause-proceeds g c =
     let p = mind_of c.args.process.now in
     let later = record c.args.queue.now { copies = c.push_back.new.self; made = c.args.queue.now.made + 1 } in
     λ first. (
-      clone_made (block_at c.args.place f) (items_of f) p c.args.journal.now (g.D.Outside.told c.args.outside.now) c.args.queue.now later c.in_ok-copy.copy (with_chain c.succeed-process.result p) c.if-queue-ge-MOST_COPIES.false refl c.in_ok-push_back.ensures.items c.in_ok-copy.ensures
+      clone_made (block_at c.args.place f) (items_of f) p c.args.journal.now (g.D.Outside.told c.args.outside.now) c.args.queue.now later c.in_ok-copy.copy (with_chain c.succeed-process.result p) c.if-queue-ge-MOST_COPIES.false refl c.in_ok-push_back.ensures.items c.in_ok-copy.ensures.task
           (ap (λ k. with_chain k p) c.succeed-process.ensures) first,
       tt,
     )
