@@ -9,7 +9,6 @@ mod letters;
 mod names;
 mod numbers;
 mod paths;
-mod shared;
 mod text;
 
 pub use alphabet::{

@@ -1,6 +1,5 @@
 pub mod CutLemmas
 pub mod DayLemmas
-pub mod EscapeLemmas
 mod FieldLemmas
 pub mod FoldLemmas
 pub mod HeadLemmas

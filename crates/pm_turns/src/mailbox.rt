@@ -40,7 +40,7 @@ impl Mailbox {
     {
         match bytes {
             Some(blob) => {
-                let mut bytes = blob.into_vec(alloc)?;
+                let mut bytes = blob.into_vec();
                 bytes.reserve(room)?;
                 Ok(Mailbox {
                     present: true,
