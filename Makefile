@@ -7,7 +7,7 @@ build: build-procmail build-lockfile build-formail
 # bin/procmail, built once its crates are proved. The build ends by starting the program with a word that isn't read (64).
 build-procmail:
 	@mkdir -p bin
-	@echo "Building bin/procmail. Its crates are proved first: from nothing about a quarter of an hour on four processors,"
+	@echo "Building bin/procmail. Its crates are proved first: from nothing that takes most of an hour,"
 	@echo "with nothing changed some seconds. The log is bin/build.log."
 	@cd crates/procmail_cli && { bash ../../.ci/watch ../../bin/build.log rt run -- -x; status=$$?; \
 	    if [ $$status -ne 64 ]; then tail -n 40 ../../bin/build.log >&2; exit 1; fi; }
@@ -87,8 +87,8 @@ bench:
 # The merge gate.
 check:
 	@mkdir -p bin
-	@echo "Every proof, must-fail edit, test and stored run, and then deliveries on real files: from nothing about twenty"
-	@echo "minutes on four processors; what an earlier run on this machine proved isn't proved again. The log is bin/check.log."
+	@echo "Every proof, must-fail edit, test and stored run, and then deliveries on real files: about an hour on four"
+	@echo "processors, since each run proves all from nothing. The log is bin/check.log."
 	@bash .ci/watch bin/check.log bash .ci/run; status=$$?; \
 	    if [ $$status -eq 0 ]; then tail -n 5 bin/check.log; else tail -n 40 bin/check.log >&2; fi; exit $$status
 
