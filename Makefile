@@ -62,7 +62,8 @@ uninstall:
 	rm -f $(patsubst man/%,"$(MANUALS)/man1/%",$(wildcard man/*.1)) $(patsubst man/%,"$(MANUALS)/man5/%",$(wildcard man/*.5))
 
 # The example message goes where the example rcfile says, in a fresh folder.
-demo: build-procmail
+demo:
+	@[ -x bin/procmail ] || $(MAKE) -s build-procmail
 	@echo "Delivering examples/message by examples/copies.rc into a fresh folder, which then has these files and this mail:"
 	@folder=$$(mktemp -d) && cp examples/copies.rc $$folder/rc && cd $$folder && \
 	    $(CURDIR)/bin/procmail ./rc < $(CURDIR)/examples/message && ls && cat mbox && cmp mbox archive-mbox; \
