@@ -92,7 +92,8 @@ IsWell Delivered = Unit {0}
 IsWell HostOff = Unit {0}
 IsWell other = ⊥
 
--- a process ended so, and its status is 0, unless EXITCODE or the code of TRAP's program, by these variables, says otherwise
+-- a process ended so, with the status of such an end by some variables and some code of TRAP's program; by which ones the meaning
+-- alone says
 pub record EndsWell (ending : Ending) : Type 0 where
   pub well : IsWell ending.end
   pub code : ℕ

@@ -104,8 +104,7 @@ pub record Promise (run : Run) : Type 0 where
   pub refusals : Refuses run
   -- a run with status 71 was starved, or its meaning gives that status
   pub memory : run.status ≡ 71 → IsStarved run ⊎ HasMeaning run
-  -- where nothing stands in its way, the first process delivers the mail or goes off on another host, and the status is 0, unless
-  -- EXITCODE or TRAP says otherwise
+  -- where nothing stands in its way, the first process delivers the mail or goes off on another host
   pub complete : (h : HasMeaning run) → IsClear (run_of h.line run.env h.mail) run.entries → EndsWell h.ending
   -- where an entry of the host's tells of a fault, the host's count rose in the run
   pub faultless : SomeFaulty run.entries → Rose run.before.host.faults run.after.host.faults
