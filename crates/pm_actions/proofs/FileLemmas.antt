@@ -1,5 +1,5 @@
 -- Deliveries to files and folders in plans.
-use Rattle.std.proofs.Common.{◌≡◌, ◌<◌, ◌+◌, true, false, Option, Some, None, List, ℕ, [], ◌∷◌, length, map, drop, get_or, refl, sym, ap, ◌∙◌, subst}
+use Rattle.std.proofs.Common.{◌≡◌, ◌<◌, ◌+◌, Bool, true, false, Option, Some, None, List, ℕ, [], ◌∷◌, length, map, drop, get_or, refl, sym, ap, ◌∙◌, subst}
 use Rattle.std.proofs.lemmas.List.{at_drop_more}
 use Rattle.std.specs.Prelude.{if◌then◌else◌}
 use Rattle.pm_bytes.specs.Name.{is_usable}
@@ -22,7 +22,7 @@ use Rattle.pm_journal.proofs.PlanLeads.{leads_itself, leads_on, leads_to_end, le
 use Rattle.pm_journal.proofs.WantsMemory.{executes_nothing, out_front}
 use Rattle.pm_recipe.specs.declared.tree.Flags.{Flags}
 use Rattle.pm_vars.specs.Table.{Table}
-use Rattle.pm_meaning.specs.Delivering.{Filing, feed_of, folder_piece, is_stored, in_folder, plain_prefix, in_plain, appended_by, to_file, file_as, file_one, file_all}
+use Rattle.pm_meaning.specs.Delivering.{Filing, feed_of, folder_piece, mailbox_piece, is_stored, in_folder, plain_prefix, in_plain, appended_by, to_file, file_as, file_one, file_all}
 use Rattle.pm_meaning.specs.Locks.{is_nothing}
 use Rattle.pm_meaning.specs.Minds.{Mind}
 use Rattle.pm_meaning.specs.declared.process.Destination.{Destination}
@@ -42,9 +42,15 @@ use Rattle.pm_actions.proofs.NameLemmas.{some_if, none_if}
 pub front_of_rest : {A : Type 0} (items : List A) (i : ℕ) (d item : A) → item ≡ get_or items i d → i < length items → drop i items ≡ item ∷ drop (i + 1) items
 front_of_rest items i d item is more = at_drop_more (λ l. l) items i d more ∙ ap (λ x. x ∷ drop (i + 1) items) (sym is)
 
+-- what is written to `/dev/null` doesn't matter
+nothing_asked : (yes : Bool) (flags : Flags) (name piece : List ℕ) (stored p : Mind) → is_nothing name ≡ yes
+    → to_file flags name (if is_nothing name then [] else piece) stored p ≡ to_file flags name piece stored p
+nothing_asked true flags name piece stored p e = rw e refl
+nothing_asked false flags name piece stored p e = rw e refl
+
 -- what is wanted for a destination goes where the destination asks for
 copy_as_files : (kind : Option FolderKind) (flags : Flags) (name : List ℕ) (p : Mind) → file_copy flags (copy_as kind flags p name) p ≡ file_as kind flags name p
-copy_as_files None flags name p = refl
+copy_as_files None flags name p = nothing_asked _ flags (full_name p.base name) (mailbox_piece flags p) _ p refl
 copy_as_files (Some kind) flags name p = refl
 
 copy_files : (flags : Flags) (d : Destination) (copy : Copy) (p : Mind) → copy ≡ copy_for flags p d → file_copy flags copy p ≡ file_one flags d p
@@ -57,7 +63,7 @@ size_with flags name message =
 
 -- what is wanted stays the same while the process delivers
 abbrev file_with : Flags → List ℕ → List ℕ → Message → Table → Copy
-file_with flags name base message vars = ToFile (record { name = full_name base name; shown = full_name base name; piece = piece_of message (feed_of flags) MailboxFile flags.raw; kept = record { vars = vars; stored = record { folder = name; size = size_with flags (full_name base name) message } } })
+file_with flags name base message vars = ToFile (record { name = full_name base name; shown = full_name base name; piece = if is_nothing (full_name base name) then [] else piece_of message (feed_of flags) MailboxFile flags.raw; kept = record { vars = vars; stored = record { folder = name; size = size_with flags (full_name base name) message } } })
 
 abbrev folder_with : FolderKind → Flags → List ℕ → List ℕ → Message → Copy
 folder_with kind flags name base message = ToFolder (record { kind = kind; folder = full_name base name; shown = full_name base name; prefix = []; piece = piece_of message (feed_of flags) Other flags.raw })

@@ -1,10 +1,11 @@
 -- Destinations with all that is wanted for them.
-use Rattle.std.specs.Prelude.{◌≡◌, ℕ, false, List, [], ◌∷◌, Option, Some, None, codes}
+use Rattle.std.specs.Prelude.{◌≡◌, ℕ, false, List, [], ◌∷◌, Option, Some, None, IfSome, codes, if◌then◌else◌}
 use Rattle.pm_bytes.specs.Path.{full_name}
 use Rattle.pm_journal.specs.Held.{holds_name}
 use Rattle.pm_journal.specs.Plan.{Plan}
 use Rattle.pm_journal.specs.declared.placing.FolderKind.{FolderKind}
 use Rattle.pm_meaning.specs.Delivering.{Attempted, Filing, mailbox_piece, folder_piece, file_size, to_file, in_folder}
+use Rattle.pm_meaning.specs.Locks.{is_nothing}
 use Rattle.pm_meaning.specs.Minds.{Mind}
 use Rattle.pm_meaning.specs.declared.process.Attempt.{Attempt}
 use Rattle.pm_meaning.specs.declared.process.Destination.{Destination}
@@ -15,6 +16,7 @@ use Rattle.pm_vars.specs.Variables.{with_value}
 use Rattle.pm_actions.specs.declared.filing.Copy.{Copy}
 use Rattle.pm_actions.specs.declared.filing.Copy.TheVariants.{ToFile, ToFolder}
 use Rattle.pm_actions.specs.declared.filing.FileCopy.{FileCopy}
+use Rattle.pm_actions.specs.declared.filing.Pieces.{Pieces}
 use Rattle.pm_actions.specs.declared.kept.Kept.{Kept}
 use Rattle.pm_actions.specs.declared.placing.FolderCopy.{FolderCopy}
 
@@ -25,12 +27,21 @@ remembered word size vars = record {
   stored = record { folder = word; size = size };
 }
 
+-- what a file of this name gets: to `/dev/null` nothing is written
+abbrev pub file_piece : List ℕ → Flags → Mind → List ℕ
+file_piece name flags p = if is_nothing name then [] else mailbox_piece flags p
+
+-- the pieces that were made are those of this mail
+abbrev pub ArePieces : Flags → Mind → Pieces → Type 0
+ArePieces flags p pieces =
+    IfSome pieces.mailbox (λ piece. piece ≡ mailbox_piece flags p) × IfSome pieces.own (λ piece. piece ≡ folder_piece flags p)
+
 -- a file with its name, its piece, and what the process remembers once it has the mail
 abbrev pub file_copy_for : Flags → Mind → List ℕ → FileCopy
 file_copy_for flags p name = record {
   name = full_name p.base name;
   shown = full_name p.base name;
-  piece = mailbox_piece flags p;
+  piece = file_piece (full_name p.base name) flags p;
   kept = remembered name (file_size (full_name p.base name) flags p) p.vars;
 }
 

@@ -1,17 +1,18 @@
 //! The mail goes to files and folders, one destination after the other. What each wants is taken before the first of them,
 //! so that no memory can be wanting between two deliveries to files or right behind one.
-ghost use Rattle.std.specs.Prelude.{◌≡◌, ◌+◌, ◌*◌, ◌≤◌, false, length, map, IfOk, OnErr, List};
+ghost use Rattle.std.specs.Prelude.{◌≡◌, ◌+◌, ◌*◌, ◌≤◌, false, length, map, IfOk, IfSome, OnErr, List};
 ghost use Rattle.std.specs.List.{list_any};
 ghost use Rattle.pm_journal.specs.Appending.{append_reply};
 ghost use Rattle.pm_journal.specs.Executed.{Carries};
 ghost use Rattle.pm_journal.specs.Held.{Keeping};
-ghost use Rattle.pm_meaning.specs.Delivering.{feed_of, folder_piece, mailbox_piece, file_size as size_of_file};
+ghost use Rattle.pm_message.specs.Piece.{piece_of};
+ghost use Rattle.pm_meaning.specs.Delivering.{feed_of, folder_piece, file_size as size_of_file};
 ghost use Rattle.pm_meaning.specs.Delivering.{file_all, to_file, in_plain, is_stored as is_stored_by};
 ghost use Rattle.pm_meaning.specs.Locks.{is_nothing as is_null_device};
 ghost use Rattle.pm_meaning.specs.Minds.{mind_of};
 ghost use Rattle.pm_meaning.specs.declared.process.Destination.{Destination as Asked};
 ghost use Rattle.pm_actions.specs.Copies.{copy_for, file_copy_for, folder_copy_for, filing_of, with_kept};
-ghost use Rattle.pm_actions.specs.Copies.{file_copy as copy_filed, IsShown, AllShown};
+ghost use Rattle.pm_actions.specs.Copies.{file_copy as copy_filed, file_piece as piece_for, ArePieces, IsShown, AllShown};
 ghost use Rattle.pm_actions.specs.Filing.{is_folder_there, filed_by, mind_after, is_folder_copy, HasFound};
 
 use crate::kept::{Kept, keep, remembering};
@@ -44,7 +45,14 @@ pub enum Copy {
     ToFolder(FolderCopy),
 }
 
-/// The destinations in order, each with all that is wanted for it.
+/// The pieces of the mail that were made: the one for mailboxes, and the one for files of their own.
+#[derive(Drop)]
+pub(crate) struct Pieces {
+    mailbox: Option<Blob>,
+    own: Option<Blob>,
+}
+
+/// The destinations in order, each with all that is wanted for it. A piece is made once, and its copies share its memory.
 pub fn copies_for(
     alloc: Global,
     flags: Flags,
@@ -53,9 +61,14 @@ pub fn copies_for(
 ) -> Result<VecDeque<Copy>, Memory>
     ensures { IfOk result (λ copies. copies.items ≡ map (copy_for flags (mind_of process.now)) destinations.now) }
 {
+    let mut pieces = Pieces {
+        mailbox: None,
+        own: None,
+    };
     let mut copies = VecDeque::new(alloc);
     for destination in destinations {
-        copies.push_back(make_copy(alloc, flags, destination, process)?)?;
+        let copy = make_copy(alloc, flags, destination, process, &mut pieces)?;
+        copies.push_back(copy)?;
     }
     Ok(copies)
 }
@@ -65,17 +78,17 @@ fn make_copy(
     flags: Flags,
     destination: &Destination,
     process: &Process,
+    pieces: &mut Pieces,
 ) -> Result<Copy, Memory>
-    ensures { IfOk result (λ copy. copy ≡ copy_for flags (mind_of process.now) destination.now) }
+    requires { ArePieces flags (mind_of process.now) pieces.old }
+    ensures copy { IfOk result (λ copy. copy ≡ copy_for flags (mind_of process.now) destination.now) }
+    ensures pieces { IfOk result (λ _. ArePieces flags (mind_of process.now) pieces.new) }
 {
+    let word = &destination.name;
     match destination.kind {
-        None => Ok(Copy::ToFile(file_copy_of(alloc, flags, &destination.name, process)?)),
+        None => Ok(Copy::ToFile(file_copy_of(alloc, flags, word, process, pieces)?)),
         Some(kind) => Ok(Copy::ToFolder(folder_copy_of(
-            alloc,
-            kind,
-            flags,
-            &destination.name,
-            process,
+            alloc, kind, flags, word, process, pieces,
         )?)),
     }
 }
@@ -85,14 +98,16 @@ fn file_copy_of(
     flags: Flags,
     word: &Name,
     process: &Process,
+    pieces: &mut Pieces,
 ) -> Result<FileCopy, Memory>
-    ensures { IfOk result (λ copy. copy ≡ file_copy_for flags (mind_of process.now) word.now) }
+    requires { ArePieces flags (mind_of process.now) pieces.old }
+    ensures copy { IfOk result (λ copy. copy ≡ file_copy_for flags (mind_of process.now) word.now) }
+    ensures pieces { IfOk result (λ _. ArePieces flags (mind_of process.now) pieces.new) }
 {
     let name = full(alloc, &process.base, word)?;
     let shown = name.copy(alloc)?;
-    let feed = fed_parts(flags);
-    let piece = piece(alloc, &process.message, feed, Kind::MailboxFile, flags.raw)?;
-    let size = file_size(alloc, flags, &name, &piece, process)?;
+    let piece = file_piece(alloc, flags, &name, process, pieces)?;
+    let size = file_size(flags, &name, &piece, process);
     let kept = remembering(alloc, word.as_str().as_bytes(), size, &process.vars)?;
     Ok(FileCopy {
         name,
@@ -102,23 +117,74 @@ fn file_copy_of(
     })
 }
 
-// How many bytes the file gets of which this is the piece: `/dev/null` gets those of no mailbox.
-fn file_size(
+// What is appended to the file: to `/dev/null` nothing is.
+fn file_piece(
     alloc: Global,
     flags: Flags,
     name: &Name,
-    piece: &Blob,
     process: &Process,
-) -> Result<u64, Memory>
-    requires { piece.now ≡ mailbox_piece flags (mind_of process.now) }
-    ensures { IfOk result (λ size. size ≡ size_of_file name.now flags (mind_of process.now)) }
+    pieces: &mut Pieces,
+) -> Result<Blob, Memory>
+    requires { ArePieces flags (mind_of process.now) pieces.old }
+    ensures piece { IfOk result (λ piece. piece ≡ piece_for name.now flags (mind_of process.now)) }
+    ensures pieces { IfOk result (λ _. ArePieces flags (mind_of process.now) pieces.new) }
 {
     if is_nothing(name) {
-        let own = own_piece(alloc, flags, process)?;
-        Ok(own.len() as u64)
+        Ok(Blob::empty(alloc))
     } else {
-        Ok(piece.len() as u64)
+        let made = &mut pieces.mailbox;
+        shared_piece(alloc, flags, Kind::MailboxFile, process, made)
     }
+}
+
+// A copy of the piece of this kind, which is made where it isn't there.
+fn shared_piece(
+    alloc: Global,
+    flags: Flags,
+    kind: Kind,
+    process: &Process,
+    made: &mut Option<Blob>,
+) -> Result<Blob, Memory>
+    requires { IfSome made.old (λ piece. piece ≡ piece_of process.now.message (feed_of flags) kind flags.raw) }
+    ensures piece { IfOk result (λ piece. piece ≡ piece_of process.now.message (feed_of flags) kind flags.raw) }
+    ensures made { IfOk result (λ _. IfSome made.new
+        (λ piece. piece ≡ piece_of process.now.message (feed_of flags) kind flags.raw)) }
+{
+    if let Some(piece) = &*made {
+        return piece.copy(alloc);
+    }
+    let feed = fed_parts(flags);
+    let mut piece = piece(alloc, &process.message, feed, kind, flags.raw)?;
+    piece.share()?;
+    let copy = piece.copy(alloc)?;
+    *made = Some(piece);
+    Ok(copy)
+}
+
+// How many bytes the file gets of which this is the piece: `/dev/null` gets those of no mailbox.
+fn file_size(flags: Flags, name: &Name, piece: &Blob, process: &Process) -> u64
+    requires { piece.now ≡ piece_for name.now flags (mind_of process.now) }
+    ensures { result ≡ size_of_file name.now flags (mind_of process.now) }
+{
+    if is_nothing(name) {
+        fed_length(flags, process)
+    } else {
+        piece.len() as u64
+    }
+}
+
+// How many bytes the parts have that are fed.
+fn fed_length(flags: Flags, process: &Process) -> u64
+    ensures { result ≡ length (folder_piece flags (mind_of process.now)) }
+{
+    let head = process.message.head.as_slice();
+    let body = process.message.body.as_slice();
+    let bytes = match fed_parts(flags) {
+        Feed::Head => head.len(),
+        Feed::Body => body.len(),
+        Feed::Both => head.len() + body.len(),
+    };
+    bytes as u64
 }
 
 fn folder_copy_of(
@@ -127,13 +193,17 @@ fn folder_copy_of(
     flags: Flags,
     word: &Name,
     process: &Process,
+    pieces: &mut Pieces,
 ) -> Result<FolderCopy, Memory>
-    ensures { IfOk result (λ copy. copy ≡ folder_copy_for kind flags (mind_of process.now) word.now) }
+    requires { ArePieces flags (mind_of process.now) pieces.old }
+    ensures copy { IfOk result (λ copy. copy ≡ folder_copy_for kind flags (mind_of process.now) word.now) }
+    ensures pieces { IfOk result (λ _. ArePieces flags (mind_of process.now) pieces.new) }
 {
     let folder = full(alloc, &process.base, word)?;
     let shown = folder.copy(alloc)?;
     let prefix = Name::from_text(String::new(alloc));
-    let piece = own_piece(alloc, flags, process)?;
+    let made = &mut pieces.own;
+    let piece = shared_piece(alloc, flags, Kind::Other, process, made)?;
     Ok(FolderCopy {
         kind,
         folder,

@@ -9,6 +9,7 @@ mod letters;
 mod names;
 mod numbers;
 mod paths;
+mod shared;
 mod text;
 
 pub use alphabet::{

@@ -14,7 +14,6 @@ use pm_host::{
 };
 use std::alloc::Global;
 use std::collections::{BTreeMap, VecDeque};
-use std::mem;
 
 /// Why a call is refused: its number was given to `fail`, no node of its kind stands at the name, or memory was wanting.
 #[derive(Clone, Copy, Debug, PartialEq, Eq)]
@@ -143,9 +142,8 @@ impl Tree {
         ensures same { OnErr result (world_in self.new ≡ world_in self.old) }
         ensures child { child_at self.new ≡ child_at self.old }
     {
-        let alloc = self.alloc;
         match self.nodes.get_mut(name) {
-            Some(node) => shorten(alloc, node, len),
+            Some(node) => shorten(node, len),
             None => Err(Denied::WrongKind),
         }
     }
@@ -362,7 +360,7 @@ fn grow(node: &mut Node, piece: &[u8]) -> Result<(), Denied>
 }
 
 // Keeps the first bytes of a file.
-fn shorten(alloc: Global, node: &mut Node, len: u64) -> Result<(), Denied>
+fn shorten(node: &mut Node, len: u64) -> Result<(), Denied>
     ensures ok { OnOk result (Some node.new ≡ kept (Some node.old) len) }
     ensures there { OnOk result (IsFile (Some node.old)) }
     ensures err { IfErr result (Explains ⊥ (NoFile (Some node.old)) ⊥) }
@@ -370,11 +368,9 @@ fn shorten(alloc: Global, node: &mut Node, len: u64) -> Result<(), Denied>
 {
     match node {
         Node::File(file) => {
-            let mut bytes = mem::replace(&mut file.bytes, Blob::empty(alloc)).into_vec();
-            if len < bytes.len() as u64 {
-                bytes.truncate(len as usize);
+            if len < file.bytes.len() as u64 {
+                file.bytes.truncate(len as usize);
             }
-            file.bytes = Blob::from_vec(bytes);
             Ok(())
         }
         Node::Folder => Err(Denied::WrongKind),

@@ -1,7 +1,6 @@
 -- Where a text is unfolded.
-use Rattle.std.proofs.Common.{◌≡◌, ◌==◌, ℕ, Bool, true, false, ◌||◌, ◌&&◌, List, [], ◌∷◌, ◌++◌, refl, sym, ap, ◌∙◌, nat_eq, append_assoc, append-nil}
+use Rattle.std.proofs.Common.{◌≡◌, ◌==◌, ℕ, Bool, true, false, ◌||◌, List, [], ◌∷◌, ◌++◌, refl, sym, ap, ◌∙◌, append_assoc, append-nil}
 use Rattle.std.specs.List.{list_any}
-use Rattle.std.specs.Prelude.{codes}
 use Rattle.pm_bytes.specs.Letter.{is_blank_byte}
 use Rattle.pm_message.specs.FromLine.{is_newline}
 use Rattle.pm_message.specs.Area.{unfolded}

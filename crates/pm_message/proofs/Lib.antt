@@ -1,5 +1,6 @@
 pub mod CutLemmas
 pub mod DayLemmas
+pub mod EscapeLemmas
 mod FieldLemmas
 pub mod FoldLemmas
 pub mod HeadLemmas

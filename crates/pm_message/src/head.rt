@@ -34,9 +34,19 @@ pub fn split(alloc: Global, bytes: &[u8]) -> Result<Message, Memory>
     ensures shortest { IfOk result (λ message. IsSplit bytes.now message) }
     ensures whole { IfOk result (λ message. whole_of message ≡ bytes.now) }
 {
-    let length = head_length(bytes);
-    let head = Blob::from_slice(alloc, &bytes[..length])?;
-    let body = Blob::from_slice(alloc, &bytes[length..])?;
+    divide(alloc, Blob::from_slice(alloc, bytes)?)
+}
+
+/// The head and the body of a mail, in the memory that the mail has.
+pub fn divide(alloc: Global, mut mail: Blob) -> Result<Message, Memory>
+    ensures parts { IfOk result (λ message. message ≡ split_of mail) }
+    ensures shortest { IfOk result (λ message. IsSplit mail message) }
+    ensures whole { IfOk result (λ message. whole_of message ≡ mail) }
+{
+    mail.share()?;
+    let length = head_length(mail.as_slice());
+    let head = mail.part(alloc, 0, length)?;
+    let body = mail.part(alloc, length, mail.len())?;
     Ok(Message { head, body })
 }
 

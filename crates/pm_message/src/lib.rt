@@ -10,7 +10,7 @@ mod renewal;
 
 pub use areas::{Part, area};
 pub use date::from_line;
-pub use head::{Message, split, whole};
+pub use head::{Message, divide, split, whole};
 pub use head_fields::{Field, FieldKind, Key, field_texts, fields, read_key};
 pub use pieces::{Feed, Kind, piece};
 pub use renewal::{Renew, needs_line, prepare};

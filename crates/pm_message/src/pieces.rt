@@ -1,11 +1,9 @@
 //! What of a mail is written to a mailbox or fed to a program.
 ghost use Rattle.std.specs.Prelude.{◌≡◌, ◌++◌, IfOk, OnOk};
-ghost use Rattle.pm_message.specs.Piece.{piece_of, chosen, escaped_chosen, escaped_line, ended};
-ghost use Rattle.std.specs.List.{flat_map};
-ghost use Rattle.bstr.specs.Text.{lines_of};
+ghost use Rattle.pm_message.specs.Piece.{piece_of, chosen, escaped, escaped_chosen, ended};
 
 use crate::Message;
-use bstr::ByteSlice;
+use memchr::memmem;
 use pm_bytes::{Blob, Memory};
 use std::alloc::Global;
 
@@ -41,15 +39,21 @@ fn plain(alloc: Global, message: &Message, feed: Feed) -> Result<Blob, Memory>
 }
 
 /// The text with the lines behind it, each that would begin a mail in a mailbox with `>` before it.
+#[tactic(auto, using(crate::proofs::EscapeLemmas::escaped_on, crate::proofs::EscapeLemmas::escaped_end))]
 fn with_escaped(mut text: Blob, lines: &[u8]) -> Result<Blob, Memory>
-    ensures { IfOk result (λ whole. whole ≡ text ++ flat_map escaped_line (lines_of lines.now)) }
+    ensures { IfOk result (λ whole. whole ≡ text ++ escaped lines.now) }
 {
-    for line in lines.lines_with_terminator() {
-        if line.starts_with(b"From ") {
-            text.push_slice(b">")?;
-        }
-        text.push_slice(line)?;
+    if lines.starts_with(b"From ") {
+        text.push_slice(b">")?;
     }
+    let mut rest = lines;
+    while let Some(place) = memmem::find(rest, b"\nFrom ") {
+        let (before, line) = rest.split_at(place + 1);
+        text.push_slice(before)?;
+        text.push_slice(b">")?;
+        rest = line;
+    }
+    text.push_slice(rest)?;
     Ok(text)
 }
 

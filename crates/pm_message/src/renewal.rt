@@ -4,7 +4,7 @@ ghost use Rattle.std.specs.List.{before_first};
 ghost use Rattle.pm_message.specs.FromLine.{has_from_line, makes_line, is_newline, without_line, is_no_blank, ends_word, behind_blanks, sender_of, who_of, prepared_of};
 ghost use Rattle.pm_message.specs.Split.{split_of};
 
-use crate::{Message, from_line, split};
+use crate::{Message, divide, from_line, split};
 use pm_bytes::{Blob, Memory, is_blank};
 use std::alloc::Global;
 
@@ -126,5 +126,5 @@ pub fn prepare(
     }
     let mut mail = from_line(alloc, new_sender(bytes, renew, logname), moment)?;
     mail.push_slice(behind_line(bytes))?;
-    split(alloc, mail.as_slice())
+    divide(alloc, mail)
 }

@@ -9,10 +9,10 @@ pub fn parts(alloc: Global, mail: &[u8]) -> Result<Words, Memory> {
     let message = split(alloc, mail)?;
     let joined = whole(alloc, &message)?;
     let mut words = Vec::new(alloc);
-    words.push(message.head.into_vec())?;
-    words.push(message.body.into_vec())?;
+    words.push(message.head.into_vec(alloc)?)?;
+    words.push(message.body.into_vec(alloc)?)?;
     if joined.as_slice() != mail {
-        words.push(joined.into_vec())?;
+        words.push(joined.into_vec(alloc)?)?;
     }
     Ok(words)
 }
@@ -28,7 +28,7 @@ pub fn piece_of(
     let message = split(alloc, mail)?;
     let raw = raw_of(raw)?;
     let text = piece(alloc, &message, feed_of(feed)?, kind_of(kind)?, raw)?;
-    Ok(only_word(alloc, text.into_vec())?)
+    Ok(only_word(alloc, text.into_vec(alloc)?)?)
 }
 
 /// Whether a From line is made.
@@ -44,7 +44,7 @@ pub fn line_needed(alloc: Global, renew: &[u8], mail: &[u8]) -> Result<Words, Re
 
 /// The From line of a sender at a moment.
 pub fn line_of(alloc: Global, who: &[u8], moment: i64) -> Result<Words, Memory> {
-    only_word(alloc, from_line(alloc, who, moment)?.into_vec())
+    only_word(alloc, from_line(alloc, who, moment)?.into_vec(alloc)?)
 }
 
 /// The head and the body of a mail with its From line as it is asked for.
@@ -58,8 +58,8 @@ pub fn prepared(
     let renew = renew_of(alloc, renew)?;
     let message = prepare(alloc, mail, &renew, logname, moment)?;
     let mut words = Vec::new(alloc);
-    words.push(message.head.into_vec())?;
-    words.push(message.body.into_vec())?;
+    words.push(message.head.into_vec(alloc)?)?;
+    words.push(message.body.into_vec(alloc)?)?;
     Ok(words)
 }
 
@@ -73,7 +73,7 @@ pub fn prepared_whole(
 ) -> Result<Words, Refused> {
     let renew = renew_of(alloc, renew)?;
     let message = prepare(alloc, mail, &renew, logname, moment)?;
-    Ok(only_word(alloc, whole(alloc, &message)?.into_vec())?)
+    Ok(only_word(alloc, whole(alloc, &message)?.into_vec(alloc)?)?)
 }
 
 fn feed_of(word: &[u8]) -> Result<Feed, Refused> {

@@ -7,7 +7,7 @@ use std::alloc::Global;
 pub fn grown(alloc: Global, text: &[u8], more: &[u8]) -> Result<Words, Memory> {
     let mut blob = Blob::from_slice(alloc, text)?;
     blob.push_slice(more)?;
-    only_word(alloc, blob.copy(alloc)?.into_vec())
+    only_word(alloc, blob.copy(alloc)?.into_vec(alloc)?)
 }
 
 /// A copy of the name that the bytes are.

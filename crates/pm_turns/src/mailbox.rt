@@ -40,7 +40,7 @@ impl Mailbox {
     {
         match bytes {
             Some(blob) => {
-                let mut bytes = blob.into_vec();
+                let mut bytes = blob.into_vec(alloc)?;
                 bytes.reserve(room)?;
                 Ok(Mailbox {
                     present: true,
