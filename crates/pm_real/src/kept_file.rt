@@ -2,7 +2,6 @@
 //! goes to one file, also where another one is put at its name meanwhile.
 ghost use Rattle.std.specs.Prelude.{◌≡◌, ◌≤◌, ◌<◌, length, IfSome};
 
-use crate::again;
 use std::alloc::Global;
 use std::fs::{OpenFile, OpenOptions};
 use std::io;
@@ -66,7 +65,7 @@ impl<F: Read + Write + OpenFile + FileExt + Drop> KeptFile<F> {
         self.opened = Some(Opened {
             name: kept_name,
             mode,
-            file: again::open(rt, how, name)?,
+            file: pm_again::open(rt, how, name)?,
             added: None,
         });
         Ok(())
@@ -121,7 +120,7 @@ impl<F: Read + Write + OpenFile + FileExt + Drop> KeptFile<F> {
         let Ok(opened) = self.used(rt, alloc, name, Mode::Reading) else {
             return None;
         };
-        again::read_at(&opened.file, room, at)
+        pm_again::read_at(&opened.file, room, at)
     }
 
     /// How many bytes were added at the end of the file, at least one; None is an error. The file isn't made where it
@@ -139,7 +138,7 @@ impl<F: Read + Write + OpenFile + FileExt + Drop> KeptFile<F> {
         let Ok(opened) = self.used(rt, alloc, name, Mode::Appending) else {
             return None;
         };
-        let count = again::write(&mut opened.file, piece)?;
+        let count = pm_again::write(&mut opened.file, piece)?;
         let added = opened.added.unwrap_or(0).saturating_add(count as u64);
         opened.added = Some(added);
         Some(count)

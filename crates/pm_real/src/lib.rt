@@ -3,15 +3,12 @@
 //! whether a child runs, are proved.
 #![tactic(auto)]
 
-mod again;
 mod child;
 mod folders;
 mod host;
 mod kept_file;
 mod sink;
 mod source;
-#[cfg(test)]
-mod tests;
 
 pub use host::RealHost;
 pub use sink::RealSink;

@@ -1,0 +1,58 @@
+//! Makes the calls of the real host that standard input lists, compares their answers with those that are wanted, and
+//! prints each that differs, and last how many passed and failed. docs/CASES.md has the lines. Its status is 0 only if
+//! none failed. It is safe and total; what it prints is not stated.
+#![tactic(auto)]
+
+mod answers;
+mod calls;
+mod children;
+mod others;
+mod session;
+
+use case_file::{Refused, read_lines};
+use pm_host::{Sink, Source};
+use pm_real::{RealSink, RealSource};
+use pm_streams::{Mail, WriteEnd, read_mail, write_text};
+use session::{Session, Tally};
+use std::alloc::Global;
+use std::process::ExitCode;
+
+// The status where a call failed that shouldn't, and where the lines aren't read (sysexits(3)).
+const FAILED: u8 = 1;
+
+const MISREAD: u8 = 65;
+
+fn main(rt: HostRuntime) -> ExitCode {
+    match run(&rt) {
+        Ok(Tally { failed: 0, .. }) => ExitCode::SUCCESS,
+        Ok(_) => ExitCode::from(FAILED),
+        Err(_) => ExitCode::from(MISREAD),
+    }
+}
+
+fn run(rt: &HostRuntime) -> Result<Tally, Refused> {
+    let alloc = rt.alloc();
+    let mut source = RealSource::stdin(rt, alloc)?;
+    let mut out = RealSink::stdout(rt, alloc)?;
+    let Mail::Bytes(bytes) = read_mail(alloc, &mut source)? else {
+        return Err(Refused::Stream);
+    };
+    let (report, tally) = report_on(rt, alloc, bytes.as_slice())?;
+    match write_text(&mut out, report.as_bytes()) {
+        WriteEnd::Wrote => Ok(tally),
+        WriteEnd::Short(_) => Err(Refused::Stream),
+    }
+}
+
+// What differs, and the line of the numbers.
+fn report_on(rt: &HostRuntime, alloc: Global, bytes: &[u8]) -> Result<(String, Tally), Refused> {
+    let Ok(text) = std::str::from_utf8(bytes) else {
+        return Err(Refused::Misread("the lines are UTF-8"));
+    };
+    let lines = read_lines(alloc, text)?;
+    let mut session = Session::new(rt, alloc)?;
+    for line in &lines {
+        session.take(line)?;
+    }
+    session.finish()
+}
