@@ -11,7 +11,7 @@ build-procmail:
 	@echo "with nothing changed some seconds. The log is bin/build.log."
 	@cd crates/procmail_cli && { bash ../../.ci/watch ../../bin/build.log rt run -- -x; status=$$?; \
 	    if [ $$status -ne 64 ]; then tail -n 40 ../../bin/build.log >&2; exit 1; fi; }
-	@cp crates/procmail_cli/out/procmail_cli bin/procmail
+	@bash .ci/program procmail_cli procmail
 
 # bin/lockfile, in the same way.
 build-lockfile:
@@ -19,7 +19,7 @@ build-lockfile:
 	@echo "Building bin/lockfile. Its crates are proved first. The log is bin/build-lockfile.log."
 	@cd crates/lockfile_cli && { bash ../../.ci/watch ../../bin/build-lockfile.log rt run; status=$$?; \
 	    if [ $$status -ne 64 ]; then tail -n 40 ../../bin/build-lockfile.log >&2; exit 1; fi; }
-	@cp crates/lockfile_cli/out/lockfile_cli bin/lockfile
+	@bash .ci/program lockfile_cli lockfile
 
 # bin/formail, built once its crates are proved. The build ends by starting the program on no input.
 build-formail:
@@ -27,7 +27,7 @@ build-formail:
 	@echo "Building bin/formail. Its crates are proved first. The log is bin/build-formail.log."
 	@cd crates/formail_cli && { bash ../../.ci/watch ../../bin/build-formail.log rt run || \
 	    { tail -n 40 ../../bin/build-formail.log >&2; exit 1; }; }
-	@cp crates/formail_cli/out/formail_cli bin/formail
+	@bash .ci/program formail_cli formail
 
 # bin/pm_cases and bin/formail_cases, built once their crates are proved. Each build ends by giving the program no cases.
 build-cases:

@@ -4,6 +4,8 @@
 # mailbox has all of the mail or none of it.
 set -eu
 . "$(dirname "$0")/common.bash"
+# The allocations of a program with the C library as a shared one can be made to fail.
+program=${programs%/bin}/crates/procmail_cli/out/procmail_cli
 compiler=$(command -v cc || command -v gcc || command -v clang || true)
 cat > failing.c <<'END'
 #include <errno.h>

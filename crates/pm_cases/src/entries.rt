@@ -159,7 +159,7 @@ fn push_output(told: &mut Told, act: &Act, output: &Blob) -> Result<(), Memory> 
 fn push_content(told: &mut Told, plan: &Plan, act: &Act, bytes: &Blob) -> Result<(), Memory> {
     told.add(b"Content")?;
     if let Act::ReadFile { name } = act {
-        if let Some(given) = plan.file(name.as_str().as_bytes()) {
+        if let Some(given) = plan.outside.file(name.as_str().as_bytes()) {
             if given == bytes.as_slice() {
                 return Ok(());
             }

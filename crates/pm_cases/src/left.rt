@@ -4,8 +4,9 @@ use crate::entries::push_entry;
 use crate::plan::Plan;
 use crate::running::Ran;
 use case_file::Told;
+use case_host::push_changes;
 use pm_bytes::Memory;
-use pm_host::{Answer, Call, Got, Logged, Made, Source};
+use pm_host::{Got, Source};
 use pm_journal::{Act, Reply};
 use std::alloc::Global;
 
@@ -21,9 +22,7 @@ pub fn push_left(alloc: Global, told: &mut Told, plan: &Plan, ran: &mut Ran) -> 
         told.begin("out")?;
         told.add(ran.out.written())?;
     }
-    push_files(alloc, told, plan, ran)?;
-    push_folders(told, ran.host.calls())?;
-    push_calls(alloc, told, ran.host.calls())?;
+    push_changes(alloc, told, &plan.outside, &ran.host)?;
     push_unread(told, plan, ran)
 }
 
@@ -59,114 +58,6 @@ fn taken_of<'a>(text: &'a [u8], reply: &Reply) -> &'a [u8] {
             text.get(..count).unwrap_or(text)
         }
         _ => b"",
-    }
-}
-
-// The files that were there, those that calls made, wrote to or moved, and those that others change.
-fn push_files(alloc: Global, told: &mut Told, plan: &Plan, ran: &Ran) -> Result<(), Memory> {
-    let mut names = Vec::new(alloc);
-    for stands in &plan.stands {
-        push_new(alloc, &mut names, stands.name.as_str().as_bytes())?;
-    }
-    for logged in ran.host.calls() {
-        match &logged.call {
-            Call::Create { name } => push_new(alloc, &mut names, name.as_slice())?,
-            Call::Append { name, .. } => push_new(alloc, &mut names, name.as_slice())?,
-            Call::Rename { to, .. } => push_new(alloc, &mut names, to.as_slice())?,
-            _ => {}
-        }
-    }
-    for batch in &plan.batches {
-        for other in batch {
-            push_new(alloc, &mut names, &other.name)?;
-        }
-    }
-    for name in &names {
-        push_file(told, plan, ran, name)?;
-    }
-    Ok(())
-}
-
-fn push_new(alloc: Global, names: &mut Vec<Vec<u8>>, name: &[u8]) -> Result<(), Memory> {
-    if names.iter().all(|known| known.as_slice() != name) {
-        names.push(name.to_vec(alloc)?)?;
-    }
-    Ok(())
-}
-
-// Tells a file that isn't as it was.
-fn push_file(told: &mut Told, plan: &Plan, ran: &Ran, name: &[u8]) -> Result<(), Memory> {
-    let before = plan.file(name);
-    let after = match std::str::from_utf8(name) {
-        Ok(text) => ran.host.file(text),
-        Err(_) => None,
-    };
-    match (before, after) {
-        (Some(before), Some(after)) => {
-            if before != after {
-                told.begin("left")?;
-                told.add(name)?;
-                told.add(after)?;
-            }
-        }
-        (None, Some(after)) => {
-            told.begin("left")?;
-            told.add(name)?;
-            told.add(after)?;
-        }
-        (Some(_), None) => {
-            told.begin("gone")?;
-            told.add(name)?;
-        }
-        (None, None) => {}
-    }
-    Ok(())
-}
-
-// The folders that the calls made.
-fn push_folders(told: &mut Told, calls: &[Logged]) -> Result<(), Memory> {
-    for logged in calls {
-        if let Call::MakeFolder { name } = &logged.call {
-            if matches!(logged.answer, Answer::MakeFolder(Made::Made)) {
-                told.begin("made")?;
-                told.add(name.as_slice())?;
-            }
-        }
-    }
-    Ok(())
-}
-
-fn push_calls(alloc: Global, told: &mut Told, calls: &[Logged]) -> Result<(), Memory> {
-    let mut text = String::new(alloc);
-    for logged in calls {
-        if !text.is_empty() {
-            text.push(' ')?;
-        }
-        text.push_str(call_text(&logged.call))?;
-    }
-    told.begin("calls")?;
-    told.add(text.as_str().as_bytes())
-}
-
-fn call_text(call: &Call) -> &'static str {
-    match call {
-        Call::Look { .. } => "look",
-        Call::Read { .. } => "read",
-        Call::Create { .. } => "create",
-        Call::Append { .. } => "append",
-        Call::Sync { .. } => "sync",
-        Call::Cut { .. } => "cut",
-        Call::Remove { .. } => "remove",
-        Call::Rename { .. } => "rename",
-        Call::MakeFolder { .. } => "make_folder",
-        Call::Names { .. } => "names",
-        Call::Age { .. } => "age",
-        Call::Sleep { .. } => "sleep",
-        Call::Now => "now",
-        Call::Start { .. } => "start",
-        Call::Feed { .. } => "feed",
-        Call::Take { .. } => "take",
-        Call::Finish => "finish",
     }
 }
 

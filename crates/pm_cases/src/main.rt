@@ -3,9 +3,9 @@
 //! stated.
 #![tactic(auto)]
 
-mod comparing;
 mod entries;
 mod left;
+mod lost;
 mod plan;
 mod running;
 mod session;

@@ -1,9 +1,9 @@
 //! Tries a run with each choice of failing calls, and reports what differs.
-use crate::comparing::{Difference, differences, with_lost};
-use crate::plan::{Choice, Failing, Plan};
+use crate::lost::with_lost;
+use crate::plan::{Choice, Plan};
 use crate::running::run;
-use case_file::{Refused, Told, Words, show_words};
-use std::alloc::Global;
+use case_file::{Refused, Told, show_words};
+use case_host::{differences, print_differences};
 
 /// How many runs came as wanted, and how many didn't.
 #[derive(Clone, Copy)]
@@ -24,24 +24,8 @@ impl Tally {
 
 /// Runs the plan with each choice of failing calls.
 pub fn try_plan<R: Print>(rt: &R, plan: &Plan, tally: &mut Tally) -> Result<(), Refused> {
-    match plan.failing {
-        Failing::None => try_writes(rt, plan, [0, 0], tally),
-        Failing::Each(last) => {
-            for call in 0..=last {
-                try_writes(rt, plan, [call, call], tally)?;
-            }
-            Ok(())
-        }
-        Failing::Pairs(last) => try_pairs(rt, plan, last, tally),
-    }
-}
-
-// The number 0 is no call's: with it one call fails, or none.
-fn try_pairs<R: Print>(rt: &R, plan: &Plan, last: u64, tally: &mut Tally) -> Result<(), Refused> {
-    for one in 0..=last {
-        for other in one..=last {
-            try_writes(rt, plan, [one, other], tally)?;
-        }
+    for failing in plan.tries.all()? {
+        try_writes(rt, plan, failing, tally)?;
     }
     Ok(())
 }
@@ -52,16 +36,14 @@ fn try_writes<R: Print>(
     failing: [u64; 2],
     tally: &mut Tally,
 ) -> Result<(), Refused> {
-    let Some(outcome) = plan.outcome(failing) else {
-        return Err(Refused::Misread("no outcome is wanted for some calls"));
-    };
+    let wanted = plan.tries.wanted(failing, plan.outside.fails.as_slice())?;
     let choice = Choice {
         failing,
         lost: None,
     };
-    judge(rt, plan, choice, &outcome.wanted, tally)?;
+    judge(rt, plan, choice, wanted, tally)?;
     for lost in 1..=plan.each_lost {
-        let wanted = with_lost(plan.alloc, &outcome.wanted, lost)?;
+        let wanted = with_lost(plan.alloc, wanted, lost)?;
         let choice = Choice {
             failing,
             lost: Some(lost),
@@ -92,31 +74,9 @@ fn judge<R: Print>(
 
 // What fails, where the plan has a choice of it.
 fn choice_text(plan: &Plan, choice: Choice) -> Result<String, Refused> {
-    let [one, other] = choice.failing;
-    let calls = match plan.failing {
-        Failing::None => String::new(plan.alloc),
-        Failing::Each(_) => format!(in plan.alloc; ", call {one} failing")?,
-        Failing::Pairs(_) => format!(in plan.alloc; ", calls {one} and {other} failing")?,
-    };
+    let calls = plan.tries.choice(choice.failing)?;
     match choice.lost {
         Some(lost) => Ok(format!(in plan.alloc; "{calls}, write {lost} lost")?),
         None => Ok(calls),
-    }
-}
-
-fn print_differences<R: Print>(rt: &R, alloc: Global, found: &[Difference]) -> Result<(), Refused> {
-    for difference in found {
-        let wanted = line_text(alloc, &difference.wanted)?;
-        let came = line_text(alloc, &difference.came)?;
-        println!(rt; "  wanted {wanted}")?;
-        println!(rt; "  came   {came}")?;
-    }
-    Ok(())
-}
-
-fn line_text(alloc: Global, line: &Option<Words>) -> Result<String, Refused> {
-    match line {
-        Some(words) => Ok(show_words(alloc, words)?),
-        None => Ok(String::from_str(alloc, "no such line")?),
     }
 }
