@@ -23,7 +23,8 @@ use Rattle.pm_meaning.specs.Turns.{Turn, GoesOn, Halts, Enters, Includes, Switch
 use Rattle.pm_meaning.specs.declared.process.End.{End}
 use Rattle.pm_meaning.specs.declared.process.End.TheVariants.{Delivered, FellOff, NoRc, HostOff}
 use Rattle.pm_machine.specs.Completeness.{AllServed, IsContent, HasDefault, IsClear, IsWell, EndsWell}
-use Rattle.pm_machine.specs.Courses.{Others, Course, now_at, first_end, with_copy, onward, advance, alone, run_of}
+use Rattle.pm_machine.specs.EndStatus.{EndHasStatus}
+use Rattle.pm_machine.specs.Courses.{Others, Course, now_at, with_copy, onward, advance, alone, run_of}
 use Rattle.pm_machine.specs.Ends.{tell_delivery, trap}
 use Rattle.pm_machine.specs.Running.{State, Arrived, Setting, Opening, Running, Including, Switching, LeavingFile, Cloning, Refusing, FallingOff, Leaving, Over, Trapping, Unlocking, Closing, Item, Do, BlockEnd, FileEnd, OpeningRule, Event, Ended, WantsClone, clone_of, ahead, is_first, entered, with_later, is_missing, after_read, without_rcfile, included, switched, left_by, ending_of, default_mailboxes, next_default, step, statement, next_of}
 use Rattle.pm_machine.specs.declared.command_line.CommandLine.{CommandLine}
@@ -31,7 +32,8 @@ use Rattle.pm_machine.specs.declared.ending.Ending.{Ending}
 use Rattle.pm_machine.proofs.Closings.{given_end}
 use Rattle.pm_machine.proofs.DefaultDelivered.{served_front, served_rest, default_delivers}
 use Rattle.pm_machine.proofs.DeliveredLast.{advanced}
-use Rattle.pm_machine.proofs.FirstKept.{parts_through, on_with, next_kept, kept}
+use Rattle.pm_machine.proofs.EndStatus.{well_is_success}
+use Rattle.pm_machine.proofs.FirstKept.{parts_through, on_with, over_own}
 use Rattle.pm_machine.proofs.Lines.{at_end, then_end}
 use Rattle.pm_machine.proofs.NoDelivery.{delivers}
 use Rattle.pm_machine.proofs.NoLast.{FailsMidway, never_prepared, never_setting, never_opened, never_left, never_refused}
@@ -44,13 +46,13 @@ Fares (FallingOff mailboxes p) = HasDefault mailboxes p
 Fares (Leaving locks end p) = IsWell end
 Fares (Over end p) = IsWell end
 Fares (Trapping end p) = IsWell end
-Fares (Unlocking ending p) = EndsWell ending
-Fares (Closing ending p) = EndsWell ending
+Fares (Unlocking ending p) = IsWell ending.end
+Fares (Closing ending p) = IsWell ending.end
 Fares other = Unit {0}
 
 abbrev FaresOn : Next State Event → Type 0
 FaresOn (Go s) = Fares s
-FaresOn (Stop (Ended ending p)) = EndsWell ending
+FaresOn (Stop (Ended ending p)) = IsWell ending.end
 FaresOn (Stop (WantsClone trees items p)) = Unit {0}
 
 -- what a step of the middle of a process never comes to
@@ -208,7 +210,7 @@ fares_on (Over end p) next es h served reads named fares =
     let k = then_end (tell_delivery end p) (λ done. Go (Trapping end p)) es next h in fares_at (Go (Trapping end p)) next k.2 fares
 fares_on (Trapping end p) next es h served reads named fares =
     let k = then_end (trap end p) (λ t. Go (Unlocking (ending_of end t.code t.mind) t.mind)) es next h in
-    fares_at (Go (Unlocking (ending_of end k.0.code k.0.mind) k.0.mind)) next k.2 (record { well = fares; code = k.0.code; mind = k.0.mind; status = refl })
+    fares_at (Go (Unlocking (ending_of end k.0.code k.0.mind) k.0.mind)) next k.2 fares
 fares_on (Unlocking ending p) next es h served reads named fares =
     let k = then_end (give_named p.global p) (λ q. Go (Closing ending q)) es next h in fares_at (Go (Closing ending k.0)) next k.2 fares
 fares_on (Closing ending p) next es h served reads named fares =
@@ -240,11 +242,11 @@ names_own o s es none clear p at = clear.named [] es p refl (o, none, subst (λ 
 
 -- with so many steps
 abbrev Walks : ℕ → Type 0
-Walks n = (o : Others) (s : State) (es : List Entry) (z : Ending) → o.first ≡ None → Fares s → IsClear (now_at o s) es → Plays (walk advance n (now_at o s)) es (Some z) → EndsWell z
+Walks n = (o : Others) (s : State) (es : List Entry) (z : Ending) → o.first ≡ None → Fares s → IsClear (now_at o s) es → Plays (walk advance n (now_at o s)) es (Some z) → IsWell z.end
 
 copied_by : (b : Bool) (n : ℕ) (c : Course) (o : Others) (trees : Trees) (items : List Item) (p : Mind) (front rest es : List Entry) (z : Ending) → Walks n → o.first ≡ None → es ≡ front ++ rest
     → IsClear c es → Plays (advance c) front (if b then Go (now_at o (Refusing items p)) else Go (now_at (with_copy (clone_of trees items p) o) (Running items (succeeded p))))
-    → Plays (on_with n (if b then Go (now_at o (Refusing items p)) else Go (now_at (with_copy (clone_of trees items p) o) (Running items (succeeded p))))) rest (Some z) → EndsWell z
+    → Plays (on_with n (if b then Go (now_at o (Refusing items p)) else Go (now_at (with_copy (clone_of trees items p) o) (Running items (succeeded p))))) rest (Some z) → IsWell z.end
 copied_by true n c o trees items p front rest es z walks none whole clear h k =
     let d = now_at o (Refusing items p) in
     walks o (Refusing items p) rest z none tt (clear_go c d front rest es whole h clear) k
@@ -253,30 +255,28 @@ copied_by false n c o trees items p front rest es z walks none whole clear h k =
     let d = now_at more (Running items (succeeded p)) in
     walks more (Running items (succeeded p)) rest z none tt (clear_go c d front rest es whole h clear) k
 
--- the run ends as its first process did
-over_own : (n : ℕ) (o : Others) (ending z : Ending) (p : Mind) (rest : List Entry) → o.first ≡ None → Plays (on_with n (onward o (Stop (Ended ending p)))) rest (Some z) → z ≡ ending
-over_own n o ending z p rest none k =
-    let over = next_kept n o.queue o.made (first_end o.first ending) p.placed p.openings rest z (kept n) k in
-    over ∙ ap (λ f. first_end f ending) none
-
 by_event : (n : ℕ) (o : Others) (s : State) (event : Event) (front rest es : List Entry) (z : Ending) → Walks n → o.first ≡ None → es ≡ front ++ rest → IsClear (now_at o s) es → Plays (step s) front (Stop event)
-    → FaresOn (Stop event) → Plays (on_with n (onward o (Stop event))) rest (Some z) → EndsWell z
+    → FaresOn (Stop event) → Plays (on_with n (onward o (Stop event))) rest (Some z) → IsWell z.end
 by_event n o s (Ended ending p) front rest es z walks none whole clear h fares k =
     let own : z ≡ ending = over_own n o ending z p rest none k in
-    subst EndsWell (sym own) fares
+    subst (λ (x : Ending). IsWell x.end) (sym own) fares
 by_event n o s (WantsClone trees items p) front rest es z walks none whole clear h fares k =
     copied_by (nat_le 16 o.made) n (now_at o s) o trees items p front rest es z walks none whole clear (advanced o s front (Stop (WantsClone trees items p)) h) k
 
-walks_well : (n : ℕ) (o : Others) (s : State) (es : List Entry) (z : Ending) → o.first ≡ None → Fares s → IsClear (now_at o s) es → Plays (walk advance n (now_at o s)) es (Some z) → EndsWell z
+walks_well : (n : ℕ) (o : Others) (s : State) (es : List Entry) (z : Ending) → o.first ≡ None → Fares s → IsClear (now_at o s) es → Plays (walk advance n (now_at o s)) es (Some z) → IsWell z.end
 walks_well zero o s es z none fares clear h = absurd (not_over es z h)
 walks_well (suc n) o s es z none fares clear h =
     let k = parts_through (step s) (onward o) (on_with n) es (Some z) h in
     let served = served_front k.front k.rest (subst AllServed k.whole clear.served) in
     let on = fares_on s k.middle k.front k.plays_front served (reads_own o s k.front k.rest es none k.whole clear) (names_own o s es none clear) fares in
-    elim k.middle as (λ m. Plays (step s) k.front m → FaresOn m → Plays (on_with n (onward o m)) k.rest (Some z) → EndsWell z) [
+    elim k.middle as (λ m. Plays (step s) k.front m → FaresOn m → Plays (on_with n (onward o m)) k.rest (Some z) → IsWell z.end) [
       | Stop event ↦ λ a f b. by_event n o s event k.front k.rest es z (walks_well n) none k.whole clear a f b
       | Go t ↦ λ a f b. walks_well n o t k.rest z none f (clear_go (now_at o s) (now_at o t) k.front k.rest es k.whole (advanced o s k.front (Go t) a) clear) b
     ] k.plays_front on k.plays_rest
 
-pub clear_is_well : (line : CommandLine) (env : Environ) (bytes : List ℕ) (es : List Entry) (ending : Ending) → Means advance (run_of line env bytes) es ending → IsClear (run_of line env bytes) es → EndsWell ending
-clear_is_well line env bytes es z h clear = walks_well h.steps alone (Arrived line env bytes) es z refl tt clear h.plays
+pub clear_is_well : EndHasStatus → (line : CommandLine) (env : Environ) (bytes : List ℕ) (es : List Entry) (ending : Ending) → Means advance (run_of line env bytes) es ending
+    → IsClear (run_of line env bytes) es → EndsWell (run_of line env bytes) es ending
+clear_is_well has_status line env bytes es z h clear =
+    let well = walks_well h.steps alone (Arrived line env bytes) es z refl tt clear h.plays in
+    let by = has_status line env bytes es z h in
+    record { well = well; by = by; success = λ sets. by.status ∙ well_is_success z.end by.left.code by.left.mind well sets }

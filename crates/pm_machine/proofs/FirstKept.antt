@@ -1,11 +1,12 @@
 -- Once the first process has ended, the run ends as it did.
-use Rattle.std.proofs.Common.{◌≡◌, ℕ, zero, suc, Bool, true, false, List, [], ◌∷◌, Option, Some, refl, ap}
+use Rattle.std.proofs.Common.{◌≡◌, ℕ, zero, suc, Bool, true, false, List, [], ◌∷◌, Option, Some, None, refl, ap, ◌∙◌}
 use Rattle.std.specs.Prelude.{if◌then◌else◌, nat_le}
 use Rattle.pm_journal.specs.declared.acts.Entry.{Entry}
 use Rattle.pm_journal.specs.Plan.{Plan, Ends, Asks, and_then, Plays}
 use Rattle.pm_journal.specs.Walking.{Next, Stop, Go, walk}
 use Rattle.pm_journal.proofs.WalkJoin.{Parts}
 use Rattle.pm_meaning.specs.Chains.{succeeded}
+use Rattle.pm_meaning.specs.Minds.{Mind}
 use Rattle.pm_machine.specs.Courses.{Others, Course, now_at, first_end, resumed, next_process, with_copy, onward, advance}
 use Rattle.pm_machine.specs.Running.{State, Running, Refusing, Task, Event, Ended, WantsClone, clone_of, step}
 use Rattle.pm_machine.specs.declared.ending.Ending.{Ending}
@@ -57,3 +58,9 @@ kept (suc n) o first s es z is h =
       | Stop event ↦ λ l. happened_kept n o first event k.rest z (kept n) is l
       | Go t ↦ λ l. kept n o first t k.rest z is l
     ] k.plays_rest
+
+-- the run ends as its first process did
+pub over_own : (n : ℕ) (o : Others) (ending z : Ending) (p : Mind) (rest : List Entry) → o.first ≡ None → Plays (on_with n (onward o (Stop (Ended ending p)))) rest (Some z) → z ≡ ending
+over_own n o ending z p rest none k =
+    let over = next_kept n o.queue o.made (first_end o.first ending) p.placed p.openings rest z (kept n) k in
+    over ∙ ap (λ f. first_end f ending) none

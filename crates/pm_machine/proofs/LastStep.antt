@@ -21,7 +21,7 @@ use Rattle.pm_machine.proofs.Closings.{block_given, delivery_told, trapped, glob
 use Rattle.pm_machine.proofs.Lines.{then_end}
 use Rattle.pm_machine.proofs.MailboxDelivered.{delivered_to}
 use Rattle.pm_machine.proofs.NoDelivery.{delivers, never_ends}
-use Rattle.pm_machine.proofs.NoLast.{is_last, not_last, never_prepared, never_setting, never_opening, never_opened, never_left, never_refused, never_lost}
+use Rattle.pm_machine.proofs.NoLast.{is_last, not_last, not_last_over, never_prepared, never_setting, never_opening, never_opened, never_left, never_refused, never_lost}
 use Rattle.pm_machine.proofs.TreeDelivered.{DeliversTree, DeliversState, by_statement, by_tree}
 
 -- after a step that is the last, the turn delivered
@@ -140,7 +140,7 @@ closed_last ending p next es h passes =
 pub last_step : (s : State) (next : Next State Event) (es : List Entry) → Plays (step s) es next → is_last next ≡ true → EndsOrDelivers s es
 last_step (Arrived line env bytes) next es h passes = absurd (never_prepared is_last not_last line env bytes es next h passes)
 last_step (Setting pairs line home p) next es h passes = absurd (never_setting is_last not_last pairs line home p es next h passes)
-last_step (Opening o names p) next es h passes = absurd (never_opening o names p es next h passes)
+last_step (Opening o names p) next es h passes = absurd (never_opening is_last not_last not_last_over o names p es next h passes)
 last_step (Running items p) next es h passes = inr (running_last items p es next h passes)
 last_step (Including name rest p) next es h passes = absurd (never_opened is_last not_last name rest p (included name rest) (λ trees q. refl) es next h passes)
 last_step (Switching name rest p) next es h passes = absurd (never_opened is_last not_last name rest p (switched name rest) (λ trees q. refl) es next h passes)

@@ -10,6 +10,7 @@ pub mod ProgramDelivered
 pub mod TreeDelivered
 pub mod LastStep
 pub mod FirstKept
+pub mod EndStatus
 pub mod DeliveredLast
 pub mod NoStray
 pub mod DefaultDelivered

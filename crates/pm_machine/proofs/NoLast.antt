@@ -43,6 +43,14 @@ pub record FailsMidway (test : Next State Event → Bool) : Type 0 where
   pub running : (items : List Item) (p : Mind) → test (Go (Running items p)) ≡ false
   pub leaving : (locks : List (Option (List ℕ))) (items : List Item) (p : Mind) → test (Go (LeavingFile locks items p)) ≡ false
 
+-- the test fails on a process that is over without its rcfile, or on another host
+pub record FailsOver (test : Next State Event → Bool) : Type 0 where
+  pub unread : (p : Mind) → test (Go (Over NoRc p)) ≡ false
+  pub elsewhere : (p : Mind) → test (Go (Over HostOff p)) ≡ false
+
+pub not_last_over : FailsOver is_last
+not_last_over = record { unread = λ p. refl; elsewhere = λ p. refl }
+
 pub not_last : FailsMidway is_last
 not_last = record { setting = λ pairs line home p. refl; opening = λ o names p. refl; running = λ items p. refl; leaving = λ locks items p. refl }
 
@@ -63,30 +71,33 @@ never_setting test fails [] line home p = never_ends test (Go (Opening (opening_
 never_setting test fails (pair ∷ pairs) line home p =
     never_then test (set_by_word pair p) (λ turn. Ends (Go (Setting pairs line home (mind_in turn)))) (λ turn. never_ends test (Go (Setting pairs line home (mind_in turn))) (fails.setting pairs line home (mind_in turn)))
 
-never_passed : (o : OpeningRule) (name : List ℕ) (names : List (List ℕ)) (missing : Bool) (p : Mind) → Never is_last (pass_over o name names missing p)
-never_passed o name names missing p =
+never_passed : (test : Next State Event → Bool) → FailsMidway test → FailsOver test → (o : OpeningRule) (name : List ℕ) (names : List (List ℕ)) (missing : Bool) (p : Mind) → Never test (pass_over o name names missing p)
+never_passed test fails over o name names missing p =
     let next : Next State Event = Go (Opening o names p) in
     let told : Plan (Next State Event) = say_then p (couldnt_read_line name) next in
     let other : Plan (Next State Event) = if o.is_implied && missing then Ends next else told in
-    never_if is_last p.filter (Ends (Go (Over NoRc p))) other (never_ends is_last (Go (Over NoRc p)) refl)
-    (never_if is_last (o.is_implied && missing) (Ends next) told (never_ends is_last next refl) (never_said is_last p (couldnt_read_line name) next refl))
+    never_if test p.filter (Ends (Go (Over NoRc p))) other (never_ends test (Go (Over NoRc p)) (over.unread p))
+    (never_if test (o.is_implied && missing) (Ends next) told (never_ends test next (fails.opening o names p)) (never_said test p (couldnt_read_line name) next (fails.opening o names p)))
 
-never_after : (o : OpeningRule) (name : List ℕ) (names : List (List ℕ)) (p : Mind) (reply : Reply) → Never is_last (after_read o name names p reply)
-never_after o name names p (Content bytes) = never_ends is_last (Go (Running (ahead (rc_of bytes) []) (begun_block (entered o name (with_later names p))))) refl
-never_after o name names p other = never_passed o name names (is_missing other) p
+never_after : (test : Next State Event → Bool) → FailsMidway test → FailsOver test → (o : OpeningRule) (name : List ℕ) (names : List (List ℕ)) (p : Mind) (reply : Reply) → Never test (after_read o name names p reply)
+never_after test fails over o name names p (Content bytes) =
+    let items = ahead (rc_of bytes) [] in
+    let q = begun_block (entered o name (with_later names p)) in
+    never_ends test (Go (Running items q)) (fails.running items q)
+never_after test fails over o name names p other = never_passed test fails over o name names (is_missing other) p
 
 -- without another rcfile a process falls off its end, or isn't on its host
-lost_by : (b : Bool) (p : Mind) → is_last (Go (if b then Running [] p else Over HostOff p)) ≡ false
-lost_by true p = refl
-lost_by false p = refl
+lost_by : (test : Next State Event → Bool) → FailsMidway test → FailsOver test → (b : Bool) (p : Mind) → test (Go (if b then Running [] p else Over HostOff p)) ≡ false
+lost_by test fails over true p = fails.running [] p
+lost_by test fails over false p = over.elsewhere p
 
-pub never_opening : (o : OpeningRule) (names : List (List ℕ)) (p : Mind) → Never is_last (open_next o names p)
-never_opening o [] p = never_ends is_last (Go (without_rcfile p)) (lost_by (is_first p) p)
-never_opening o (name ∷ names) p =
+pub never_opening : (test : Next State Event → Bool) → FailsMidway test → FailsOver test → (o : OpeningRule) (names : List (List ℕ)) (p : Mind) → Never test (open_next o names p)
+never_opening test fails over o [] p = never_ends test (Go (without_rcfile p)) (lost_by test fails over (is_first p) p)
+never_opening test fails over o (name ∷ names) p =
     let next : Next State Event = Go (Opening o names p) in
     let read = and_then (ask (ReadFile name)) (after_read o name names (opened p)) in
-    never_if is_last (nat_le 256 p.openings) (say_then p (too_many_rcfiles_line name) next) read (never_said is_last p (too_many_rcfiles_line name) next refl)
-    (never_asked is_last (ReadFile name) (after_read o name names (opened p)) (never_after o name names (opened p)))
+    never_if test (nat_le 256 p.openings) (say_then p (too_many_rcfiles_line name) next) read (never_said test p (too_many_rcfiles_line name) next (fails.opening o names p))
+    (never_asked test (ReadFile name) (after_read o name names (opened p)) (never_after test fails over o name names (opened p)))
 
 -- an rcfile that is opened, whatever it has, when what comes then isn't the end
 never_with : (test : Next State Event → Bool) → FailsMidway test → (name : List ℕ) (rest : List Item) (p : Mind) (go : Reading) (reply : Reply) → ((trees : Trees) (q : Mind) → test (go trees q) ≡ false) → Never test (with_statements name rest p go reply)

@@ -1,8 +1,8 @@
 -- What a run comes to where nothing stands in its way.
-use Rattle.std.specs.Prelude.{◌≡◌, ℕ, true, false, List, [], ◌∷◌, ◌++◌, Option, Some, None}
+use Rattle.std.specs.Prelude.{◌≡◌, ℕ, true, false, List, [], ◌∷◌, ◌++◌, Option, Some}
 use Rattle.pm_bytes.specs.Name.{is_usable}
 use Rattle.pm_bytes.specs.declared.environment.Environ.{Environ}
-use Rattle.pm_journal.specs.Walking.{Means, ArrivesAt}
+use Rattle.pm_journal.specs.Walking.{Means}
 use Rattle.pm_journal.specs.declared.acts.Act.{Act}
 use Rattle.pm_journal.specs.declared.acts.Act.TheVariants.{ReadFile, Append, Place, Lock}
 use Rattle.pm_journal.specs.declared.acts.Entry.{Entry}
@@ -14,9 +14,9 @@ use Rattle.pm_meaning.specs.Locks.{lock_word, is_lock_word, full_lock, is_taken,
 use Rattle.pm_meaning.specs.Minds.{Mind}
 use Rattle.pm_meaning.specs.declared.process.End.{End}
 use Rattle.pm_meaning.specs.declared.process.End.TheVariants.{Delivered, HostOff}
-use Rattle.pm_machine.specs.Courses.{Others, Course, now_at, advance, run_of}
-use Rattle.pm_machine.specs.Running.{State, Opening, Running, OpeningRule, default_mailboxes}
-use Rattle.pm_machine.specs.Status.{exit_status}
+use Rattle.pm_machine.specs.Courses.{Course, advance, run_of}
+use Rattle.pm_machine.specs.EndStatus.{ComesTo, EndsBy, SetsNoStatus}
+use Rattle.pm_machine.specs.Running.{Opening, Running, OpeningRule, default_mailboxes}
 use Rattle.pm_machine.specs.declared.command_line.CommandLine.{CommandLine}
 use Rattle.pm_machine.specs.declared.ending.Ending.{Ending}
 
@@ -74,10 +74,6 @@ abbrev pub HasDefault : List (List ℕ) → Mind → Type 0
 HasDefault [] p = ⊥
 HasDefault (mailbox ∷ others) p = CanTake mailbox p
 
--- over these entries the run's first process comes to this state
-abbrev pub ComesTo : Course → List Entry → State → Type 0
-ComesTo c before s = (o : Others) × (o.first ≡ None) × ArrivesAt {X = Ending} advance c before (now_at o s)
-
 -- Nothing stands in the way: each lock was got, and each mailbox and folder took its piece; a mail filter's rcfile was read; and
 -- where nothing is left to do there is a default mailbox.
 pub record IsClear (c : Course) (entries : List Entry) : Type 0 where
@@ -92,16 +88,14 @@ IsWell Delivered = Unit {0}
 IsWell HostOff = Unit {0}
 IsWell other = ⊥
 
--- a process ended so, with the status of such an end by some variables and some code of TRAP's program; by which ones the meaning
--- alone says
-pub record EndsWell (ending : Ending) : Type 0 where
+-- the first process of a run ended so, with the status of that end, which is success unless EXITCODE or TRAP says otherwise
+pub record EndsWell (c : Course) (entries : List Entry) (ending : Ending) : Type 0 where
   pub well : IsWell ending.end
-  pub code : ℕ
-  pub mind : Mind
-  pub status : ending.status ≡ exit_status ending.end code mind
+  pub by : EndsBy c entries ending
+  pub success : SetsNoStatus by.left.mind → ending.status ≡ 0
 
 -- where nothing stands in its way the first process of a run ends so
 abbrev pub ClearIsWell : Type 0
 ClearIsWell =
     (line : CommandLine) (env : Environ) (bytes : List ℕ) (entries : List Entry) (ending : Ending) → Means advance (run_of line env bytes) entries ending
-    → IsClear (run_of line env bytes) entries → EndsWell ending
+    → IsClear (run_of line env bytes) entries → EndsWell (run_of line env bytes) entries ending

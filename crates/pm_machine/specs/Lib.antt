@@ -3,4 +3,5 @@ pub mod Ends
 pub mod Running
 pub mod Courses
 pub mod Laws
+pub mod EndStatus
 pub mod Completeness

@@ -1,6 +1,7 @@
 //! Laws of a run, each as the contract of a call that does nothing.
 ghost use Rattle.pm_machine.specs.Laws.{EndsOrWants, OneEnd, DeliveredIsDone};
 ghost use Rattle.pm_machine.specs.Completeness.{ClearIsWell};
+ghost use Rattle.pm_machine.specs.EndStatus.{EndHasStatus};
 
 /// Over the same entries a step that ends wants no act.
 pub fn ends_or_wants()
@@ -20,9 +21,17 @@ pub fn delivered_is_done()
     ensures { DeliveredIsDone }
 {}
 
+/// The status of each run is that of its first process's end, by the exit code of TRAP's program, where that was to run
+/// behind the entries up to the end, and by the variables that the process had then.
+pub fn end_has_status()
+    ensures { EndHasStatus }
+{}
+
 /// Where each lock is got and each mailbox and folder takes its piece, where a mail filter's rcfile is read, and where a
 /// process that has nothing left to do has a default mailbox that it can deliver to, the first process delivers the mail,
-/// or HOST names another host.
+/// or HOST names another host, and the status is that of this end.
 pub fn clear_is_well()
     ensures { ClearIsWell }
-{}
+{
+    end_has_status();
+}
