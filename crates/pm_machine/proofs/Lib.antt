@@ -17,3 +17,4 @@ pub mod DefaultDelivered
 pub mod ClearRun
 pub mod Lifting
 mod StatusRows
+mod ClearRow
