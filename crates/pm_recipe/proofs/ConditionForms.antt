@@ -5,7 +5,9 @@ use Rattle.std.proofs.lemmas.List.{take-append-drop, take_at, drop_at}
 use Rattle.std.proofs.lemmas.Bool.{cond-true, cond-false}
 use Rattle.pm_bytes.specs.Alphabet.{DOLLAR}
 use Rattle.pm_recipe.specs.Places.{far, behind}
-use Rattle.pm_recipe.specs.declared.places.Place.TheVariants as place
+use Rattle.pm_recipe.specs.declared.runs.Run.TheVariants as Run
+use Rattle.pm_recipe.specs.declared.runs.UpTo.TheVariants as UpTo
+use Rattle.pm_recipe.specs.Runs.{run_places, up_to_places}
 use Rattle.pm_recipe.specs.declared.tree.Condition.{Condition}
 use Rattle.pm_recipe.specs.declared.tree.Weight.{Weight}
 use Rattle.pm_recipe.specs.Joins.{unjoined, unindented, before_blanks}
@@ -22,23 +24,23 @@ use Rattle.pm_recipe.proofs.LeadForms.{expanded-read, expanded-of}
 -- without the blanks at both ends
 trimmed-once : (text line : List ℕ) → IsTrimmed text line → line ≡ trimmed text
 trimmed-once text line t =
-    t.line_is ∙ sym (ap before_blanks (ap (behind place.Blanks) t.text_is ∙ drop_at t.blanks t.rest _ (sym (blanks-far t.blanks t.rest t.apart))))
+    t.line_is ∙ sym (ap before_blanks (ap (behind run_places Run.Blanks) t.text_is ∙ drop_at t.blanks t.rest _ (sym (blanks-far t.blanks t.rest t.apart))))
 
 trimmed-some : (text : List ℕ) → IsTrimmed text (trimmed text)
 trimmed-some text = record {
-  blanks = take (far place.Blanks text) text;
-  rest = behind place.Blanks text;
-  text_is = sym (take-append-drop (far place.Blanks text) text);
+  blanks = take (far run_places Run.Blanks text) text;
+  rest = behind run_places Run.Blanks text;
+  text_is = sym (take-append-drop (far run_places Run.Blanks text) text);
   apart = blanks-run text;
   line_is = refl;
 }
 
 -- up to the first `$`
-dollar-far : (front last : List ℕ) → list_any (λ byte. nat_eq byte DOLLAR) front ≡ false → ends_plain last ≡ true → far place.Dollar (front ++ last) ≡ length front
+dollar-far : (front last : List ℕ) → list_any (λ byte. nat_eq byte DOLLAR) front ≡ false → ends_plain last ≡ true → far up_to_places UpTo.Dollar (front ++ last) ≡ length front
 dollar-far [] [] h e = refl
-dollar-far [] (byte ∷ bytes) h e = ap (λ b. cond b 0 (far place.Dollar bytes + 1)) e
+dollar-far [] (byte ∷ bytes) h e = ap (λ b. cond b 0 (far up_to_places UpTo.Dollar bytes + 1)) e
 dollar-far (byte ∷ front) last h e =
-    ap (λ b. cond b 0 (far place.Dollar (front ++ last) + 1)) (left (nat_eq byte DOLLAR) (list_any (λ byte. nat_eq byte DOLLAR) front) h)
+    ap (λ b. cond b 0 (far up_to_places UpTo.Dollar (front ++ last) + 1)) (left (nat_eq byte DOLLAR) (list_any (λ byte. nat_eq byte DOLLAR) front) h)
     ∙ omega (arith, dollar-far front last (right (nat_eq byte DOLLAR) (list_any (λ byte. nat_eq byte DOLLAR) front) h) e)
   where
     left : (a b : Bool) → (a || b) ≡ false → a ≡ false
@@ -49,37 +51,37 @@ dollar-far (byte ∷ front) last h e =
     right true b h = true-false h
     right false b h = h
 
-dollar-ends : (text : List ℕ) → ends_plain (behind place.Dollar text) ≡ true
+dollar-ends : (text : List ℕ) → ends_plain (behind up_to_places UpTo.Dollar text) ≡ true
 dollar-ends [] = refl
 dollar-ends (byte ∷ bytes) = by (nat_eq byte DOLLAR) refl (dollar-ends bytes)
   where
-    by : (b : Bool) → nat_eq byte DOLLAR ≡ b → ends_plain (behind place.Dollar bytes) ≡ true → ends_plain (drop (cond b 0 (far place.Dollar bytes + 1)) (byte ∷ bytes)) ≡ true
+    by : (b : Bool) → nat_eq byte DOLLAR ≡ b → ends_plain (behind up_to_places UpTo.Dollar bytes) ≡ true → ends_plain (drop (cond b 0 (far up_to_places UpTo.Dollar bytes + 1)) (byte ∷ bytes)) ≡ true
     by true h more = h
-    by false h more = let e : suc (far place.Dollar bytes) ≡ far place.Dollar bytes + 1 = omega arith in subst (λ n. ends_plain (drop n (byte ∷ bytes)) ≡ true) e more
+    by false h more = let e : suc (far up_to_places UpTo.Dollar bytes) ≡ far up_to_places UpTo.Dollar bytes + 1 = omega arith in subst (λ n. ends_plain (drop n (byte ∷ bytes)) ≡ true) e more
 
-dollar-plain : (text : List ℕ) → list_any (λ byte. nat_eq byte DOLLAR) (take (far place.Dollar text) text) ≡ false
+dollar-plain : (text : List ℕ) → list_any (λ byte. nat_eq byte DOLLAR) (take (far up_to_places UpTo.Dollar text) text) ≡ false
 dollar-plain [] = refl
 dollar-plain (byte ∷ bytes) = by (nat_eq byte DOLLAR) refl (dollar-plain bytes)
   where
-    by : (b : Bool) → nat_eq byte DOLLAR ≡ b → list_any (λ byte. nat_eq byte DOLLAR) (take (far place.Dollar bytes) bytes) ≡ false
-        → list_any (λ byte. nat_eq byte DOLLAR) (take (cond b 0 (far place.Dollar bytes + 1)) (byte ∷ bytes)) ≡ false
+    by : (b : Bool) → nat_eq byte DOLLAR ≡ b → list_any (λ byte. nat_eq byte DOLLAR) (take (far up_to_places UpTo.Dollar bytes) bytes) ≡ false
+        → list_any (λ byte. nat_eq byte DOLLAR) (take (cond b 0 (far up_to_places UpTo.Dollar bytes + 1)) (byte ∷ bytes)) ≡ false
     by true h more = refl
     by false h more =
-        let e : suc (far place.Dollar bytes) ≡ far place.Dollar bytes + 1 = omega arith in
+        let e : suc (far up_to_places UpTo.Dollar bytes) ≡ far up_to_places UpTo.Dollar bytes + 1 = omega arith in
         subst (λ n. list_any (λ byte. nat_eq byte DOLLAR) (take n (byte ∷ bytes)) ≡ false) e
-        (ap (λ b. b || list_any (λ byte. nat_eq byte DOLLAR) (take (far place.Dollar bytes) bytes)) h ∙ more)
+        (ap (λ b. b || list_any (λ byte. nat_eq byte DOLLAR) (take (far up_to_places UpTo.Dollar bytes) bytes)) h ∙ more)
 
 dollar-once : (text line : List ℕ) → IsDollarLine text line → line ≡ dollar_line text
 dollar-once text line d =
     let size = dollar-far d.front d.last d.plain d.ends in
-    d.line_is ∙ sym (ap dollar_line d.text_is ∙ ap (λ xs. unindented xs ++ unjoined (behind place.Dollar (d.front ++ d.last))) (take_at d.front d.last _ (sym size))
+    d.line_is ∙ sym (ap dollar_line d.text_is ∙ ap (λ xs. unindented xs ++ unjoined (behind up_to_places UpTo.Dollar (d.front ++ d.last))) (take_at d.front d.last _ (sym size))
     ∙ ap (λ xs. unindented d.front ++ unjoined xs) (drop_at d.front d.last _ (sym size)))
 
 dollar-some : (text : List ℕ) → IsDollarLine text (dollar_line text)
 dollar-some text = record {
-  front = take (far place.Dollar text) text;
-  last = behind place.Dollar text;
-  text_is = sym (take-append-drop (far place.Dollar text) text);
+  front = take (far up_to_places UpTo.Dollar text) text;
+  last = behind up_to_places UpTo.Dollar text;
+  text_is = sym (take-append-drop (far up_to_places UpTo.Dollar text) text);
   plain = dollar-plain text;
   ends = dollar-ends text;
   line_is = refl;

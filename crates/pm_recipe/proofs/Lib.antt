@@ -5,7 +5,7 @@ pub mod Joined
 pub mod Steps
 pub mod Trim
 pub mod Digits
-pub mod Runs
+pub mod RunLengths
 pub mod Forms
 pub mod WordRuns
 pub mod Quoted

@@ -7,8 +7,9 @@ use Rattle.std.proofs.lemmas.List.{get_or-take, take-append-drop, drop_more, len
 use Rattle.std.proofs.lemmas.Bool.Decides.{nat_tests}
 use Rattle.memchr.specs.Find.{Nowhere, Passes, is_byte}
 use Rattle.pm_bytes.specs.Alphabet.{NEWLINE}
-use Rattle.pm_recipe.specs.declared.places.Place.TheVariants as place
 use Rattle.pm_recipe.specs.Places.{far}
+use Rattle.pm_recipe.specs.declared.runs.UpTo.TheVariants as UpTo
+use Rattle.pm_recipe.specs.Runs.{up_to_places}
 use Rattle.pm_recipe.specs.Front.{ends_line}
 use Rattle.pm_recipe.specs.Spans.{newlines}
 use Rattle.pm_recipe.specs.Words.{IsRest}
@@ -48,21 +49,21 @@ none-before text k within nowhere = none-of (take k text) (lacks text k within n
 pub newline-there : (text : List ℕ) (k : ℕ) → k < length text → Passes (is_byte 10) text k → drop k text ≡ 10 ∷ drop (k + 1) text
 newline-there text k less here = drop_more text k 0 less ∙ ap (λ b. b ∷ drop (k + 1) text) (is_newline (get_or text k 0) here)
 
-pub comment-ends : (text : List ℕ) (k : ℕ) → k < length text → Nowhere (Passes (is_byte 10) text) 0 k → Passes (is_byte 10) text k → far place.Comment text ≡ k
+pub comment-ends : (text : List ℕ) (k : ℕ) → k < length text → Nowhere (Passes (is_byte 10) text) 0 k → Passes (is_byte 10) text k → far up_to_places UpTo.Newline text ≡ k
 comment-ends text k less nowhere here =
     let within : k ≤ length text = omega arith in
     let rest : IsRest (take k text) (drop k text) = record {
       inside = none-before text k within nowhere;
       ends = ap ends_line (newline-there text k less here);
     } in
-    sym (ap (far place.Comment) (take-append-drop k text)) ∙ rest-length (take k text) (drop k text) rest ∙ length-take-le k text within
+    sym (ap (far up_to_places UpTo.Newline) (take-append-drop k text)) ∙ rest-length (take k text) (drop k text) rest ∙ length-take-le k text within
 
-pub comment-endless : (text : List ℕ) → Nowhere (Passes (is_byte 10) text) 0 (length text) → far place.Comment text ≡ length text
+pub comment-endless : (text : List ℕ) → Nowhere (Passes (is_byte 10) text) 0 (length text) → far up_to_places UpTo.Newline text ≡ length text
 comment-endless text nowhere =
     let within : length text ≤ length text = omega arith in
     let inside : newlines text ≡ 0 = ap newlines (sym (take_all (length text) text within)) ∙ none-before text (length text) within nowhere in
     let rest : IsRest (text) [] = record { inside = inside; ends = refl } in
-    sym (ap (far place.Comment) (append-nil text)) ∙ rest-length text [] rest
+    sym (ap (far up_to_places UpTo.Newline) (append-nil text)) ∙ rest-length text [] rest
 
 -- how many newlines there are
 newlines-append : (xs ys : List ℕ) → newlines (xs ++ ys) ≡ newlines xs + newlines ys

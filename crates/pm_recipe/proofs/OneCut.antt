@@ -1,12 +1,16 @@
 -- A text has one cut.
 use Rattle.std.proofs.Common.{◌≡◌, ◌+◌, ◌<◌, ℕ, zero, suc, false, List, [], ◌∷◌, ◌++◌, refl, ap, sym, ◌∙◌, length, take, drop, arith, subst, slice_range}
 use Rattle.std.proofs.lemmas.List.{take-append-drop, take_at, drop_at}
-use Rattle.pm_recipe.specs.declared.places.Place.TheVariants as place
 use Rattle.pm_recipe.specs.declared.fronts.Front.{Front}
 use Rattle.pm_recipe.specs.declared.fronts.Situation.{Situation}
 use Rattle.pm_recipe.specs.declared.fronts.Kind.{Kind}
 use Rattle.pm_recipe.specs.declared.fronts.Kind.TheVariants as kind
 use Rattle.pm_recipe.specs.Places.{far}
+use Rattle.pm_recipe.specs.declared.runs.Run.TheVariants as Run
+use Rattle.pm_recipe.specs.declared.runs.UpTo.TheVariants as UpTo
+use Rattle.pm_recipe.specs.declared.line_words.InTail.TheVariants as InTail
+use Rattle.pm_recipe.specs.Runs.{run_places, up_to_places}
+use Rattle.pm_recipe.specs.LineWords.{tail_places}
 use Rattle.pm_recipe.specs.Front.{front_of}
 use Rattle.pm_recipe.specs.Spans.{newlines, situation_after, start}
 use Rattle.pm_recipe.specs.Words.{IsLine}
@@ -56,18 +60,18 @@ take-some (suc n) (x ∷ xs) h i = omega arith
 -- both without a form
 mailbox-same : (whole text last text' last' : List ℕ) → whole ≡ text ++ last → whole ≡ text' ++ last' → IsLine 0 text last → IsLine 0 text' last'
     → length text ≡ length text'
-mailbox-same whole text last text' last' e f h i = sym (line-far text last h) ∙ ap (far place.Line) (sym e ∙ f) ∙ line-far text' last' i
+mailbox-same whole text last text' last' e f h i = sym (line-far text last h) ∙ ap (far run_places Run.Line) (sym e ∙ f) ∙ line-far text' last' i
 
 skipped-same : (whole text last text' last' : List ℕ) → whole ≡ text ++ last → whole ≡ text' ++ last' → IsSkipped text last → IsSkipped text' last'
     → length text ≡ length text'
 skipped-same whole text last text' last' e f (Broken first rest is r b) (Broken first' rest' is' r' b') =
     let tails : rest ++ last ≡ rest' ++ last' = ap (drop 1) (ap (λ xs. xs ++ last) (sym is) ∙ sym e ∙ f ∙ ap (λ xs. xs ++ last') is') in
-    ap length is ∙ ap suc (sym (rest-length rest last r) ∙ ap (far place.Comment) tails ∙ rest-length rest' last' r') ∙ sym (ap length is')
+    ap length is ∙ ap suc (sym (rest-length rest last r) ∙ ap (far up_to_places UpTo.Newline) tails ∙ rest-length rest' last' r') ∙ sym (ap length is')
 skipped-same whole text last text' last' e f (Broken first rest is r b) (Other first' rest' is' t' sound) = absurd (sound (subst IsBroken (sym e ∙ f) b))
 skipped-same whole text last text' last' e f (Other first rest is t sound) (Broken first' rest' is' r' b') = absurd (sound (subst IsBroken (sym f ∙ e) b'))
 skipped-same whole text last text' last' e f (Other first rest is t sound) (Other first' rest' is' t' sound') =
     let tails : rest ++ last ≡ rest' ++ last' = ap (drop 1) (ap (λ xs. xs ++ last) (sym is) ∙ sym e ∙ f ∙ ap (λ xs. xs ++ last') is') in
-    ap length is ∙ ap suc (sym (tail-length false 0 rest last t) ∙ ap (far place.TailWord) tails ∙ tail-length false 0 rest' last' t') ∙ sym (ap length is')
+    ap length is ∙ ap suc (sym (tail-length false 0 rest last t) ∙ ap (far tail_places InTail.Word) tails ∙ tail-length false 0 rest' last' t') ∙ sym (ap length is')
 
 -- of what is spelled, and what stands at the front
 module _ (situation : Situation) (front : Front) (name text bytes last : List ℕ) (some : 0 < length bytes) (some-taken : 0 < front.taken) where

@@ -4,8 +4,9 @@ use Rattle.std.proofs.lemmas.List.{drop_at, take-append-drop}
 use Rattle.pm_recipe.specs.declared.fronts.Kind.{Kind}
 use Rattle.pm_recipe.specs.declared.fronts.Kind.TheVariants as kind
 use Rattle.pm_recipe.specs.declared.fronts.Situation.{Situation}
-use Rattle.pm_recipe.specs.declared.places.Place.TheVariants as place
 use Rattle.pm_recipe.specs.Places.{far, behind}
+use Rattle.pm_recipe.specs.declared.runs.Run.TheVariants as Run
+use Rattle.pm_recipe.specs.Runs.{run_places}
 use Rattle.pm_recipe.specs.Colon.{flags_part, flags_of, lock_of, has_junk}
 use Rattle.pm_recipe.specs.Joins.{unjoined}
 use Rattle.pm_recipe.specs.Weights.{condition_of}
@@ -24,12 +25,12 @@ use Rattle.pm_recipe.proofs.ConditionForms.{condition-once, condition-some}
 
 -- a program's line
 program-once : (text line : List ℕ) → IsProgram text line → line ≡ program_line text
-program-once text line p = sym (ap (behind place.Blanks) p.text_is ∙ drop_at p.blanks line _ (sym (blanks-far p.blanks line p.apart)))
+program-once text line p = sym (ap (behind run_places Run.Blanks) p.text_is ∙ drop_at p.blanks line _ (sym (blanks-far p.blanks line p.apart)))
 
 program-some : (text : List ℕ) → IsProgram text (program_line text)
 program-some text = record {
-  blanks = take (far place.Blanks (unjoined text)) (unjoined text);
-  text_is = sym (take-append-drop (far place.Blanks (unjoined text)) (unjoined text));
+  blanks = take (far run_places Run.Blanks (unjoined text)) (unjoined text);
+  text_is = sym (take-append-drop (far run_places Run.Blanks (unjoined text)) (unjoined text));
   apart = blanks-run (unjoined text);
 }
 

@@ -6,12 +6,17 @@ use Rattle.std.proofs.lemmas.Bool.Decides.{nat_tests}
 use Rattle.pm_bytes.specs.Letter.{is_blank_byte, is_digit_byte, is_name_byte, is_name_start, is_space_byte}
 use Rattle.pm_recipe.specs.Bytes.{begins_with}
 use Rattle.pm_bytes.specs.Alphabet.{NEWLINE, HASH, STAR, OPEN_BRACE, CLOSE_BRACE, COLON, EQUALS, BAR, BANG, BACKSLASH}
-use Rattle.pm_recipe.specs.declared.places.Place.TheVariants as place
 use Rattle.pm_recipe.specs.declared.fronts.Front.{Front}
 use Rattle.pm_recipe.specs.declared.fronts.Situation.{Situation}
 use Rattle.pm_recipe.specs.declared.fronts.Kind.{Kind}
 use Rattle.pm_recipe.specs.declared.fronts.Kind.TheVariants as kind
 use Rattle.pm_recipe.specs.Places.{reach_of, far, behind}
+use Rattle.pm_recipe.specs.declared.runs.Run.TheVariants as Run
+use Rattle.pm_recipe.specs.declared.runs.UpTo.TheVariants as UpTo
+use Rattle.pm_recipe.specs.declared.line_words.InFlags.TheVariants as InFlags
+use Rattle.pm_recipe.specs.declared.line_words.InTail.TheVariants as InTail
+use Rattle.pm_recipe.specs.Runs.{run_places, up_to_places}
+use Rattle.pm_recipe.specs.LineWords.{flag_places, tail_places}
 use Rattle.pm_recipe.specs.Colon.{word_length, is_unclosed, begins_recipe, has_lock, lock_part, behind_lock, behind_flags, behind_colon}
 use Rattle.pm_recipe.specs.Front.{front_of, piece, gap, line_front, ends_name, behind_name, name_width, named, statement_of, opens, ends_line, behind_equals, captures, capture, brace, recipe_line, most_blocks}
 use Rattle.pm_recipe.specs.Words.{belongs, IsRun, IsLine, AreBlanks, IsName, AreJoins, in_line}
@@ -21,7 +26,7 @@ use Rattle.pm_recipe.specs.Spells.IsBroken.{Value, Lock}
 use Rattle.pm_recipe.specs.Spells.IsSkipped.{Broken, Other}
 use Rattle.pm_recipe.specs.Spells.IsGap.{Space, Join, Comment}
 use Rattle.pm_recipe.specs.Spells.IsColonLine.{Plain, Locked}
-use Rattle.pm_recipe.proofs.Runs.{run, not_not, go}
+use Rattle.pm_recipe.proofs.RunLengths.{run, go}
 use Rattle.pm_recipe.proofs.WordRuns.{flags-run, tail-run, true-false, line-ends}
 use Rattle.pm_recipe.proofs.Worded.{value-read, read-value}
 use Rattle.pm_recipe.proofs.Forms.{equal, and-left, and-right, line-run, blanks-run, name-run, joins-run, begins-cons, three, rest-run}
@@ -44,18 +49,18 @@ or-right false b h = h
 
 -- a line behind a byte
 marked : (Q : List ℕ → List ℕ → List ℕ → Type 0) (byte : ℕ) (bytes : List ℕ)
-    → Q (take (far place.Line bytes) bytes) (byte ∷ take (far place.Line bytes) bytes) (drop (far place.Line bytes) bytes)
-    → Q (slice_range (byte ∷ bytes) 1 (far place.Line bytes + 1)) (take (far place.Line bytes + 1) (byte ∷ bytes)) (drop (far place.Line bytes + 1) (byte ∷ bytes))
+    → Q (take (far run_places Run.Line bytes) bytes) (byte ∷ take (far run_places Run.Line bytes) bytes) (drop (far run_places Run.Line bytes) bytes)
+    → Q (slice_range (byte ∷ bytes) 1 (far run_places Run.Line bytes + 1)) (take (far run_places Run.Line bytes + 1) (byte ∷ bytes)) (drop (far run_places Run.Line bytes + 1) (byte ∷ bytes))
 marked Q byte bytes h =
-    let n = far place.Line bytes in
+    let n = far run_places Run.Line bytes in
     let e : suc n ≡ n + 1 = omega arith in
     let f : n ≡ n + 1 - 1 = omega arith in
     three Q (take n bytes) (byte ∷ take n bytes) (drop n bytes) (take (n + 1 - 1) bytes) (take (n + 1) (byte ∷ bytes)) (drop (n + 1) (byte ∷ bytes))
     (ap (λ k. take k bytes) f) (ap (λ k. take k (byte ∷ bytes)) e) (ap (λ k. drop k (byte ∷ bytes)) e) h
 
 mark-line : (mark byte : ℕ) (bytes : List ℕ) → nat_eq byte mark ≡ true
-    → IsMarked mark (take (far place.Line bytes) bytes) (byte ∷ take (far place.Line bytes) bytes) (drop (far place.Line bytes) bytes)
-mark-line mark byte bytes h = record { bytes_are = ap (λ b. b ∷ take (far place.Line bytes) bytes) (equal byte mark h); line = line-run bytes }
+    → IsMarked mark (take (far run_places Run.Line bytes) bytes) (byte ∷ take (far run_places Run.Line bytes) bytes) (drop (far run_places Run.Line bytes) bytes)
+mark-line mark byte bytes h = record { bytes_are = ap (λ b. b ∷ take (far run_places Run.Line bytes) bytes) (equal byte mark h); line = line-run bytes }
 
 -- a text from its first byte on
 whole : (Q : List ℕ → List ℕ → List ℕ → Type 0) (n byte : ℕ) (bytes : List ℕ) → Q (byte ∷ take n bytes) (byte ∷ take n bytes) (drop n bytes)
@@ -68,28 +73,28 @@ whole Q n byte bytes h =
 
 mailbox-stands : (situation : Situation) (byte : ℕ) (bytes : List ℕ) → (situation.in_recipe && not (nat_eq byte CLOSE_BRACE || nat_eq byte COLON)) ≡ true
     → is_space_byte byte ≡ false → (nat_eq byte BACKSLASH && begins_with 10 bytes) ≡ false
-    → Stands situation (byte ∷ bytes) (line_front kind.Mailbox 0 (far place.Line bytes + 1))
+    → Stands situation (byte ∷ bytes) (line_front kind.Mailbox 0 (far run_places Run.Line bytes + 1))
 mailbox-stands situation byte bytes here space join =
-    let n = far place.Line bytes in
+    let n = far run_places Run.Line bytes in
     let r : IsRun in_line byte (take n bytes) (drop n bytes) =
-    subst (λ j. IsRun in_line byte (take (reach_of j place.Line bytes) bytes) (drop (reach_of j place.Line bytes) bytes)) join
-    (run place.Line in_line refl (λ b. refl) (λ b. not_not (nat_eq b NEWLINE)) byte bytes) in
+    subst (λ j. IsRun in_line byte (take (reach_of run_places j Run.Line bytes) bytes) (drop (reach_of run_places j Run.Line bytes) bytes)) join
+    (run Run.Line byte bytes) in
     let first : belongs in_line 0 byte (take n bytes ++ drop n bytes) ≡ true =
     ap (λ b. not b || (nat_eq byte BACKSLASH && begins_with 10 (take n bytes ++ drop n bytes)) || false) (or-right (is_blank_byte byte) (nat_eq byte NEWLINE) space) in
     (omega arith, whole (λ t b r. IsMailbox situation [] t b r) n byte bytes (here, refl, refl, (first, r)))
 
 -- what isn't understood
 broken-stands : (situation : Situation) (byte : ℕ) (bytes : List ℕ) → (situation.in_recipe && not (nat_eq byte CLOSE_BRACE || nat_eq byte COLON)) ≡ false
-    → IsBroken (byte ∷ bytes) → Stands situation (byte ∷ bytes) (line_front kind.Skipped 0 (far place.Comment bytes + 1))
+    → IsBroken (byte ∷ bytes) → Stands situation (byte ∷ bytes) (line_front kind.Skipped 0 (far up_to_places UpTo.Newline bytes + 1))
 broken-stands situation byte bytes here broken =
-    let n = far place.Comment bytes in
+    let n = far up_to_places UpTo.Newline bytes in
     let again : IsBroken (byte ∷ (take n bytes ++ drop n bytes)) = subst (λ xs. IsBroken (byte ∷ xs)) (sym (take-append-drop n bytes)) broken in
     (omega arith, whole (λ t b r. IsJunk situation [] t b r) n byte bytes (here, refl, refl, Broken byte (take n bytes) refl (rest-run bytes) again))
 
 other-stands : (situation : Situation) (byte : ℕ) (bytes : List ℕ) → (situation.in_recipe && not (nat_eq byte CLOSE_BRACE || nat_eq byte COLON)) ≡ false
-    → (IsBroken (byte ∷ bytes) → ⊥) → Stands situation (byte ∷ bytes) (line_front kind.Skipped 0 (far place.TailWord bytes + 1))
+    → (IsBroken (byte ∷ bytes) → ⊥) → Stands situation (byte ∷ bytes) (line_front kind.Skipped 0 (far tail_places InTail.Word bytes + 1))
 other-stands situation byte bytes here sound =
-    let n = far place.TailWord bytes in
+    let n = far tail_places InTail.Word bytes in
     let again : IsBroken (byte ∷ (take n bytes ++ drop n bytes)) → ⊥ = λ b. sound (subst (λ xs. IsBroken (byte ∷ xs)) (take-append-drop n bytes) b) in
     (omega arith, whole (λ t b r. IsJunk situation [] t b r) n byte bytes (here, refl, refl, Other byte (take n bytes) refl (tail-run false 0 bytes) again))
 
@@ -117,28 +122,28 @@ drop-left (suc n) (x ∷ xs) =
 -- what follows a colon line is left of what follows its colon
 colon-left : (byte : ℕ) (bytes : List ℕ) → IsLeft (behind_colon (byte ∷ bytes)) bytes
 colon-left byte bytes =
-    let zero_left = left-drop 1 _ bytes (left-drop (far place.Joins bytes) bytes bytes (left-self bytes)) in
-    let flags_left = left-drop (far place.FlagsWord (drop 1 (behind place.Joins bytes))) _ bytes zero_left in
-    let lock_left = left-drop (far place.Blanks (drop 1 (behind_flags (byte ∷ bytes)))) _ bytes (left-drop 1 _ bytes flags_left) in
+    let zero_left = left-drop 1 _ bytes (left-drop (far run_places Run.Joins bytes) bytes bytes (left-self bytes)) in
+    let flags_left = left-drop (far flag_places InFlags.Word (drop 1 (behind run_places Run.Joins bytes))) _ bytes zero_left in
+    let lock_left = left-drop (far run_places Run.Blanks (drop 1 (behind_flags (byte ∷ bytes)))) _ bytes (left-drop 1 _ bytes flags_left) in
     let after_left = left-drop (word_length (lock_part (byte ∷ bytes))) _ bytes lock_left in
-    cond_both (has_lock (byte ∷ bytes)) (behind place.Tail (behind_lock (byte ∷ bytes))) (behind place.Comment (behind_flags (byte ∷ bytes)))
+    cond_both (has_lock (byte ∷ bytes)) (behind tail_places InTail.Fresh (behind_lock (byte ∷ bytes))) (behind up_to_places UpTo.Newline (behind_flags (byte ∷ bytes)))
     (λ xs. IsLeft xs bytes) (λ h. left-drop _ _ bytes after_left) (λ h. left-drop _ _ bytes flags_left)
 
 -- a colon line
 head-of : (byte : ℕ) (bytes : List ℕ) → begins_recipe (byte ∷ bytes) ≡ true → IsHead (byte ∷ bytes) (behind_flags (byte ∷ bytes))
 head-of byte bytes h =
-    let zeroed = behind place.Joins bytes in
+    let zeroed = behind run_places Run.Joins bytes in
     let after = drop 1 zeroed in
-    let flags = take (far place.FlagsWord after) after in
-    let last = behind place.FlagsWord after in
-    let after_is : flags ++ last ≡ after = take-append-drop (far place.FlagsWord after) after in
+    let flags = take (far flag_places InFlags.Word after) after in
+    let last = behind flag_places InFlags.Word after in
+    let after_is : flags ++ last ≡ after = take-append-drop (far flag_places InFlags.Word after) after in
     let zero_is : 48 ∷ (flags ++ last) ≡ zeroed = ap (λ xs. 48 ∷ xs) after_is ∙ sym (begins-cons 48 zeroed (and-right (nat_eq byte COLON) _ h)) in
     record {
-      joins = take (far place.Joins bytes) bytes;
+      joins = take (far run_places Run.Joins bytes) bytes;
       flags = flags;
       text_is = ap (λ b. b ∷ bytes) (equal byte COLON (and-left _ (begins_with 48 zeroed) h))
-          ∙ ap (λ xs. COLON ∷ xs) (sym (ap (λ xs. take (far place.Joins bytes) bytes ++ xs) zero_is ∙ take-append-drop (far place.Joins bytes) bytes));
-      joined = subst (λ xs. AreJoins 0 (take (far place.Joins bytes) bytes) xs) (sym zero_is) (joins-run bytes);
+          ∙ ap (λ xs. COLON ∷ xs) (sym (ap (λ xs. take (far run_places Run.Joins bytes) bytes ++ xs) zero_is ∙ take-append-drop (far run_places Run.Joins bytes) bytes));
+      joined = subst (λ xs. AreJoins 0 (take (far run_places Run.Joins bytes) bytes) xs) (sym zero_is) (joins-run bytes);
       flagged = flags-run false 0 after;
     }
 
@@ -146,31 +151,31 @@ lock-head-of : (byte : ℕ) (bytes : List ℕ) → begins_recipe (byte ∷ bytes
 lock-head-of byte bytes h lock =
     let flagless = behind_flags (byte ∷ bytes) in
     let after = drop 1 flagless in
-    let blanks = take (far place.Blanks after) after in
-    let is : flagless ≡ COLON ∷ (blanks ++ behind place.Blanks after) =
-    begins-cons COLON flagless lock ∙ ap (λ xs. COLON ∷ xs) (sym (take-append-drop (far place.Blanks after) after)) in
+    let blanks = take (far run_places Run.Blanks after) after in
+    let is : flagless ≡ COLON ∷ (blanks ++ behind run_places Run.Blanks after) =
+    begins-cons COLON flagless lock ∙ ap (λ xs. COLON ∷ xs) (sym (take-append-drop (far run_places Run.Blanks after) after)) in
     record { blanks = blanks; head = subst (λ xs. IsHead (byte ∷ bytes) xs) is (head-of byte bytes h); apart = blanks-run after }
 
 line-of : (byte : ℕ) (bytes : List ℕ) → begins_recipe (byte ∷ bytes) ≡ true → (has_lock (byte ∷ bytes) && is_unclosed (lock_part (byte ∷ bytes))) ≡ false
     → IsColonLine (byte ∷ bytes) (behind_colon (byte ∷ bytes))
 line-of byte bytes h closed = by (has_lock (byte ∷ bytes)) refl
   where
-    by : (b : Bool) → has_lock (byte ∷ bytes) ≡ b → IsColonLine (byte ∷ bytes) (cond b (behind place.Tail (behind_lock (byte ∷ bytes))) (behind place.Comment (behind_flags (byte ∷ bytes))))
+    by : (b : Bool) → has_lock (byte ∷ bytes) ≡ b → IsColonLine (byte ∷ bytes) (cond b (behind tail_places InTail.Fresh (behind_lock (byte ∷ bytes))) (behind up_to_places UpTo.Newline (behind_flags (byte ∷ bytes))))
     by true e =
         let part = lock_part (byte ∷ bytes) in
         let lock = take (word_length part) part in
         let after = drop (word_length part) part in
-        let tail = take (far place.Tail after) after in
-        let last = behind place.Tail after in
-        let after_is : after ≡ tail ++ last = sym (take-append-drop (far place.Tail after) after) in
+        let tail = take (far tail_places InTail.Fresh after) after in
+        let last = behind tail_places InTail.Fresh after in
+        let after_is : after ≡ tail ++ last = sym (take-append-drop (far tail_places InTail.Fresh after) after) in
         let part_is : part ≡ lock ++ (tail ++ last) = sym (take-append-drop (word_length part) part) ∙ ap (λ xs. lock ++ xs) after_is in
         Locked lock tail (subst (λ xs. IsLockHead (byte ∷ bytes) xs) part_is (lock-head-of byte bytes h e))
         (subst (λ xs. IsValue lock xs) after_is (read-value part (ap (λ b. b && is_unclosed part) (sym e) ∙ closed)))
         (tail-run true 0 after)
     by false e =
         let flagless = behind_flags (byte ∷ bytes) in
-        let rest = take (far place.Comment flagless) flagless in
-        let is : flagless ≡ rest ++ behind place.Comment flagless = sym (take-append-drop (far place.Comment flagless) flagless) in
+        let rest = take (far up_to_places UpTo.Newline flagless) flagless in
+        let is : flagless ≡ rest ++ behind up_to_places UpTo.Newline flagless = sym (take-append-drop (far up_to_places UpTo.Newline flagless) flagless) in
         Plain rest (subst (λ xs. IsHead (byte ∷ bytes) xs) is (head-of byte bytes h)) (ap (begins_with COLON) (sym is) ∙ e) (rest-run flagless)
 
 colon-stands : (situation : Situation) (byte : ℕ) (bytes : List ℕ) → begins_recipe (byte ∷ bytes) ≡ true
@@ -189,37 +194,37 @@ colon-stands situation byte bytes h closed =
     (omega (arith, short), (refl, ap (λ k. take k text) f, line))
 
 -- a name at a byte that begins one
-named-at : (byte : ℕ) (bytes last : List ℕ) → is_name_start byte ≡ true → last ≡ drop (far place.Name (byte ∷ bytes)) (byte ∷ bytes)
-    → IsNamed (take (far place.Name (byte ∷ bytes)) (byte ∷ bytes)) last
+named-at : (byte : ℕ) (bytes last : List ℕ) → is_name_start byte ≡ true → last ≡ drop (far run_places Run.Name (byte ∷ bytes)) (byte ∷ bytes)
+    → IsNamed (take (far run_places Run.Name (byte ∷ bytes)) (byte ∷ bytes)) last
 named-at byte bytes last start last_is =
     let first : belongs is_name_byte 0 byte bytes ≡ true = ap (λ b. b || is_digit_byte byte || (nat_eq byte BACKSLASH && begins_with 10 bytes) || false) start in
-    let goes : far place.Name (byte ∷ bytes) ≡ suc (reach_of (nat_eq byte BACKSLASH && begins_with 10 bytes) place.Name bytes) =
-    go place.Name is_name_byte refl (λ b. refl) (λ b. refl) 0 byte bytes first in
+    let goes : far run_places Run.Name (byte ∷ bytes) ≡ suc (reach_of run_places (nat_eq byte BACKSLASH && begins_with 10 bytes) Run.Name bytes) =
+    go Run.Name 0 byte bytes first in
     record {
       first = byte;
-      others = take (reach_of (nat_eq byte BACKSLASH && begins_with 10 bytes) place.Name bytes) bytes;
+      others = take (reach_of run_places (nat_eq byte BACKSLASH && begins_with 10 bytes) Run.Name bytes) bytes;
       name_is = ap (λ k. take k (byte ∷ bytes)) goes;
       begins = start;
-      reaches = subst (λ xs. IsName (take (far place.Name (byte ∷ bytes)) (byte ∷ bytes)) xs) (sym last_is) (name-run (byte ∷ bytes));
+      reaches = subst (λ xs. IsName (take (far run_places Run.Name (byte ∷ bytes)) (byte ∷ bytes)) xs) (sym last_is) (name-run (byte ∷ bytes));
     }
 
-name-some : (byte : ℕ) (bytes : List ℕ) → is_name_start byte ≡ true → 0 < far place.Name (byte ∷ bytes)
+name-some : (byte : ℕ) (bytes : List ℕ) → is_name_start byte ≡ true → 0 < far run_places Run.Name (byte ∷ bytes)
 name-some byte bytes start =
     let first : belongs is_name_byte 0 byte bytes ≡ true = ap (λ b. b || is_digit_byte byte || (nat_eq byte BACKSLASH && begins_with 10 bytes) || false) start in
-    omega (arith, go place.Name is_name_byte refl (λ b. refl) (λ b. refl) 0 byte bytes first)
+    omega (arith, go Run.Name 0 byte bytes first)
 
 -- a name and an `=`
 set-of : (byte : ℕ) (bytes : List ℕ) → is_name_start byte ≡ true → begins_with EQUALS (behind_name (byte ∷ bytes)) ≡ true
-    → IsSet (take (far place.Name (byte ∷ bytes)) (byte ∷ bytes)) (byte ∷ bytes) (behind place.Blanks (drop 1 (behind_name (byte ∷ bytes))))
+    → IsSet (take (far run_places Run.Name (byte ∷ bytes)) (byte ∷ bytes)) (byte ∷ bytes) (behind run_places Run.Blanks (drop 1 (behind_name (byte ∷ bytes))))
 set-of byte bytes start equals =
     let text : List ℕ = byte ∷ bytes in
-    let na = far place.Name text in
-    let rest = behind place.Name text in
-    let bl = far place.Blanks rest in
-    let at_equals = behind place.Blanks rest in
+    let na = far run_places Run.Name text in
+    let rest = behind run_places Run.Name text in
+    let bl = far run_places Run.Blanks rest in
+    let at_equals = behind run_places Run.Blanks rest in
     let after = drop 1 at_equals in
-    let ind = far place.Blanks after in
-    let value = behind place.Blanks after in
+    let ind = far run_places Run.Blanks after in
+    let value = behind run_places Run.Blanks after in
     let after_is : take ind after ++ value ≡ after = take-append-drop ind after in
     let equals_is : EQUALS ∷ (take ind after ++ value) ≡ at_equals = ap (λ xs. EQUALS ∷ xs) after_is ∙ sym (begins-cons EQUALS at_equals equals) in
     let rest_is : take bl rest ++ (EQUALS ∷ (take ind after ++ value)) ≡ rest = ap (λ xs. take bl rest ++ xs) equals_is ∙ take-append-drop bl rest in
@@ -235,23 +240,23 @@ set-of byte bytes start equals =
 -- an assignment, where the value's quotes are closed
 setting : (situation : Situation) (byte : ℕ) (bytes : List ℕ) → situation.in_recipe ≡ false → is_name_start byte ≡ true
     → begins_with EQUALS (behind_name (byte ∷ bytes)) ≡ true
-    → is_unclosed (behind place.Blanks (drop 1 (behind_name (byte ∷ bytes)))) ≡ false
+    → is_unclosed (behind run_places Run.Blanks (drop 1 (behind_name (byte ∷ bytes)))) ≡ false
     → Stands situation (byte ∷ bytes)
     (let text : List ℕ = byte ∷ bytes in
     let rest = drop 1 (behind_name text) in
-    let first = name_width text + 1 + far place.Blanks rest in
-    piece kind.Assign (far place.Name text) first (first + word_length (behind place.Blanks rest)) (first + word_length (behind place.Blanks rest)))
+    let first = name_width text + 1 + far run_places Run.Blanks rest in
+    piece kind.Assign (far run_places Run.Name text) first (first + word_length (behind run_places Run.Blanks rest)) (first + word_length (behind run_places Run.Blanks rest)))
 setting situation byte bytes here start equals closed =
     let text : List ℕ = byte ∷ bytes in
-    let value = behind place.Blanks (drop 1 (behind_name text)) in
+    let value = behind run_places Run.Blanks (drop 1 (behind_name text)) in
     let wl = word_length value in
-    let first = name_width text + 1 + far place.Blanks (drop 1 (behind_name text)) in
+    let first = name_width text + 1 + far run_places Run.Blanks (drop 1 (behind_name text)) in
     let wide : wl ≡ first + wl - first = omega arith in
     let text_is : take wl value ≡ slice_range text first (first + wl) = ap (λ k. take k value) wide ∙ ap (λ xs. take (first + wl - first) xs) (sym (to-value text)) in
     let last_is : drop wl value ≡ drop (first + wl) text = ap (λ xs. drop wl xs) (sym (to-value text)) ∙ drop-drop wl first text in
     let value_is : value ≡ slice_range text first (first + wl) ++ drop (first + wl) text =
     sym (take-append-drop wl value) ∙ ap (λ xs. xs ++ drop wl value) text_is ∙ ap (λ xs. slice_range text first (first + wl) ++ xs) last_is in
-    let name = take (far place.Name text) text in (
+    let name = take (far run_places Run.Name text) text in (
       omega (arith, name-some byte bytes start),
       (
         here,
@@ -266,15 +271,15 @@ setting situation byte bytes here start equals closed =
 -- a capture
 captured : (situation : Situation) (byte : ℕ) (bytes : List ℕ) → situation.in_recipe ≡ true → is_name_start byte ≡ true
     → captures (byte ∷ bytes) ≡ true
-    → Stands situation (byte ∷ bytes) (capture (byte ∷ bytes) (name_width (byte ∷ bytes) + 1 + far place.Blanks (drop 1 (behind_name (byte ∷ bytes))) + 1))
+    → Stands situation (byte ∷ bytes) (capture (byte ∷ bytes) (name_width (byte ∷ bytes) + 1 + far run_places Run.Blanks (drop 1 (behind_name (byte ∷ bytes))) + 1))
 captured situation byte bytes here start h =
     let text : List ℕ = byte ∷ bytes in
     let equals : begins_with EQUALS (behind_name text) ≡ true = and-left _ (begins_with BAR (behind_equals text)) h in
     let bar : begins_with BAR (behind_equals text) ≡ true = and-right (begins_with EQUALS (behind_name text)) _ h in
-    let at_bar = behind place.Blanks (drop 1 (behind_name text)) in
+    let at_bar = behind run_places Run.Blanks (drop 1 (behind_name text)) in
     let line = drop 1 at_bar in
-    let ll = far place.Line line in
-    let before = name_width text + 1 + far place.Blanks (drop 1 (behind_name text)) in
+    let ll = far run_places Run.Line line in
+    let before = name_width text + 1 + far run_places Run.Blanks (drop 1 (behind_name text)) in
     let first = before + 1 in
     let wide : ll ≡ first + ll - first = omega arith in
     let to_line : drop first text ≡ line = sym (drop-drop 1 before text) ∙ ap (λ xs. drop 1 xs) (to-value text) in
@@ -283,7 +288,7 @@ captured situation byte bytes here start h =
     let line_is : line ≡ slice_range text first (first + ll) ++ drop (first + ll) text =
     sym (take-append-drop ll line) ∙ ap (λ xs. xs ++ drop ll line) text_is ∙ ap (λ xs. slice_range text first (first + ll) ++ xs) last_is in
     let bar_is : at_bar ≡ BAR ∷ (slice_range text first (first + ll) ++ drop (first + ll) text) = begins-cons BAR at_bar bar ∙ ap (λ xs. BAR ∷ xs) line_is in
-    let name = take (far place.Name text) text in (
+    let name = take (far run_places Run.Name text) text in (
       omega arith,
       (
         here,
@@ -298,7 +303,7 @@ captured situation byte bytes here start h =
 -- a byte that begins a name begins no colon line
 no-lock : {A : Type 0} (byte : ℕ) (bytes lock : List ℕ) → is_name_start byte ≡ true → IsLockHead (byte ∷ bytes) lock → A
 no-lock byte bytes lock start h =
-    true-false (sym (and-left _ (begins_with 48 (behind place.Joins bytes)) (known-head (byte ∷ bytes) _ h.head).begins) ∙ other-name byte COLON start refl)
+    true-false (sym (and-left _ (begins_with 48 (behind run_places Run.Joins bytes)) (known-head (byte ∷ bytes) _ h.head).begins) ∙ other-name byte COLON start refl)
 
 -- a name at the front
 named-stands : (situation : Situation) (byte : ℕ) (bytes : List ℕ) → situation.in_recipe ≡ false → is_name_start byte ≡ true
@@ -306,12 +311,12 @@ named-stands : (situation : Situation) (byte : ℕ) (bytes : List ℕ) → situa
 named-stands situation byte bytes here start =
     let text : List ℕ = byte ∷ bytes in
     let outside : (situation.in_recipe && not (nat_eq byte CLOSE_BRACE || nat_eq byte COLON)) ≡ false = ap (λ b. b && not (nat_eq byte CLOSE_BRACE || nat_eq byte COLON)) here in
-    let value = behind place.Blanks (drop 1 (behind_name text)) in
+    let value = behind run_places Run.Blanks (drop 1 (behind_name text)) in
     cond_both (begins_with EQUALS (behind_name text)) _ _ (Stands situation text)
     (λ equals. cond_both (is_unclosed value) _ _ (Stands situation text)
     (λ h. broken-stands situation byte bytes outside (Value _ value (set-of byte bytes start equals) (unclosed-is value h)))
     (λ h. setting situation byte bytes here start equals h))
-    (λ h. cond_both (ends_name (behind place.Name text)) _ _ (Stands situation text)
+    (λ h. cond_both (ends_name (behind run_places Run.Name text)) _ _ (Stands situation text)
     (λ ends. (
       name-some byte bytes start,
       (
@@ -321,8 +326,8 @@ named-stands situation byte bytes here start =
           bytes_are = refl;
           named = named-at byte bytes _ start refl;
           ends = ends;
-          alone = λ after set. true-false (sym (known _ (take (far place.Name text) text ++ drop (far place.Name text) text) after set).equals
-              ∙ ap (λ xs. begins_with EQUALS (behind_name xs)) (take-append-drop (far place.Name text) text) ∙ h);
+          alone = λ after set. true-false (sym (known _ (take (far run_places Run.Name text) text ++ drop (far run_places Run.Name text) text) after set).equals
+              ∙ ap (λ xs. begins_with EQUALS (behind_name xs)) (take-append-drop (far run_places Run.Name text) text) ∙ h);
         },
       ),
     ))
@@ -390,9 +395,9 @@ brace-stands situation byte bytes here h =
     let text : List ℕ = byte ∷ bytes in
     let byte_is : byte ≡ OPEN_BRACE = equal byte OPEN_BRACE (and-left _ (opens bytes) h) in
     let o : IsOpened bytes = record {
-      joins = take (far place.Joins bytes) bytes;
-      rest = behind place.Joins bytes;
-      behind_is = sym (take-append-drop (far place.Joins bytes) bytes);
+      joins = take (far run_places Run.Joins bytes) bytes;
+      rest = behind run_places Run.Joins bytes;
+      behind_is = sym (take-append-drop (far run_places Run.Joins bytes) bytes);
       joined = joins-run bytes;
       ends = and-right (nat_eq byte OPEN_BRACE) _ h;
     } in
@@ -420,16 +425,16 @@ brace-stands situation byte bytes here h =
 
 -- a bar and a line
 bar-stands : (situation : Situation) (byte : ℕ) (bytes : List ℕ) → situation.in_recipe ≡ true → nat_eq byte BAR ≡ true
-    → Stands situation (byte ∷ bytes) (cond (ends_line (behind place.Blanks bytes)) (line_front kind.WriteOut 1 (far place.Line bytes + 1)) (line_front kind.Pipe 1 (far place.Line bytes + 1)))
+    → Stands situation (byte ∷ bytes) (cond (ends_line (behind run_places Run.Blanks bytes)) (line_front kind.WriteOut 1 (far run_places Run.Line bytes + 1)) (line_front kind.Pipe 1 (far run_places Run.Line bytes + 1)))
 bar-stands situation byte bytes here bar =
-    let n = far place.Line bytes in
+    let n = far run_places Run.Line bytes in
     let m = mark-line BAR byte bytes bar in
     let all : take n bytes ++ drop n bytes ≡ bytes = take-append-drop n bytes in
-    cond_both (ends_line (behind place.Blanks bytes)) _ _ (Stands situation (byte ∷ bytes))
+    cond_both (ends_line (behind run_places Run.Blanks bytes)) _ _ (Stands situation (byte ∷ bytes))
     (λ e. (
       omega arith,
       marked (λ t b r. HasForm situation kind.WriteOut [] t b r) byte bytes
-          (here, refl, m, blanks-are (take n bytes) (drop n bytes) m.line (ap (λ xs. ends_line (behind place.Blanks xs)) all ∙ e)),
+          (here, refl, m, blanks-are (take n bytes) (drop n bytes) m.line (ap (λ xs. ends_line (behind run_places Run.Blanks xs)) all ∙ e)),
     ))
     (λ e. (
       omega arith,
@@ -438,7 +443,7 @@ bar-stands situation byte bytes here bar =
         refl,
         m,
         λ blanks. true-false (sym (ap ends_line (drop_at (take n bytes) (drop n bytes) _ (sym (blanks-far (take n bytes) (drop n bytes) blanks)))
-            ∙ line-ends 0 (take n bytes) (drop n bytes) m.line) ∙ ap (λ xs. ends_line (behind place.Blanks xs)) all ∙ e),
+            ∙ line-ends 0 (take n bytes) (drop n bytes) m.line) ∙ ap (λ xs. ends_line (behind run_places Run.Blanks xs)) all ∙ e),
       ),
     ))
 
@@ -483,9 +488,9 @@ front-stands situation byte bytes =
     (λ e. line-stands situation byte bytes e space join)
     (λ e. statement-stands situation byte bytes e))))
   where
-    comment : nat_eq byte HASH ≡ true → Stands situation (byte ∷ bytes) (gap (far place.Comment bytes + 1))
+    comment : nat_eq byte HASH ≡ true → Stands situation (byte ∷ bytes) (gap (far up_to_places UpTo.Newline bytes + 1))
     comment h =
-        let n = far place.Comment bytes in
+        let n = far up_to_places UpTo.Newline bytes in
         let e : suc n ≡ n + 1 = omega arith in (
           omega arith,
           (

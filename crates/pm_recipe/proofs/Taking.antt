@@ -3,22 +3,27 @@ use Rattle.std.proofs.Common.{◌≡◌, ◌+◌, ◌-◌, ◌<◌, ◌≤◌, �
 use Rattle.std.proofs.lemmas.List.{take-append-drop, drop-drop, take_at, drop_at, length-append, append-nil, length-take-le}
 use Rattle.std.proofs.lemmas.Bool.{cond-true, cond-false}
 use Rattle.std.proofs.lemmas.Bool.Decides.{nat_tests}
-use Rattle.pm_bytes.specs.Letter.{is_blank_byte, is_name_byte, is_name_start, is_space_byte}
+use Rattle.pm_bytes.specs.Letter.{is_blank_byte, is_name_start, is_space_byte}
 use Rattle.pm_recipe.specs.Bytes.{begins_with}
 use Rattle.pm_bytes.specs.Alphabet.{NEWLINE, HASH, STAR, OPEN_BRACE, CLOSE_BRACE, COLON, EQUALS, BAR, BANG, BACKSLASH}
-use Rattle.pm_recipe.specs.declared.places.Place.TheVariants as place
 use Rattle.pm_recipe.specs.declared.fronts.Front.{Front}
 use Rattle.pm_recipe.specs.declared.fronts.Situation.{Situation}
 use Rattle.pm_recipe.specs.declared.fronts.Kind.{Kind}
 use Rattle.pm_recipe.specs.declared.fronts.Kind.TheVariants as kind
 use Rattle.pm_recipe.specs.Places.{far, behind}
+use Rattle.pm_recipe.specs.declared.runs.Run.TheVariants as Run
+use Rattle.pm_recipe.specs.declared.runs.UpTo.TheVariants as UpTo
+use Rattle.pm_recipe.specs.declared.line_words.InFlags.TheVariants as InFlags
+use Rattle.pm_recipe.specs.declared.line_words.InTail.TheVariants as InTail
+use Rattle.pm_recipe.specs.Runs.{run_places, up_to_places}
+use Rattle.pm_recipe.specs.LineWords.{flag_places, tail_places}
 use Rattle.pm_recipe.specs.Colon.{word_length, is_unclosed, begins_recipe, has_lock, lock_part, behind_lock, behind_flags, behind_colon}
 use Rattle.pm_recipe.specs.Front.{front_of, piece, gap, line_front, ends_name, behind_name, name_width, named, colon_front, opens, ends_line, behind_equals, captures, capture, brace, most_blocks}
-use Rattle.pm_recipe.specs.Words.{belongs, IsLine, AreBlanks, IsName, AreJoins, in_line, in_join}
+use Rattle.pm_recipe.specs.Words.{belongs, IsLine, AreBlanks, IsName, AreJoins, in_line}
 use Rattle.pm_recipe.specs.Spells.{IsGap, IsMarked, IsOpened, IsNamed, IsSet, IsSetting, IsCapture, IsLoneName, IsHead, IsColonLine, HasForm}
 use Rattle.pm_recipe.specs.Spells.IsGap.{Space, Join, Comment}
 use Rattle.pm_recipe.specs.Spells.IsColonLine.{Plain, Locked}
-use Rattle.pm_recipe.proofs.Runs.{run-length, not_not}
+use Rattle.pm_recipe.proofs.RunLengths.{run-length}
 use Rattle.pm_recipe.proofs.WordRuns.{flags-length, rest-length, tail-length, line-ends, true-false}
 use Rattle.pm_recipe.proofs.Worded.{value-read}
 use Rattle.pm_recipe.proofs.Forms.{equal, no, blanks-run, within}
@@ -31,50 +36,50 @@ pub record Takes (front : Front) (kind : Kind) (name : List ℕ) (text : List �
   pub text_is : slice_range whole front.from front.to ≡ text
 
 -- how far readers come at the runs
-pub line-far : (text behind : List ℕ) → IsLine 0 text behind → far place.Line (text ++ behind) ≡ length text
-line-far text behind h = run-length place.Line in_line refl (λ byte. refl) (λ byte. not_not (nat_eq byte NEWLINE)) 0 text behind h
+pub line-far : (text behind : List ℕ) → IsLine 0 text behind → far run_places Run.Line (text ++ behind) ≡ length text
+line-far text behind h = run-length Run.Line 0 text behind h
 
-pub blanks-far : (text behind : List ℕ) → AreBlanks 0 text behind → far place.Blanks (text ++ behind) ≡ length text
-blanks-far text behind h = run-length place.Blanks is_blank_byte refl (λ byte. refl) (λ byte. refl) 0 text behind h
+pub blanks-far : (text behind : List ℕ) → AreBlanks 0 text behind → far run_places Run.Blanks (text ++ behind) ≡ length text
+blanks-far text behind h = run-length Run.Blanks 0 text behind h
 
-pub name-far : (text behind : List ℕ) → IsName text behind → far place.Name (text ++ behind) ≡ length text
-name-far text behind h = run-length place.Name is_name_byte refl (λ byte. refl) (λ byte. refl) 0 text behind h
+pub name-far : (text behind : List ℕ) → IsName text behind → far run_places Run.Name (text ++ behind) ≡ length text
+name-far text behind h = run-length Run.Name 0 text behind h
 
-pub joins-far : (text behind : List ℕ) → AreJoins 0 text behind → far place.Joins (text ++ behind) ≡ length text
-joins-far text behind h = run-length place.Joins in_join refl (λ byte. refl) (λ byte. refl) 0 text behind h
+pub joins-far : (text behind : List ℕ) → AreJoins 0 text behind → far run_places Run.Joins (text ++ behind) ≡ length text
+joins-far text behind h = run-length Run.Joins 0 text behind h
 
 -- what a name, an `=` and blanks are to the readers
 pub record Known (name : List ℕ) (text : List ℕ) (value : List ℕ) (blanks : List ℕ) (indent : List ℕ) : Type 0 where
-  pub name_far : far place.Name text ≡ length name
-  pub name_is : take (far place.Name text) text ≡ name
+  pub name_far : far run_places Run.Name text ≡ length name
+  pub name_is : take (far run_places Run.Name text) text ≡ name
   pub width : name_width text ≡ length name + length blanks
   pub equals : begins_with EQUALS (behind_name text) ≡ true
-  pub indent_far : far place.Blanks (drop 1 (behind_name text)) ≡ length indent
-  pub value_is : behind place.Blanks (drop 1 (behind_name text)) ≡ value
+  pub indent_far : far run_places Run.Blanks (drop 1 (behind_name text)) ≡ length indent
+  pub value_is : behind run_places Run.Blanks (drop 1 (behind_name text)) ≡ value
 
 pub known : (name text value : List ℕ) (s : IsSet name text value) → Known name text value s.blanks s.indent
 known name text value s =
     let after = s.indent ++ value in
     let rest = s.blanks ++ (EQUALS ∷ after) in
     let n = name-far name rest s.named.reaches in
-    let rest_is : behind place.Name (name ++ rest) ≡ rest = drop_at name rest _ (sym n) in
+    let rest_is : behind run_places Run.Name (name ++ rest) ≡ rest = drop_at name rest _ (sym n) in
     let b = blanks-far s.blanks (EQUALS ∷ after) s.apart in
-    let equals_is : behind_name (name ++ rest) ≡ EQUALS ∷ after = ap (behind place.Blanks) rest_is ∙ drop_at s.blanks (EQUALS ∷ after) _ (sym b) in
+    let equals_is : behind_name (name ++ rest) ≡ EQUALS ∷ after = ap (behind run_places Run.Blanks) rest_is ∙ drop_at s.blanks (EQUALS ∷ after) _ (sym b) in
     let i = blanks-far s.indent value s.indented in
     subst (λ t. Known name t value s.blanks s.indent) (sym s.text_is) (record {
       name_far = n;
       name_is = take_at name rest _ (sym n);
-      width = ap (λ k. k + far place.Blanks (behind place.Name (name ++ rest))) n ∙ ap (λ xs. length name + far place.Blanks xs) rest_is ∙ ap (λ k. length name + k) b;
+      width = ap (λ k. k + far run_places Run.Blanks (behind run_places Run.Name (name ++ rest))) n ∙ ap (λ xs. length name + far run_places Run.Blanks xs) rest_is ∙ ap (λ k. length name + k) b;
       equals = ap (begins_with EQUALS) equals_is;
-      indent_far = ap (λ xs. far place.Blanks (drop 1 xs)) equals_is ∙ i;
-      value_is = ap (λ xs. behind place.Blanks (drop 1 xs)) equals_is ∙ drop_at s.indent value _ (sym i);
+      indent_far = ap (λ xs. far run_places Run.Blanks (drop 1 xs)) equals_is ∙ i;
+      value_is = ap (λ xs. behind run_places Run.Blanks (drop 1 xs)) equals_is ∙ drop_at s.indent value _ (sym i);
     })
 
-pub to-value : (text : List ℕ) → drop (name_width text + 1 + far place.Blanks (drop 1 (behind_name text))) text ≡ behind place.Blanks (drop 1 (behind_name text))
+pub to-value : (text : List ℕ) → drop (name_width text + 1 + far run_places Run.Blanks (drop 1 (behind_name text))) text ≡ behind run_places Run.Blanks (drop 1 (behind_name text))
 to-value text =
-    let na = far place.Name text in
-    let bl = far place.Blanks (behind place.Name text) in
-    let ind = far place.Blanks (drop 1 (behind_name text)) in
+    let na = far run_places Run.Name text in
+    let bl = far run_places Run.Blanks (behind run_places Run.Name text) in
+    let ind = far run_places Run.Blanks (drop 1 (behind_name text)) in
     sym (ap (λ xs. drop ind (drop 1 xs)) (drop-drop bl na text) ∙ ap (λ xs. drop ind xs) (drop-drop 1 (na + bl) text) ∙ drop-drop ind (na + bl + 1) text)
 
 -- a byte that begins a name is no other
@@ -96,12 +101,12 @@ name-statement situation byte bytes here start =
     ∙ cond-false (nat_eq byte HASH) _ _ (other-name byte HASH start refl)
     ∙ cond-false (situation.in_recipe && not (nat_eq byte CLOSE_BRACE || nat_eq byte COLON)) _ _ (ap (λ b. b && not (nat_eq byte CLOSE_BRACE || nat_eq byte COLON)) here)
     ∙ cond-false (nat_eq byte CLOSE_BRACE && nat_lt 0 situation.depth) _ _ (ap (λ b. b && nat_lt 0 situation.depth) (other-name byte CLOSE_BRACE start refl))
-    ∙ cond-false (begins_recipe (byte ∷ bytes)) _ _ (ap (λ b. b && begins_with 48 (behind place.Joins bytes)) (other-name byte COLON start refl))
+    ∙ cond-false (begins_recipe (byte ∷ bytes)) _ _ (ap (λ b. b && begins_with 48 (behind run_places Run.Joins bytes)) (other-name byte COLON start refl))
     ∙ cond-true (is_name_start byte) _ _ start
 
 pub name-recipe : (situation : Situation) (byte : ℕ) (bytes : List ℕ) → situation.in_recipe ≡ true → is_name_start byte ≡ true → captures (byte ∷ bytes) ≡ true
     → front_of situation (byte ∷ bytes)
-    ≡ capture (byte ∷ bytes) (name_width (byte ∷ bytes) + 1 + far place.Blanks (drop 1 (behind_name (byte ∷ bytes))) + 1)
+    ≡ capture (byte ∷ bytes) (name_width (byte ∷ bytes) + 1 + far run_places Run.Blanks (drop 1 (behind_name (byte ∷ bytes))) + 1)
 name-recipe situation byte bytes here start h =
     cond-false (is_space_byte byte) _ _ (space-name byte start)
     ∙ cond-false (nat_eq byte BACKSLASH && begins_with 10 bytes) _ _ (ap (λ b. b && begins_with 10 bytes) (other-name byte BACKSLASH start refl))
@@ -129,12 +134,12 @@ setting-taken situation name text bytes last here s =
     let whole = bytes ++ last in
     let set = s.set in
     let k = known name whole (text ++ last) set in
-    let value = behind place.Blanks (drop 1 (behind_name whole)) in
-    let first = name_width whole + 1 + far place.Blanks (drop 1 (behind_name whole)) in
+    let value = behind run_places Run.Blanks (drop 1 (behind_name whole)) in
+    let first = name_width whole + 1 + far run_places Run.Blanks (drop 1 (behind_name whole)) in
     let r = value-read text last s.value in
     let wl : word_length value ≡ length text = ap word_length k.value_is ∙ r.0 in
     let closed : is_unclosed value ≡ false = ap is_unclosed k.value_is ∙ r.1 in
-    let is : named whole ≡ piece kind.Assign (far place.Name whole) first (first + word_length value) (first + word_length value) =
+    let is : named whole ≡ piece kind.Assign (far run_places Run.Name whole) first (first + word_length value) (first + word_length value) =
     cond-true (begins_with EQUALS (behind_name whole)) _ _ k.equals ∙ cond-false (is_unclosed value) _ _ closed in
     let front_is : front_of situation whole ≡ named whole =
     named-front name _ whole _ (λ t. front_of situation t) (named whole) set.named set.text_is
@@ -158,25 +163,25 @@ capture-taken situation name text bytes last here s =
     let whole = bytes ++ last in
     let set = s.set in
     let k = known name whole (BAR ∷ (text ++ last)) set in
-    let at_bar = behind place.Blanks (drop 1 (behind_name whole)) in
-    let first = name_width whole + 1 + far place.Blanks (drop 1 (behind_name whole)) + 1 in
-    let ll : far place.Line (drop 1 (behind_equals whole)) ≡ length text = ap (λ xs. far place.Line (drop 1 xs)) k.value_is ∙ line-far text last s.line in
+    let at_bar = behind run_places Run.Blanks (drop 1 (behind_name whole)) in
+    let first = name_width whole + 1 + far run_places Run.Blanks (drop 1 (behind_name whole)) + 1 in
+    let ll : far run_places Run.Line (drop 1 (behind_equals whole)) ≡ length text = ap (λ xs. far run_places Run.Line (drop 1 xs)) k.value_is ∙ line-far text last s.line in
     let captured : captures whole ≡ true = ap (λ b. b && begins_with BAR (behind_equals whole)) k.equals ∙ ap (begins_with BAR) k.value_is in
     let front_is : front_of situation whole ≡ capture whole first =
     named-front name _ whole _ (λ t. front_of situation t) (capture whole first) set.named set.text_is
     (λ rest e. name-recipe situation set.named.first rest here set.named.begins (ap captures (sym e) ∙ captured)
-    ∙ ap (λ t. capture t (name_width t + 1 + far place.Blanks (drop 1 (behind_name t)) + 1)) (sym e)) in
+    ∙ ap (λ t. capture t (name_width t + 1 + far run_places Run.Blanks (drop 1 (behind_name t)) + 1)) (sym e)) in
     let size : length bytes + length last ≡ length name + (length set.blanks + suc (length set.indent + suc (length text + length last))) =
     sym (length-append bytes last) ∙ ap length set.text_is ∙ length-append name _ ∙ ap (λ n. length name + n) (length-append set.blanks _
     ∙ ap (λ n. length set.blanks + suc n) (length-append set.indent (BAR ∷ (text ++ last)) ∙ ap (λ n. length set.indent + suc n) (length-append text last))) in
-    let n = far place.Line (drop 1 (behind_equals whole)) in
+    let n = far run_places Run.Line (drop 1 (behind_equals whole)) in
     let wide : first + n - first ≡ length text = omega (arith, ll) in
     subst (λ f. Takes f kind.Capture name text bytes whole) (sym front_is) (record {
       kind_is = refl;
       taken_is = omega (arith, k.width, k.indent_far, ll, size);
       name_is = k.name_is;
       text_is = ap (λ xs. take (first + n - first) xs)
-          (sym (drop-drop 1 (name_width whole + 1 + far place.Blanks (drop 1 (behind_name whole))) whole) ∙ ap (λ xs. drop 1 xs) (to-value whole ∙ k.value_is))
+          (sym (drop-drop 1 (name_width whole + 1 + far run_places Run.Blanks (drop 1 (behind_name whole))) whole) ∙ ap (λ xs. drop 1 xs) (to-value whole ∙ k.value_is))
           ∙ take_at text last _ (sym wide);
     })
 
@@ -186,18 +191,18 @@ lone-taken : (situation : Situation) (name text bytes last : List ℕ) → situa
 lone-taken situation name text bytes last here none s =
     let whole = bytes ++ last in
     let is : whole ≡ name ++ last = ap (λ xs. xs ++ last) s.bytes_are in
-    let n : far place.Name whole ≡ length name = ap (far place.Name) is ∙ name-far name last s.named.reaches in
-    let last_is : behind place.Name whole ≡ last = ap (behind place.Name) is ∙ drop_at name last _ (sym (name-far name last s.named.reaches)) in
+    let n : far run_places Run.Name whole ≡ length name = ap (far run_places Run.Name) is ∙ name-far name last s.named.reaches in
+    let last_is : behind run_places Run.Name whole ≡ last = ap (behind run_places Run.Name) is ∙ drop_at name last _ (sym (name-far name last s.named.reaches)) in
     let front_is : front_of situation whole ≡ named whole =
     named-front name _ whole last (λ t. front_of situation t) (named whole) s.named is
     (λ rest e. name-statement situation s.named.first rest here s.named.begins ∙ ap named (sym e)) in
-    let unset : named whole ≡ piece kind.Unset (far place.Name whole) 0 0 (far place.Name whole) =
+    let unset : named whole ≡ piece kind.Unset (far run_places Run.Name whole) 0 0 (far run_places Run.Name whole) =
     cond-false (begins_with EQUALS (behind_name whole)) _ _ (alone whole last is last_is s)
-    ∙ cond-true (ends_name (behind place.Name whole)) _ _ (ap ends_name last_is ∙ s.ends) in
+    ∙ cond-true (ends_name (behind run_places Run.Name whole)) _ _ (ap ends_name last_is ∙ s.ends) in
     subst (λ f. Takes f kind.Unset name text bytes whole) (sym (front_is ∙ unset)) (record {
       kind_is = refl;
       taken_is = n ∙ sym (ap length s.bytes_are);
-      name_is = ap (take (far place.Name whole)) is ∙ take_at name last _ (sym n);
+      name_is = ap (take (far run_places Run.Name whole)) is ∙ take_at name last _ (sym n);
       text_is = sym none;
     })
   where
@@ -205,21 +210,21 @@ lone-taken situation name text bytes last here none s =
     begins-cons wanted [] h = no h
     begins-cons wanted (x ∷ xs) h = ap (λ b. b ∷ xs) (equal x wanted h)
 
-    alone : (whole after : List ℕ) → whole ≡ name ++ after → behind place.Name whole ≡ after → IsLoneName name bytes after → begins_with EQUALS (behind_name whole) ≡ false
+    alone : (whole after : List ℕ) → whole ≡ name ++ after → behind run_places Run.Name whole ≡ after → IsLoneName name bytes after → begins_with EQUALS (behind_name whole) ≡ false
     alone whole after is after_is s = by (begins_with EQUALS (behind_name whole)) refl
       where
         by : (b : Bool) → begins_with EQUALS (behind_name whole) ≡ b → begins_with EQUALS (behind_name whole) ≡ false
         by true e =
             let rest = behind_name whole in
             let value = drop 1 rest in
-            let ind = far place.Blanks value in
-            let bl = far place.Blanks after in
-            let rest_is : behind place.Blanks after ≡ EQUALS ∷ value = ap (behind place.Blanks) (sym after_is) ∙ begins-cons EQUALS rest e in
-            let value_is : take ind value ++ behind place.Blanks value ≡ value = take-append-drop ind value in
-            let equals_is : behind place.Blanks after ≡ EQUALS ∷ (take ind value ++ behind place.Blanks value) = rest_is ∙ ap (λ xs. EQUALS ∷ xs) (sym value_is) in
-            let whole_is : after ≡ take bl after ++ (EQUALS ∷ (take ind value ++ behind place.Blanks value)) =
+            let ind = far run_places Run.Blanks value in
+            let bl = far run_places Run.Blanks after in
+            let rest_is : behind run_places Run.Blanks after ≡ EQUALS ∷ value = ap (behind run_places Run.Blanks) (sym after_is) ∙ begins-cons EQUALS rest e in
+            let value_is : take ind value ++ behind run_places Run.Blanks value ≡ value = take-append-drop ind value in
+            let equals_is : behind run_places Run.Blanks after ≡ EQUALS ∷ (take ind value ++ behind run_places Run.Blanks value) = rest_is ∙ ap (λ xs. EQUALS ∷ xs) (sym value_is) in
+            let whole_is : after ≡ take bl after ++ (EQUALS ∷ (take ind value ++ behind run_places Run.Blanks value)) =
             sym (take-append-drop bl after) ∙ ap (λ xs. take bl after ++ xs) equals_is in
-            absurd (s.alone (behind place.Blanks value) (record {
+            absurd (s.alone (behind run_places Run.Blanks value) (record {
               blanks = take bl after;
               indent = take ind value;
               text_is = ap (λ xs. xs ++ after) s.bytes_are ∙ ap (λ xs. name ++ xs) whole_is;
@@ -237,10 +242,10 @@ lone-taken situation name text bytes last here none s =
 
 -- a byte and a line
 marked-taken : (situation : Situation) (mark : ℕ) (sort : Kind) (name text bytes last : List ℕ)
-    → front_of situation (mark ∷ (text ++ last)) ≡ line_front sort 1 (far place.Line (text ++ last) + 1) → name ≡ [] → IsMarked mark text bytes last
+    → front_of situation (mark ∷ (text ++ last)) ≡ line_front sort 1 (far run_places Run.Line (text ++ last) + 1) → name ≡ [] → IsMarked mark text bytes last
     → Takes (front_of situation (bytes ++ last)) sort name text bytes (bytes ++ last)
 marked-taken situation mark sort name text bytes last is none m =
-    let n = far place.Line (text ++ last) in
+    let n = far run_places Run.Line (text ++ last) in
     let far_is : n ≡ length text = line-far text last m.line in
     let wide : n + 1 - 1 ≡ length text = omega (arith, far_is) in
     subst (λ b. Takes (front_of situation (b ++ last)) sort name text b (b ++ last)) (sym m.bytes_are)
@@ -273,26 +278,26 @@ blank-line before [] [] h e = tt
 blank-line before [] (byte ∷ bytes) h e = end-belongs before byte bytes e h
 blank-line before (byte ∷ text) last h e = (blank-belongs before byte (text ++ last) h.0, blank-line byte text last h.1 e)
 
-pub blanks-are : (text last : List ℕ) → IsLine 0 text last → ends_line (behind place.Blanks (text ++ last)) ≡ true → AreBlanks 0 text last
+pub blanks-are : (text last : List ℕ) → IsLine 0 text last → ends_line (behind run_places Run.Blanks (text ++ last)) ≡ true → AreBlanks 0 text last
 blanks-are text last line e =
     let whole = text ++ last in
-    let n = far place.Blanks whole in
+    let n = far run_places Run.Blanks whole in
     let blanks = blanks-run whole in
-    let as_line : far place.Line whole ≡ length (take n whole) =
-    sym (ap (far place.Line) (take-append-drop n whole)) ∙ line-far (take n whole) (drop n whole) (blank-line 0 (take n whole) (drop n whole) blanks e) in
-    let size : length (take n whole) ≡ n = length-take-le n whole (within false place.Blanks whole) in
+    let as_line : far run_places Run.Line whole ≡ length (take n whole) =
+    sym (ap (far run_places Run.Line) (take-append-drop n whole)) ∙ line-far (take n whole) (drop n whole) (blank-line 0 (take n whole) (drop n whole) blanks e) in
+    let size : length (take n whole) ≡ n = length-take-le n whole (within run_places false Run.Blanks whole) in
     let n_is : n ≡ length text = sym size ∙ sym as_line ∙ line-far text last line in
     subst (λ xs. AreBlanks 0 text xs) (drop_at text last n (sym n_is)) (subst (λ xs. AreBlanks 0 xs (drop n whole)) (take_at text last n (sym n_is)) blanks)
 
 bar-front : (situation : Situation) (text : List ℕ) → situation.in_recipe ≡ true
     → front_of situation (BAR ∷ text)
-    ≡ cond (ends_line (behind place.Blanks text)) (line_front kind.WriteOut 1 (far place.Line text + 1)) (line_front kind.Pipe 1 (far place.Line text + 1))
+    ≡ cond (ends_line (behind run_places Run.Blanks text)) (line_front kind.WriteOut 1 (far run_places Run.Line text + 1)) (line_front kind.Pipe 1 (far run_places Run.Line text + 1))
 bar-front situation text here = cond-true (situation.in_recipe && true) _ _ (and-true _ here)
 
 -- a brace that opens a block
 pub opened : (last : List ℕ) → IsOpened last → opens last ≡ true
 opened last o =
-    ap (λ xs. ends_name (behind place.Joins xs)) o.behind_is
+    ap (λ xs. ends_name (behind run_places Run.Joins xs)) o.behind_is
     ∙ ap ends_name (drop_at o.joins o.rest _ (sym (joins-far o.joins o.rest o.joined))) ∙ o.ends
 
 open-front : (situation : Situation) (last : List ℕ) → situation.in_recipe ≡ true → opens last ≡ true
@@ -309,13 +314,13 @@ pub record IsKnownHead (text : List ℕ) (after : List ℕ) : Type 0 where
 pub known-head : (text after : List ℕ) → IsHead text after → IsKnownHead text after
 known-head text after h =
     let flagged = h.flags ++ after in
-    let joins_is : behind place.Joins (h.joins ++ (48 ∷ flagged)) ≡ 48 ∷ flagged =
+    let joins_is : behind run_places Run.Joins (h.joins ++ (48 ∷ flagged)) ≡ 48 ∷ flagged =
     drop_at h.joins (48 ∷ flagged) _ (sym (joins-far h.joins (48 ∷ flagged) h.joined)) in
     subst (λ t. IsKnownHead t after) (sym h.text_is) (record {
       others = h.joins ++ (48 ∷ flagged);
       text_is = refl;
       begins = ap (begins_with 48) joins_is;
-      after_is = ap (λ xs. behind place.FlagsWord (drop 1 xs)) joins_is ∙ drop_at h.flags after _ (sym (flags-length false 0 h.flags after h.flagged));
+      after_is = ap (λ xs. behind flag_places InFlags.Word (drop 1 xs)) joins_is ∙ drop_at h.flags after _ (sym (flags-length false 0 h.flags after h.flagged));
     })
 
 colon-statement : (situation : Situation) (text after : List ℕ) → IsKnownHead text after → front_of situation text ≡ colon_front text
@@ -332,7 +337,7 @@ colon-end text last (Plain rest head none r) =
     let lock : has_lock text ≡ false = ap (begins_with COLON) k.after_is ∙ none in (
       known-head-self text (rest ++ last) k,
       ap (λ b. b && is_unclosed (lock_part text)) lock,
-      cond-false (has_lock text) _ _ lock ∙ ap (behind place.Comment) k.after_is ∙ drop_at rest last _ (sym (rest-length rest last r)),
+      cond-false (has_lock text) _ _ lock ∙ ap (behind up_to_places UpTo.Newline) k.after_is ∙ drop_at rest last _ (sym (rest-length rest last r)),
     )
   where
     known-head-self : (text after : List ℕ) → IsKnownHead text after → IsKnownHead text (behind_flags text)
@@ -341,12 +346,12 @@ colon-end text last (Locked lock tail h value t) =
     let after = lock ++ (tail ++ last) in
     let k = known-head text (COLON ∷ (h.blanks ++ after)) h.head in
     let has : has_lock text ≡ true = ap (begins_with COLON) k.after_is in
-    let part_is : lock_part text ≡ after = ap (λ xs. behind place.Blanks (drop 1 xs)) k.after_is ∙ drop_at h.blanks after _ (sym (blanks-far h.blanks after h.apart)) in
+    let part_is : lock_part text ≡ after = ap (λ xs. behind run_places Run.Blanks (drop 1 xs)) k.after_is ∙ drop_at h.blanks after _ (sym (blanks-far h.blanks after h.apart)) in
     let r = value-read lock (tail ++ last) value in
     let lock_is : behind_lock text ≡ tail ++ last = ap (λ xs. drop (word_length xs) xs) part_is ∙ drop_at lock (tail ++ last) _ (sym r.0) in (
       record { others = k.others; text_is = k.text_is; begins = k.begins; after_is = refl },
       ap (λ b. b && is_unclosed (lock_part text)) has ∙ ap is_unclosed part_is ∙ r.1,
-      cond-true (has_lock text) _ _ has ∙ ap (behind place.Tail) lock_is ∙ drop_at tail last _ (sym (tail-length true 0 tail last t)),
+      cond-true (has_lock text) _ _ has ∙ ap (behind tail_places InTail.Fresh) lock_is ∙ drop_at tail last _ (sym (tail-length true 0 tail last t)),
     )
 
 colon-taken : (situation : Situation) (name text bytes last : List ℕ) → name ≡ [] → bytes ≡ text → IsColonLine (bytes ++ last) last
@@ -385,14 +390,14 @@ taken situation kind.Forward name text bytes last h =
     marked-taken situation BANG kind.Forward name text bytes last (cond-true (situation.in_recipe && true) _ _ (and-true _ h.0)) h.1 h.2
 taken situation kind.Pipe name text bytes last h =
     marked-taken situation BAR kind.Pipe name text bytes last
-    (bar-front situation (text ++ last) h.0 ∙ cond-false (ends_line (behind place.Blanks (text ++ last))) _ _ (other (ends_line (behind place.Blanks (text ++ last))) refl)) h.1 h.2
+    (bar-front situation (text ++ last) h.0 ∙ cond-false (ends_line (behind run_places Run.Blanks (text ++ last))) _ _ (other (ends_line (behind run_places Run.Blanks (text ++ last))) refl)) h.1 h.2
   where
-    other : (b : Bool) → ends_line (behind place.Blanks (text ++ last)) ≡ b → b ≡ false
+    other : (b : Bool) → ends_line (behind run_places Run.Blanks (text ++ last)) ≡ b → b ≡ false
     other true e = absurd (h.3 (blanks-are text last h.2.line e))
     other false e = refl
 taken situation kind.WriteOut name text bytes last h =
     marked-taken situation BAR kind.WriteOut name text bytes last
-    (bar-front situation (text ++ last) h.0 ∙ cond-true (ends_line (behind place.Blanks (text ++ last))) _ _
+    (bar-front situation (text ++ last) h.0 ∙ cond-true (ends_line (behind run_places Run.Blanks (text ++ last))) _ _
     (ap ends_line (drop_at text last _ (sym (blanks-far text last h.3))) ∙ line-ends 0 text last h.2.line)) h.1 h.2
 taken situation kind.Capture name text bytes last h = capture-taken situation name text bytes last h.0 h.1
 taken situation kind.Open name text bytes last h =

@@ -8,7 +8,10 @@ use Rattle.pm_bytes.specs.Letter.{is_digit_byte}
 use Rattle.pm_bytes.specs.Alphabet.{DOT, PLUS, MINUS, CARET}
 use Rattle.pm_recipe.specs.Bytes.{begins_with}
 use Rattle.pm_recipe.specs.Places.{far, behind}
-use Rattle.pm_recipe.specs.declared.places.Place.TheVariants as place
+use Rattle.pm_recipe.specs.declared.runs.Run.TheVariants as Run
+use Rattle.pm_recipe.specs.declared.leads.InNumeral.TheVariants as InNumeral
+use Rattle.pm_recipe.specs.Runs.{run_places}
+use Rattle.pm_recipe.specs.Leads.{numeral_places}
 use Rattle.pm_recipe.specs.declared.tree.Weight.{Weight}
 use Rattle.pm_recipe.specs.declared.tree.Weight.TheVariants as weight
 use Rattle.pm_recipe.specs.Weights.{digits_value, number_within, digits_of, weight_of, numeral, has_digit, exponent, ends_word, has_weight, exponent_value, weight_at, behind_weight}
@@ -29,11 +32,11 @@ abbrev pub ends_figures : List ℕ → Bool
 ends_figures [] = true
 ends_figures (byte ∷ bytes) = not (is_figure byte)
 
-figures-far : (digits rest : List ℕ) → are_digits digits ≡ true → ends_figures rest ≡ true → far place.Number (digits ++ rest) ≡ length digits
+figures-far : (digits rest : List ℕ) → are_digits digits ≡ true → ends_figures rest ≡ true → far numeral_places InNumeral.Digits (digits ++ rest) ≡ length digits
 figures-far [] [] h e = refl
-figures-far [] (byte ∷ bytes) h e = ap (λ b. cond b 0 (far place.Number bytes + 1)) e
+figures-far [] (byte ∷ bytes) h e = ap (λ b. cond b 0 (far numeral_places InNumeral.Digits bytes + 1)) e
 figures-far (byte ∷ digits) rest h e =
-    ap (λ b. cond (not b) 0 (far place.Number (digits ++ rest) + 1)) (and-left (is_figure byte) (are_digits digits) h)
+    ap (λ b. cond (not b) 0 (far numeral_places InNumeral.Digits (digits ++ rest) + 1)) (and-left (is_figure byte) (are_digits digits) h)
     ∙ omega (arith, figures-far digits rest (and-right (is_figure byte) (are_digits digits) h) e)
 
 signs : (a b c d : Bool) → (a || b) ≡ true → (a || b || c || d) ≡ true
@@ -41,26 +44,26 @@ signs true b c d h = refl
 signs false true c d h = refl
 signs false false c d h = no h
 
-figures-first : (digits rest : List ℕ) → are_digits digits ≡ true → has_digit digits ≡ true → ends_figures rest ≡ true → far place.Sign (digits ++ rest) ≡ length digits
+figures-first : (digits rest : List ℕ) → are_digits digits ≡ true → has_digit digits ≡ true → ends_figures rest ≡ true → far numeral_places InNumeral.Sign (digits ++ rest) ≡ length digits
 figures-first [] rest h s e = no s
 figures-first (byte ∷ digits) rest h s e =
-    ap (λ b. cond (not b) 0 (far place.Number (digits ++ rest) + 1))
+    ap (λ b. cond (not b) 0 (far numeral_places InNumeral.Digits (digits ++ rest) + 1))
     (signs (is_digit_byte byte) (nat_eq byte DOT) (nat_eq byte PLUS) (nat_eq byte MINUS) (and-left (is_figure byte) (are_digits digits) h))
     ∙ omega (arith, figures-far digits rest (and-right (is_figure byte) (are_digits digits) h) e)
 
-numeral-far : (text : List ℕ) (minus : Bool) (digits rest : List ℕ) → IsNumeral text minus digits → ends_figures rest ≡ true → far place.Sign (text ++ rest) ≡ length text
+numeral-far : (text : List ℕ) (minus : Bool) (digits rest : List ℕ) → IsNumeral text minus digits → ends_figures rest ≡ true → far numeral_places InNumeral.Sign (text ++ rest) ≡ length text
 numeral-far text minus digits rest n e = by n.sign n.signed n.text_is
   where
-    by : (sign : List ℕ) → IsSign sign minus → text ≡ sign ++ digits → far place.Sign (text ++ rest) ≡ length text
+    by : (sign : List ℕ) → IsSign sign minus → text ≡ sign ++ digits → far numeral_places InNumeral.Sign (text ++ rest) ≡ length text
     by sign (Absent none m) is =
         let text_is : text ≡ digits = is ∙ ap (λ s. s ++ digits) none in
-        subst (λ t. far place.Sign (t ++ rest) ≡ length t) (sym text_is) (figures-first digits rest n.are n.some e)
+        subst (λ t. far numeral_places InNumeral.Sign (t ++ rest) ≡ length t) (sym text_is) (figures-first digits rest n.are n.some e)
     by sign (Plus plus m) is =
         let text_is : text ≡ PLUS ∷ digits = is ∙ ap (λ s. s ++ digits) plus in
-        subst (λ t. far place.Sign (t ++ rest) ≡ length t) (sym text_is) (omega (arith, figures-far digits rest n.are e))
+        subst (λ t. far numeral_places InNumeral.Sign (t ++ rest) ≡ length t) (sym text_is) (omega (arith, figures-far digits rest n.are e))
     by sign (Minus minus_is m) is =
         let text_is : text ≡ MINUS ∷ digits = is ∙ ap (λ s. s ++ digits) minus_is in
-        subst (λ t. far place.Sign (t ++ rest) ≡ length t) (sym text_is) (omega (arith, figures-far digits rest n.are e))
+        subst (λ t. far numeral_places InNumeral.Sign (t ++ rest) ≡ length t) (sym text_is) (omega (arith, figures-far digits rest n.are e))
 
 -- the sign and the digits of a numeral are what the code takes for them
 figure-no-sign : (byte : ℕ) → is_figure byte ≡ true → (nat_eq byte PLUS || nat_eq byte MINUS) ≡ false
@@ -106,7 +109,7 @@ record IsReadWeight (text : List ℕ) (minus : Bool) (digits : List ℕ) (less :
   digits_are : digits_of (numeral text) ≡ digits
   less_is : begins_with MINUS (numeral (exponent text)) ≡ less
   power_is : digits_of (numeral (exponent text)) ≡ power
-  rest_is : behind place.Sign (exponent text) ≡ rest
+  rest_is : behind numeral_places InNumeral.Sign (exponent text) ≡ rest
 
 numeral-digit : (text : List ℕ) (minus : Bool) (digits : List ℕ) → IsNumeral text minus digits → has_digit text ≡ true
 numeral-digit text minus digits n = by n.sign n.signed n.text_is
@@ -135,15 +138,15 @@ weight-read : (text : List ℕ) (minus : Bool) (digits : List ℕ) (less : Bool)
     → IsReadWeight text minus digits less power rest
 weight-read text minus digits less power rest h =
     let after : List ℕ = CARET ∷ (h.x ++ rest) in
-    let w_far : far place.Sign (h.w ++ after) ≡ length h.w = numeral-far h.w minus digits after h.w_is refl in
-    let x_far : far place.Sign (h.x ++ rest) ≡ length h.x = numeral-far h.x less power rest h.x_is (ends-figures rest h.ends) in
+    let w_far : far numeral_places InNumeral.Sign (h.w ++ after) ≡ length h.w = numeral-far h.w minus digits after h.w_is refl in
+    let x_far : far numeral_places InNumeral.Sign (h.x ++ rest) ≡ length h.x = numeral-far h.x less power rest h.x_is (ends-figures rest h.ends) in
     let w_is : numeral text ≡ h.w = ap numeral h.text_is ∙ take_at h.w after _ (sym w_far) in
-    let caret_is : behind place.Sign text ≡ after = ap (behind place.Sign) h.text_is ∙ drop_at h.w after _ (sym w_far) in
+    let caret_is : behind numeral_places InNumeral.Sign text ≡ after = ap (behind numeral_places InNumeral.Sign) h.text_is ∙ drop_at h.w after _ (sym w_far) in
     let power_at : exponent text ≡ h.x ++ rest = ap (drop 1) caret_is in
     let x_is : numeral (exponent text) ≡ h.x = ap numeral power_at ∙ take_at h.x rest _ (sym x_far) in
-    let rest_is : behind place.Sign (exponent text) ≡ rest = ap (behind place.Sign) power_at ∙ drop_at h.x rest _ (sym x_far) in
+    let rest_is : behind numeral_places InNumeral.Sign (exponent text) ≡ rest = ap (behind numeral_places InNumeral.Sign) power_at ∙ drop_at h.x rest _ (sym x_far) in
     record {
-      has = all-four (has_digit (numeral text)) (begins_with CARET (behind place.Sign text)) (has_digit (numeral (exponent text))) (ends_word (behind place.Sign (exponent text)))
+      has = all-four (has_digit (numeral text)) (begins_with CARET (behind numeral_places InNumeral.Sign text)) (has_digit (numeral (exponent text))) (ends_word (behind numeral_places InNumeral.Sign (exponent text)))
           (ap has_digit w_is ∙ numeral-digit h.w minus digits h.w_is) (ap (begins_with CARET) caret_is)
           (ap has_digit x_is ∙ numeral-digit h.x less power h.x_is) (ap ends_word rest_is ∙ h.ends);
       minus_is = ap (begins_with MINUS) h.text_is ∙ (split h.w minus digits after h.w_is).minus_is;
@@ -154,19 +157,19 @@ weight-read text minus digits less power rest h =
     }
 
 -- what is read is a weight
-figures-are : (text : List ℕ) → are_digits (take (far place.Number text) text) ≡ true
+figures-are : (text : List ℕ) → are_digits (take (far numeral_places InNumeral.Digits text) text) ≡ true
 figures-are [] = refl
 figures-are (byte ∷ bytes) = by (is_figure byte) refl (figures-are bytes)
   where
-    by : (b : Bool) → is_figure byte ≡ b → are_digits (take (far place.Number bytes) bytes) ≡ true
-        → are_digits (take (cond (not b) 0 (far place.Number bytes + 1)) (byte ∷ bytes)) ≡ true
+    by : (b : Bool) → is_figure byte ≡ b → are_digits (take (far numeral_places InNumeral.Digits bytes) bytes) ≡ true
+        → are_digits (take (cond (not b) 0 (far numeral_places InNumeral.Digits bytes + 1)) (byte ∷ bytes)) ≡ true
     by true h more =
-        let e : suc (far place.Number bytes) ≡ far place.Number bytes + 1 = omega arith in
-        subst (λ n. are_digits (take n (byte ∷ bytes)) ≡ true) e (ap (λ b. b && are_digits (take (far place.Number bytes) bytes)) h ∙ more)
+        let e : suc (far numeral_places InNumeral.Digits bytes) ≡ far numeral_places InNumeral.Digits bytes + 1 = omega arith in
+        subst (λ n. are_digits (take n (byte ∷ bytes)) ≡ true) e (ap (λ b. b && are_digits (take (far numeral_places InNumeral.Digits bytes) bytes)) h ∙ more)
     by false h more = refl
 
 abbrev figures_in : List ℕ → List ℕ
-figures_in bytes = take (far place.Number bytes) bytes
+figures_in bytes = take (far numeral_places InNumeral.Digits bytes) bytes
 
 numeral-at : (text : List ℕ) → has_digit (numeral text) ≡ true → IsNumeral (numeral text) (begins_with MINUS (numeral text)) (digits_of (numeral text))
 numeral-at [] h = no h
@@ -207,29 +210,29 @@ numeral-at (byte ∷ bytes) h = by (is_digit_byte byte || nat_eq byte DOT || nat
         figure false false c d h s = true-false (sym h ∙ s)
 
     by : (b : Bool) → (is_digit_byte byte || nat_eq byte DOT || nat_eq byte PLUS || nat_eq byte MINUS) ≡ b
-        → has_digit (take (cond (not b) 0 (far place.Number bytes + 1)) (byte ∷ bytes)) ≡ true
-        → IsNumeral (take (cond (not b) 0 (far place.Number bytes + 1)) (byte ∷ bytes)) (begins_with MINUS (take (cond (not b) 0 (far place.Number bytes + 1)) (byte ∷ bytes)))
-        (digits_of (take (cond (not b) 0 (far place.Number bytes + 1)) (byte ∷ bytes)))
+        → has_digit (take (cond (not b) 0 (far numeral_places InNumeral.Digits bytes + 1)) (byte ∷ bytes)) ≡ true
+        → IsNumeral (take (cond (not b) 0 (far numeral_places InNumeral.Digits bytes + 1)) (byte ∷ bytes)) (begins_with MINUS (take (cond (not b) 0 (far numeral_places InNumeral.Digits bytes + 1)) (byte ∷ bytes)))
+        (digits_of (take (cond (not b) 0 (far numeral_places InNumeral.Digits bytes + 1)) (byte ∷ bytes)))
     by true here d =
-        let e : suc (far place.Number bytes) ≡ far place.Number bytes + 1 = omega arith in
+        let e : suc (far numeral_places InNumeral.Digits bytes) ≡ far numeral_places InNumeral.Digits bytes + 1 = omega arith in
         subst (λ n. has_digit (take n (byte ∷ bytes)) ≡ true → IsNumeral (take n (byte ∷ bytes)) (begins_with MINUS (take n (byte ∷ bytes))) (digits_of (take n (byte ∷ bytes)))) e
         (λ some. plain (nat_eq byte PLUS || nat_eq byte MINUS) refl here some) d
     by false here d = no d
 
 weight-there : (text : List ℕ) → has_weight text ≡ true
     → IsWeight text (begins_with MINUS (numeral text)) (digits_of (numeral text)) (begins_with MINUS (numeral (exponent text))) (digits_of (numeral (exponent text)))
-    (behind place.Sign (exponent text))
+    (behind numeral_places InNumeral.Sign (exponent text))
 weight-there text h =
     let a = has_digit (numeral text) in
-    let b = begins_with CARET (behind place.Sign text) in
+    let b = begins_with CARET (behind numeral_places InNumeral.Sign text) in
     let c = has_digit (numeral (exponent text)) in
-    let d = ends_word (behind place.Sign (exponent text)) in
-    let caret : behind place.Sign text ≡ CARET ∷ exponent text = begins-cons CARET (behind place.Sign text) (second a b c d h) in
+    let d = ends_word (behind numeral_places InNumeral.Sign (exponent text)) in
+    let caret : behind numeral_places InNumeral.Sign text ≡ CARET ∷ exponent text = begins-cons CARET (behind numeral_places InNumeral.Sign text) (second a b c d h) in
     record {
       w = numeral text;
       x = numeral (exponent text);
-      text_is = sym (take-append-drop (far place.Sign text) text) ∙ ap (λ xs. numeral text ++ xs) caret
-          ∙ ap (λ xs. numeral text ++ (CARET ∷ xs)) (sym (take-append-drop (far place.Sign (exponent text)) (exponent text)));
+      text_is = sym (take-append-drop (far numeral_places InNumeral.Sign text) text) ∙ ap (λ xs. numeral text ++ xs) caret
+          ∙ ap (λ xs. numeral text ++ (CARET ∷ xs)) (sym (take-append-drop (far numeral_places InNumeral.Sign (exponent text)) (exponent text)));
       w_is = numeral-at text (first a b c d h);
       x_is = numeral-at (exponent text) (third a b c d h);
       ends = fourth a b c d h;
@@ -336,8 +339,8 @@ weighed-once line worth rest (Weighted minus less digits power last blanks w v i
     ∙ ap (λ xs. weight_of minus (number_within 2147483647 xs) (exponent_value (numeral (exponent line)))) r.digits_are
     ∙ ap (λ b. weight_of minus (number_within 2147483647 digits) (number_within (cond b 0 2147483647) (digits_of (numeral (exponent line))))) r.less_is
     ∙ ap (λ xs. weight_of minus (number_within 2147483647 digits) (number_within (cond less 0 2147483647) xs)) r.power_is in
-    let behind_is : behind place.Blanks (behind place.Sign (exponent line)) ≡ rest =
-    ap (behind place.Blanks) (r.rest_is ∙ is) ∙ drop_at blanks rest _ (sym (blanks-far blanks rest apart)) in
+    let behind_is : behind run_places Run.Blanks (behind numeral_places InNumeral.Sign (exponent line)) ≡ rest =
+    ap (behind run_places Run.Blanks) (r.rest_is ∙ is) ∙ drop_at blanks rest _ (sym (blanks-far blanks rest apart)) in
     record {
       worth_is = worth-once minus digits less power worth v ∙ sym (cond-true (has_weight line) _ _ r.has ∙ value_is);
       rest_is = sym (cond-true (has_weight line) _ _ r.has ∙ behind_is);
@@ -353,14 +356,14 @@ weighed-some line = by (has_weight line) refl
     by true h =
         let w = weight-there line h in
         let r = weight-read line _ _ _ _ _ w in
-        let after = behind place.Sign (exponent line) in
+        let after = behind numeral_places InNumeral.Sign (exponent line) in
         let minus_is : begins_with MINUS line ≡ begins_with MINUS (numeral line) = r.minus_is in
         let worth_is : weight_at line ≡ worth_of (begins_with MINUS (numeral line)) (digits_of (numeral line)) (begins_with MINUS (numeral (exponent line))) (digits_of (numeral (exponent line))) =
         cond-true (has_weight line) _ _ h
         ∙ ap (λ b. weight_of b (number_within 2147483647 (digits_of (numeral line))) (exponent_value (numeral (exponent line)))) minus_is in
-        let rest_is : behind_weight line ≡ behind place.Blanks after = cond-true (has_weight line) _ _ h in
+        let rest_is : behind_weight line ≡ behind run_places Run.Blanks after = cond-true (has_weight line) _ _ h in
         subst (λ v. IsWeighed line v (behind_weight line)) (sym worth_is)
         (subst (λ xs. IsWeighed line (worth_of (begins_with MINUS (numeral line)) (digits_of (numeral line)) (begins_with MINUS (numeral (exponent line))) (digits_of (numeral (exponent line)))) xs) (sym rest_is)
-        (Weighted _ _ _ _ after (take (far place.Blanks after) after) w
+        (Weighted _ _ _ _ after (take (far run_places Run.Blanks after) after) w
         (worth-some (begins_with MINUS (numeral line)) (digits_of (numeral line)) (begins_with MINUS (numeral (exponent line))) (digits_of (numeral (exponent line))))
-        (sym (take-append-drop (far place.Blanks after) after)) (blanks-run after)))
+        (sym (take-append-drop (far run_places Run.Blanks after) after)) (blanks-run after)))

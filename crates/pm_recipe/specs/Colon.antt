@@ -2,18 +2,25 @@
 use Rattle.std.specs.Prelude.{ℕ, List, [], ◌∷◌, if◌then◌else◌, nat_eq, nat_lt, Bool, false, true, not, ◌&&◌, ◌||◌, take, drop, length, Option, Some, None, codes}
 use Rattle.std.specs.List.{list_any}
 use Rattle.pm_recipe.specs.Bytes.{begins_with}
-use Rattle.pm_recipe.specs.Places.{far, behind, rest_of, is_quote}
+use Rattle.pm_recipe.specs.Places.{far, behind, rest_of}
+use Rattle.pm_recipe.specs.declared.runs.Run.TheVariants as Run
+use Rattle.pm_recipe.specs.declared.runs.UpTo.TheVariants as UpTo
+use Rattle.pm_recipe.specs.declared.line_words.InFlags.TheVariants as InFlags
+use Rattle.pm_recipe.specs.declared.line_words.InTail.TheVariants as InTail
+use Rattle.pm_recipe.specs.declared.words.InWord.TheVariants as InWord
+use Rattle.pm_recipe.specs.Runs.{run_places, up_to_places}
+use Rattle.pm_recipe.specs.LineWords.{flag_places, tail_places}
+use Rattle.pm_recipe.specs.WordPlaces.{word_places, is_quote}
 use Rattle.pm_bytes.specs.Alphabet.{NEWLINE, HASH, COLON, ZERO}
-use Rattle.pm_recipe.specs.declared.places.Place.TheVariants.{Joins, Blanks, Comment, FlagsWord, Letters, Tail, Word}
 use Rattle.pm_recipe.specs.declared.tree.Flags.{Flags}
 
 -- a word; one that begins with `#` is a comment, and the word is empty
 abbrev pub word_length : List ℕ → ℕ
-word_length text = if begins_with HASH text then 0 else far Word text
+word_length text = if begins_with HASH text then 0 else far word_places InWord.Plain text
 
 -- whether a quote of the word isn't closed
 abbrev pub is_unclosed : List ℕ → Bool
-is_unclosed text = not (begins_with HASH text) && is_quote (rest_of false Word text)
+is_unclosed text = not (begins_with HASH text) && is_quote (rest_of word_places false InWord.Plain text)
 
 -- a newline, a comment or the end
 abbrev pub ends_statement : List ℕ → Bool
@@ -22,19 +29,19 @@ ends_statement (byte ∷ bytes) = nat_eq byte NEWLINE || nat_eq byte HASH
 
 -- whether a colon and a zero begin the text
 abbrev pub begins_recipe : List ℕ → Bool
-begins_recipe text = begins_with COLON text && begins_with ZERO (behind Joins (drop 1 text))
+begins_recipe text = begins_with COLON text && begins_with ZERO (behind run_places Run.Joins (drop 1 text))
 
 -- what follows the zero
 abbrev pub behind_zero : List ℕ → List ℕ
-behind_zero text = drop 1 (behind Joins (drop 1 text))
+behind_zero text = drop 1 (behind run_places Run.Joins (drop 1 text))
 
 -- the bytes behind the zero among which the flags stand
 abbrev pub flags_part : List ℕ → List ℕ
-flags_part text = take (far FlagsWord (behind_zero text)) (behind_zero text)
+flags_part text = take (far flag_places InFlags.Word (behind_zero text)) (behind_zero text)
 
 -- what follows the flags
 abbrev pub behind_flags : List ℕ → List ℕ
-behind_flags text = behind FlagsWord (behind_zero text)
+behind_flags text = behind flag_places InFlags.Word (behind_zero text)
 
 -- a second colon begins a lock
 abbrev pub has_lock : List ℕ → Bool
@@ -42,7 +49,7 @@ has_lock text = begins_with COLON (behind_flags text)
 
 -- from the lock's text on
 abbrev pub lock_part : List ℕ → List ℕ
-lock_part text = behind Blanks (drop 1 (behind_flags text))
+lock_part text = behind run_places Run.Blanks (drop 1 (behind_flags text))
 
 -- what follows the lock's text
 abbrev pub behind_lock : List ℕ → List ℕ
@@ -50,7 +57,7 @@ behind_lock text = drop (word_length (lock_part text)) (lock_part text)
 
 -- what follows the line
 abbrev pub behind_colon : List ℕ → List ℕ
-behind_colon text = if has_lock text then behind Tail (behind_lock text) else behind Comment (behind_flags text)
+behind_colon text = if has_lock text then behind tail_places InTail.Fresh (behind_lock text) else behind up_to_places UpTo.Newline (behind_flags text)
 
 -- the lock's text as written, where there is a lock
 abbrev pub lock_of : List ℕ → Option (List ℕ)
@@ -59,8 +66,8 @@ lock_of text = if has_lock text then Some (take (word_length (lock_part text)) (
 -- another byte than a blank or a letter among the flags, or another text than a comment behind the lock
 abbrev pub has_junk : List ℕ → Bool
 has_junk text =
-    nat_lt (far Letters (flags_part text)) (length (flags_part text))
-    || (has_lock text && not (ends_statement (behind Blanks (behind_lock text))))
+    nat_lt (far run_places Run.Letters (flags_part text)) (length (flags_part text))
+    || (has_lock text && not (ends_statement (behind run_places Run.Blanks (behind_lock text))))
 
 -- whether the flag of a letter is among these bytes
 abbrev pub has_letter : List ℕ → List ℕ → Bool

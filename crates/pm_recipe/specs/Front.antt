@@ -3,9 +3,13 @@ use Rattle.std.specs.Prelude.{ℕ, ◌+◌, ◌-◌, ◌<◌, ◌≤◌, List, [
 use Rattle.pm_bytes.specs.Letter.{is_name_start, is_space_byte}
 use Rattle.pm_recipe.specs.Bytes.{begins_with}
 use Rattle.pm_recipe.specs.Places.{far, behind}
+use Rattle.pm_recipe.specs.declared.runs.Run.TheVariants as Run
+use Rattle.pm_recipe.specs.declared.runs.UpTo.TheVariants as UpTo
+use Rattle.pm_recipe.specs.declared.line_words.InTail.TheVariants as InTail
+use Rattle.pm_recipe.specs.Runs.{run_places, up_to_places}
+use Rattle.pm_recipe.specs.LineWords.{tail_places}
 use Rattle.pm_recipe.specs.Colon.{word_length, is_unclosed, begins_recipe, has_lock, lock_part, behind_colon}
 use Rattle.pm_bytes.specs.Alphabet.{NEWLINE, HASH, STAR, OPEN_BRACE, CLOSE_BRACE, COLON, EQUALS, BAR, BANG, BACKSLASH}
-use Rattle.pm_recipe.specs.declared.places.Place.TheVariants as place
 use Rattle.pm_recipe.specs.declared.fronts.Front.{Front}
 use Rattle.pm_recipe.specs.declared.fronts.Situation.{Situation}
 use Rattle.pm_recipe.specs.declared.fronts.Kind.{Kind}
@@ -25,17 +29,17 @@ line_front kind first taken = piece kind 0 first taken taken
 
 -- what isn't understood, up to a newline that isn't joined; its first byte begins no comment
 abbrev pub skipped : List ℕ → Front
-skipped text = line_front Skipped 0 (far place.TailWord (drop 1 text) + 1)
+skipped text = line_front Skipped 0 (far tail_places InTail.Word (drop 1 text) + 1)
 
 -- the first line of a statement whose quote isn't closed
 abbrev pub unclosed : List ℕ → Front
-unclosed text = line_front Skipped 0 (far place.Comment (drop 1 text) + 1)
+unclosed text = line_front Skipped 0 (far up_to_places UpTo.Newline (drop 1 text) + 1)
 
 -- an assignment whose name ends at `mid`, with what follows the `=` from `before` on
 abbrev pub assignment : List ℕ → ℕ → ℕ → List ℕ → Front
 assignment text mid before rest =
-    let value = behind place.Blanks rest in
-    let first = before + far place.Blanks rest in
+    let value = behind run_places Run.Blanks rest in
+    let first = before + far run_places Run.Blanks rest in
     if is_unclosed value then unclosed text else piece Assign mid first (first + word_length value) (first + word_length value)
 
 -- behind a name there is a blank, a newline or the end
@@ -45,18 +49,18 @@ ends_name (byte ∷ bytes) = is_space_byte byte
 
 -- from a name on: what follows it and its blanks
 abbrev pub behind_name : List ℕ → List ℕ
-behind_name text = behind place.Blanks (behind place.Name text)
+behind_name text = behind run_places Run.Blanks (behind run_places Run.Name text)
 
 -- how far it is to there
 abbrev pub name_width : List ℕ → ℕ
-name_width text = far place.Name text + far place.Blanks (behind place.Name text)
+name_width text = far run_places Run.Name text + far run_places Run.Blanks (behind run_places Run.Name text)
 
 -- a name at the front: an assignment, an unsetting or neither
 abbrev pub named : List ℕ → Front
 named text =
     if begins_with EQUALS (behind_name text)
-    then assignment text (far place.Name text) (name_width text + 1) (drop 1 (behind_name text)) else
-    if ends_name (behind place.Name text) then piece Unset (far place.Name text) 0 0 (far place.Name text) else skipped text
+    then assignment text (far run_places Run.Name text) (name_width text + 1) (drop 1 (behind_name text)) else
+    if ends_name (behind run_places Run.Name text) then piece Unset (far run_places Run.Name text) 0 0 (far run_places Run.Name text) else skipped text
 
 -- a colon line, whose lock's quotes must be closed
 abbrev pub colon_front : List ℕ → Front
@@ -74,7 +78,7 @@ statement_of in_block (byte ∷ bytes) =
 
 -- whether a brace before this begins a block
 abbrev pub opens : List ℕ → Bool
-opens text = ends_name (behind place.Joins text)
+opens text = ends_name (behind run_places Run.Joins text)
 
 -- whether a line ends here
 abbrev pub ends_line : List ℕ → Bool
@@ -83,7 +87,7 @@ ends_line (byte ∷ bytes) = nat_eq byte NEWLINE
 
 -- what follows the `=` behind a name, and its blanks
 abbrev pub behind_equals : List ℕ → List ℕ
-behind_equals text = behind place.Blanks (drop 1 (behind_name text))
+behind_equals text = behind run_places Run.Blanks (drop 1 (behind_name text))
 
 -- whether a name, an `=` and a bar begin the text
 abbrev pub captures : List ℕ → Bool
@@ -92,15 +96,15 @@ captures text = begins_with EQUALS (behind_name text) && begins_with BAR (behind
 -- the line behind the bar, which begins at `first`
 abbrev pub capture : List ℕ → ℕ → Front
 capture text first =
-    piece Capture (far place.Name text) first (first + far place.Line (drop 1 (behind_equals text))) (first + far place.Line (drop 1 (behind_equals text)))
+    piece Capture (far run_places Run.Name text) first (first + far run_places Run.Line (drop 1 (behind_equals text))) (first + far run_places Run.Line (drop 1 (behind_equals text)))
 
 -- a mailbox, or a capture
 abbrev pub other_action : List ℕ → Front
 other_action [] = gap 0
 other_action (byte ∷ bytes) =
     if is_name_start byte && captures (byte ∷ bytes)
-    then capture (byte ∷ bytes) (name_width (byte ∷ bytes) + 1 + far place.Blanks (drop 1 (behind_name (byte ∷ bytes))) + 1)
-    else line_front Mailbox 0 (far place.Line bytes + 1)
+    then capture (byte ∷ bytes) (name_width (byte ∷ bytes) + 1 + far run_places Run.Blanks (drop 1 (behind_name (byte ∷ bytes))) + 1)
+    else line_front Mailbox 0 (far run_places Run.Line bytes + 1)
 
 -- a block begins, or is nested too deep
 abbrev pub brace : Bool → List ℕ → Front
@@ -110,12 +114,12 @@ brace deep text = if deep then piece TooDeep 0 0 1 (length text) else piece Open
 abbrev pub recipe_line : Bool → List ℕ → Front
 recipe_line deep [] = gap 0
 recipe_line deep (byte ∷ bytes) =
-    if nat_eq byte STAR then line_front Condition 1 (far place.Line bytes + 1) else
+    if nat_eq byte STAR then line_front Condition 1 (far run_places Run.Line bytes + 1) else
     if nat_eq byte OPEN_BRACE && opens bytes then brace deep (byte ∷ bytes) else
-    if nat_eq byte BANG then line_front Forward 1 (far place.Line bytes + 1) else
+    if nat_eq byte BANG then line_front Forward 1 (far run_places Run.Line bytes + 1) else
     if nat_eq byte BAR then
-    (if ends_line (behind place.Blanks bytes) then line_front WriteOut 1 (far place.Line bytes + 1)
-    else line_front Pipe 1 (far place.Line bytes + 1))
+    (if ends_line (behind run_places Run.Blanks bytes) then line_front WriteOut 1 (far run_places Run.Line bytes + 1)
+    else line_front Pipe 1 (far run_places Run.Line bytes + 1))
     else other_action (byte ∷ bytes)
 
 -- as many blocks may be nested
@@ -128,7 +132,7 @@ front_of situation [] = gap 0
 front_of situation (byte ∷ bytes) =
     if is_space_byte byte then gap 1 else
     if nat_eq byte BACKSLASH && begins_with NEWLINE bytes then gap 2 else
-    if nat_eq byte HASH then gap (far place.Comment bytes + 1) else
+    if nat_eq byte HASH then gap (far up_to_places UpTo.Newline bytes + 1) else
     if situation.in_recipe && not (nat_eq byte CLOSE_BRACE || nat_eq byte COLON) then recipe_line (nat_le most_blocks situation.depth) (byte ∷ bytes)
     else statement_of (nat_lt 0 situation.depth) (byte ∷ bytes)
 

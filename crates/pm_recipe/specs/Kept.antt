@@ -2,10 +2,11 @@
 use Rattle.std.specs.Prelude.{ℕ, List, [], ◌∷◌, if◌then◌else◌, Bool, true, ◌||◌}
 use Rattle.pm_bytes.specs.Letter.{is_blank_byte}
 use Rattle.pm_recipe.specs.Places.{behind}
+use Rattle.pm_recipe.specs.declared.runs.Run.TheVariants as Run
+use Rattle.pm_recipe.specs.Runs.{run_places}
 use Rattle.pm_recipe.specs.Joins.{is_join, before_blanks}
 use Rattle.pm_recipe.specs.declared.joins.Side.{Side}
 use Rattle.pm_recipe.specs.declared.joins.Side.TheVariants.{Text, Newline, Indent}
-use Rattle.pm_recipe.specs.declared.places.Place.TheVariants.{Blanks}
 
 -- whether a byte is dropped: one of a join, or a blank behind one
 abbrev pub is_dropped : Side → ℕ → List ℕ → Bool
@@ -28,4 +29,4 @@ kept indents side (byte ∷ bytes) =
 
 -- without the blanks at both ends
 abbrev pub trimmed : List ℕ → List ℕ
-trimmed text = before_blanks (behind Blanks text)
+trimmed text = before_blanks (behind run_places Run.Blanks text)

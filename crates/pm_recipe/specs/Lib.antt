@@ -4,6 +4,10 @@ pub mod Code
 pub mod Falls
 pub mod Bytes
 pub mod Places
+pub mod Runs
+pub mod LineWords
+pub mod WordPlaces
+pub mod Leads
 pub mod Joins
 pub mod Kept
 pub mod Weights

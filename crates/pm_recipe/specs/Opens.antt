@@ -3,25 +3,25 @@ use Rattle.std.specs.Prelude.{ℕ, ◌<◌, List, ◌++◌, ◌≡◌, nat_eq, i
 use Rattle.pm_bytes.specs.Alphabet.{SINGLE_QUOTE, DOUBLE_QUOTE, BACKQUOTE, BACKSLASH}
 use Rattle.pm_bytes.specs.Letter.{is_space_byte}
 use Rattle.pm_recipe.specs.declared.quotes.Opens.{Opens}
-use Rattle.pm_recipe.specs.declared.places.Place.{Place}
-use Rattle.pm_recipe.specs.declared.places.Place.TheVariants as place
-use Rattle.pm_recipe.specs.Places.{rest_of, is_quote}
+use Rattle.pm_recipe.specs.Places.{rest_of}
+use Rattle.pm_recipe.specs.declared.words.InWord.{InWord}
+use Rattle.pm_recipe.specs.WordPlaces.{word_places, is_quote}
 
 -- whether a quote is open where a reader comes no further
-abbrev pub is_open : Place → List ℕ → Bool
-is_open at text = is_quote (rest_of false at text)
+abbrev pub is_open : InWord → List ℕ → Bool
+is_open at text = is_quote (rest_of word_places false at text)
 
 -- of each place in a word
 pub record AreOpens (opens : Opens) (text : List ℕ) : Type 0 where
-  pub word : opens.word ≡ is_open place.Word text
-  pub escaped : opens.escaped ≡ is_open place.Escaped text
-  pub single : opens.single ≡ is_open place.Single text
-  pub double : opens.double ≡ is_open place.Double text
-  pub double_escaped : opens.double_escaped ≡ is_open place.DoubleEscaped text
-  pub backquote : opens.backquote ≡ is_open place.Backquote text
-  pub backquote_escaped : opens.backquote_escaped ≡ is_open place.BackquoteEscaped text
-  pub inner : opens.inner ≡ is_open place.Inner text
-  pub inner_escaped : opens.inner_escaped ≡ is_open place.InnerEscaped text
+  pub word : opens.word ≡ is_open InWord.Plain text
+  pub escaped : opens.escaped ≡ is_open InWord.Escaped text
+  pub single : opens.single ≡ is_open InWord.Single text
+  pub double : opens.double ≡ is_open InWord.Double text
+  pub double_escaped : opens.double_escaped ≡ is_open InWord.DoubleEscaped text
+  pub backquote : opens.backquote ≡ is_open InWord.Backquote text
+  pub backquote_escaped : opens.backquote_escaped ≡ is_open InWord.BackquoteEscaped text
+  pub inner : opens.inner ≡ is_open InWord.Inner text
+  pub inner_escaped : opens.inner_escaped ≡ is_open InWord.InnerEscaped text
 
 -- in a word, before a byte
 abbrev pub word_before : ℕ → Opens → Bool
@@ -59,4 +59,4 @@ opens_before byte opens = record {
 
 -- at the place of a number stands whether a word leaves a quote open that begins so many bytes before the text's end
 pub record Knows (known : List Bool) (text : List ℕ) : Type 0 where
-  pub at : (front rest : List ℕ) → text ≡ front ++ rest → length rest < length known → get_or known (length rest) false ≡ is_open place.Word rest
+  pub at : (front rest : List ℕ) → text ≡ front ++ rest → length rest < length known → get_or known (length rest) false ≡ is_open InWord.Plain rest

@@ -4,11 +4,15 @@ use Rattle.std.specs.List.{list_any}
 use Rattle.pm_bytes.specs.Letter.{is_blank_byte, is_digit_byte}
 use Rattle.pm_recipe.specs.Bytes.{begins_with}
 use Rattle.pm_recipe.specs.Places.{far, behind, rest_of}
+use Rattle.pm_recipe.specs.declared.runs.Run.TheVariants as Run
+use Rattle.pm_recipe.specs.declared.runs.UpTo.TheVariants as UpTo
+use Rattle.pm_recipe.specs.declared.leads.InNumeral.TheVariants as InNumeral
+use Rattle.pm_recipe.specs.declared.leads.InLead.{InLead}
+use Rattle.pm_recipe.specs.Runs.{run_places, up_to_places}
+use Rattle.pm_recipe.specs.Leads.{numeral_places, lead_places}
 use Rattle.pm_recipe.specs.Joins.{unjoined, unindented}
 use Rattle.pm_recipe.specs.Kept.{trimmed}
 use Rattle.pm_bytes.specs.Alphabet.{DOLLAR, DOT, PLUS, MINUS, CARET, ZERO}
-use Rattle.pm_recipe.specs.declared.places.Place.{Place}
-use Rattle.pm_recipe.specs.declared.places.Place.TheVariants.{Blanks, Sign, Dollar, Lead}
 use Rattle.pm_recipe.specs.declared.tree.Weight.{Weight}
 use Rattle.pm_recipe.specs.declared.tree.Weight.TheVariants as weight
 use Rattle.pm_recipe.specs.declared.tree.Condition.{Condition}
@@ -36,7 +40,7 @@ weight_of negative (Some w) (Some x) = weight.Some (if negative then neg_ℤ (po
 
 -- the numeral at the front of a text, where there is a digit
 abbrev pub numeral : List ℕ → List ℕ
-numeral text = take (far Sign text) text
+numeral text = take (far numeral_places InNumeral.Sign text) text
 
 -- whether there is a digit
 abbrev pub has_digit : List ℕ → Bool
@@ -44,7 +48,7 @@ has_digit text = list_any is_digit_byte text
 
 -- what stands behind the caret
 abbrev pub exponent : List ℕ → List ℕ
-exponent text = drop 1 (behind Sign text)
+exponent text = drop 1 (behind numeral_places InNumeral.Sign text)
 
 -- a blank or the end
 abbrev pub ends_word : List ℕ → Bool
@@ -58,8 +62,8 @@ most_weight = 2147483647
 -- two numerals with a caret between them, and a blank or the end behind
 abbrev pub has_weight : List ℕ → Bool
 has_weight text =
-    has_digit (numeral text) && begins_with CARET (behind Sign text)
-    && has_digit (numeral (exponent text)) && ends_word (behind Sign (exponent text))
+    has_digit (numeral text) && begins_with CARET (behind numeral_places InNumeral.Sign text)
+    && has_digit (numeral (exponent text)) && ends_word (behind numeral_places InNumeral.Sign (exponent text))
 
 -- an exponent that is minus nothing but zeros is zero
 abbrev pub exponent_value : List ℕ → Option ℕ
@@ -74,20 +78,20 @@ weight_at text =
 
 -- what follows the weight, where there is one
 abbrev pub behind_weight : List ℕ → List ℕ
-behind_weight text = if has_weight text then behind Blanks (behind Sign (exponent text)) else text
+behind_weight text = if has_weight text then behind run_places Run.Blanks (behind numeral_places InNumeral.Sign (exponent text)) else text
 
 -- whether nothing but a weight, blanks, inversions and names with two question marks can stand before this place
-abbrev pub is_at_dollar : Place → Bool
-is_at_dollar Lead = true
+abbrev pub is_at_dollar : InLead → Bool
+is_at_dollar InLead.Before = true
 is_at_dollar _ = false
 
 -- whether a dollar stands behind nothing else
 abbrev pub is_expanded : List ℕ → Bool
-is_expanded text = is_at_dollar (rest_of false Lead text) && begins_with DOLLAR (behind Lead text)
+is_expanded text = is_at_dollar (rest_of lead_places false InLead.Before text) && begins_with DOLLAR (behind lead_places InLead.Before text)
 
 -- behind such a dollar the blanks after a join stay
 abbrev pub dollar_line : List ℕ → List ℕ
-dollar_line text = unindented (take (far Dollar text) text) ++ unjoined (behind Dollar text)
+dollar_line text = unindented (take (far up_to_places UpTo.Dollar text) text) ++ unjoined (behind up_to_places UpTo.Dollar text)
 
 -- the line of a condition
 abbrev pub condition_line : List ℕ → List ℕ

@@ -17,7 +17,8 @@ use crate::colon_line::{is_junked, read_flags, read_lock};
 use crate::conditions::read_condition;
 use crate::fronts::Kind;
 use crate::joins::without_joins;
-use crate::places::{Place, past};
+use crate::places::past;
+use crate::runs::Run;
 use crate::tree::{Action, Condition, Flags, Recipe, Statement, Statements};
 use pm_bytes::{Blob, Memory};
 use std::alloc::Global;
@@ -81,7 +82,7 @@ fn read_program(alloc: Global, text: &[u8]) -> Result<Blob, Memory>
     ensures { IfOk result (λ line. line ≡ program_line text.now) }
 {
     let line = without_joins(alloc, text)?;
-    Blob::from_slice(alloc, past(Place::Blanks, line.as_slice()))
+    Blob::from_slice(alloc, past(Run::Blanks, line.as_slice()))
 }
 
 impl Builder {

@@ -1,14 +1,18 @@
 //! The line on which a recipe begins: its flags and its lock.
 ghost use Rattle.std.specs.Prelude.{◌≡◌, ◌≤◌, ◌<◌, ◌+◌, ◌-◌, length, IfOk, nat_lt, drop, [], ◌∷◌};
 ghost use Rattle.pm_recipe.specs.Places.{far};
-ghost use Rattle.pm_recipe.specs.declared.places.Place.TheVariants.{Letters};
+ghost use Rattle.pm_recipe.specs.Runs.{run_places};
+ghost use Rattle.pm_recipe.specs.declared.runs.Run.TheVariants.{Letters};
 ghost use Rattle.pm_recipe.specs.Colon.{word_length, ends_statement, begins_recipe, behind_zero};
 ghost use Rattle.pm_recipe.specs.Colon.{flags_part, behind_flags, has_lock, lock_part, behind_lock, behind_colon};
 ghost use Rattle.pm_recipe.specs.Colon.{lock_of, has_junk, has_letter, flags_of};
 
 use crate::bytes::starts_with;
-use crate::places::{Place, past, past_first, reach};
+use crate::line_words::{InFlags, InTail};
+use crate::places::{past, past_first, reach};
+use crate::runs::{Run, UpTo};
 use crate::tree::Flags;
+use crate::words::InWord;
 use pm_bytes::{Blob, COLON, HASH, Memory, NEWLINE};
 use std::alloc::Global;
 
@@ -19,7 +23,7 @@ pub fn word_in(text: &[u8]) -> usize
     if starts_with(HASH, text) {
         0
     } else {
-        reach(Place::Word, text).length
+        reach(InWord::Plain, text).length
     }
 }
 
@@ -35,21 +39,21 @@ fn at_end(text: &[u8]) -> bool
 pub fn is_recipe(text: &[u8]) -> bool
     ensures { result ≡ begins_recipe text.now }
 {
-    starts_with(COLON, text) && starts_with(b'0', past(Place::Joins, past_first(text)))
+    starts_with(COLON, text) && starts_with(b'0', past(Run::Joins, past_first(text)))
 }
 
 fn past_zero(text: &[u8]) -> &[u8]
     ensures text { result.now ≡ behind_zero text.now }
     ensures shorter { length result.now ≤ length text.now - 1 }
 {
-    past_first(past(Place::Joins, past_first(text)))
+    past_first(past(Run::Joins, past_first(text)))
 }
 
 fn flags_in(text: &[u8]) -> &[u8]
     ensures { result.now ≡ flags_part text.now }
 {
     let rest = past_zero(text);
-    let end = reach(Place::FlagsWord, rest).length;
+    let end = reach(InFlags::Word, rest).length;
     &rest[..end]
 }
 
@@ -57,7 +61,7 @@ fn past_flags(text: &[u8]) -> &[u8]
     ensures text { result.now ≡ behind_flags text.now }
     ensures shorter { length result.now ≤ length text.now - 1 }
 {
-    past(Place::FlagsWord, past_zero(text))
+    past(InFlags::Word, past_zero(text))
 }
 
 pub fn is_locked(text: &[u8]) -> bool
@@ -70,7 +74,7 @@ pub fn from_lock(text: &[u8]) -> &[u8]
     ensures text { result.now ≡ lock_part text.now }
     ensures shorter { length result.now ≤ length text.now - 1 }
 {
-    past(Place::Blanks, past_first(past_flags(text)))
+    past(Run::Blanks, past_first(past_flags(text)))
 }
 
 fn past_lock(text: &[u8]) -> &[u8]
@@ -95,9 +99,9 @@ pub fn past_colon_line(text: &[u8]) -> &[u8]
     ensures shorter { length result.now ≤ length text.now - 1 }
 {
     if is_locked(text) {
-        past(Place::Tail, past_lock(text))
+        past(InTail::Fresh, past_lock(text))
     } else {
-        past(Place::Comment, past_flags(text))
+        past(UpTo::Newline, past_flags(text))
     }
 }
 
@@ -113,17 +117,17 @@ pub fn read_lock(alloc: Global, text: &[u8]) -> Result<Option<Blob>, Memory>
 }
 
 fn has_other_flags(text: &[u8]) -> bool
-    ensures { result ≡ nat_lt (far Letters (flags_part text.now)) (length (flags_part text.now)) }
+    ensures { result ≡ nat_lt (far run_places Letters (flags_part text.now)) (length (flags_part text.now)) }
 {
     let flags = flags_in(text);
-    reach(Place::Letters, flags).length < flags.len()
+    reach(Run::Letters, flags).length < flags.len()
 }
 
 /// Whether something on the line isn't understood.
 pub fn is_junked(text: &[u8]) -> bool
     ensures { result ≡ has_junk text.now }
 {
-    let tail = !at_end(past(Place::Blanks, past_lock(text)));
+    let tail = !at_end(past(Run::Blanks, past_lock(text)));
     has_other_flags(text) || (is_locked(text) && tail)
 }
 

@@ -7,7 +7,9 @@ ghost use Rattle.pm_recipe.specs.Weights.{dollar_line};
 
 use crate::bytes::starts_with;
 use crate::joins::{trim, without_indents, without_joins};
-use crate::places::{Place, past, past_first, reach};
+use crate::leads::{InLead, InNumeral};
+use crate::places::{past, past_first, reach};
+use crate::runs::{Run, UpTo};
 use crate::tree::{Condition, Weight};
 use pm_bytes::{Blob, CARET, DOLLAR, DOT, MINUS, Memory, PLUS, is_blank, is_digit};
 use std::alloc::Global;
@@ -56,14 +58,14 @@ fn digits_in(text: &[u8]) -> &[u8]
 fn numeral_in(text: &[u8]) -> &[u8]
     ensures { result.now ≡ numeral text.now }
 {
-    let end = reach(Place::Sign, text).length;
+    let end = reach(InNumeral::Sign, text).length;
     &text[..end]
 }
 
 fn exponent_in(text: &[u8]) -> &[u8]
     ensures { result.now ≡ exponent text.now }
 {
-    past_first(past(Place::Sign, text))
+    past_first(past(InNumeral::Sign, text))
 }
 
 fn has_digits(text: &[u8]) -> bool
@@ -91,9 +93,9 @@ fn is_weighted(text: &[u8]) -> bool
 {
     let exponent = exponent_in(text);
     let first = has_digits(numeral_in(text));
-    let caret = starts_with(CARET, past(Place::Sign, text));
+    let caret = starts_with(CARET, past(InNumeral::Sign, text));
     let second = has_digits(numeral_in(exponent));
-    let end = ends_here(past(Place::Sign, exponent));
+    let end = ends_here(past(InNumeral::Sign, exponent));
     first && caret && second && end
 }
 
@@ -151,17 +153,17 @@ fn past_weight(text: &[u8]) -> &[u8]
     ensures { result.now ≡ behind_weight text.now }
 {
     if is_weighted(text) {
-        past(Place::Blanks, past(Place::Sign, exponent_in(text)))
+        past(Run::Blanks, past(InNumeral::Sign, exponent_in(text)))
     } else {
         text
     }
 }
 
-fn may_expand(place: Place) -> bool
+fn may_expand(place: InLead) -> bool
     ensures { result ≡ is_at_dollar place }
 {
     match place {
-        Place::Lead => true,
+        InLead::Before => true,
         _ => false,
     }
 }
@@ -170,15 +172,15 @@ fn may_expand(place: Place) -> bool
 fn has_dollar(text: &[u8]) -> bool
     ensures { result ≡ is_expanded text.now }
 {
-    may_expand(reach(Place::Lead, text).place) && starts_with(DOLLAR, past(Place::Lead, text))
+    may_expand(reach(InLead::Before, text).place) && starts_with(DOLLAR, past(InLead::Before, text))
 }
 
 fn read_dollar_line(alloc: Global, text: &[u8]) -> Result<Blob, Memory>
     ensures { IfOk result (λ line. line ≡ dollar_line text.now) }
 {
-    let end = reach(Place::Dollar, text).length;
+    let end = reach(UpTo::Dollar, text).length;
     let mut line = without_indents(alloc, &text[..end])?;
-    let rest = without_joins(alloc, past(Place::Dollar, text))?;
+    let rest = without_joins(alloc, past(UpTo::Dollar, text))?;
     line.push_slice(rest.as_slice())?;
     Ok(line)
 }

@@ -4,7 +4,8 @@ ghost use Rattle.pm_recipe.specs.declared.joins.Side.TheVariants as Side;
 ghost use Rattle.pm_recipe.specs.Joins.{is_join, unjoined, unindented, before_blanks};
 ghost use Rattle.pm_recipe.specs.Kept.{is_dropped, side_after, kept, trimmed};
 
-use crate::places::{Place, newline_behind, reach};
+use crate::places::{newline_behind, reach};
+use crate::runs::Run;
 use pm_bytes::{BACKSLASH, Blob, Memory, is_blank};
 use std::alloc::Global;
 
@@ -99,6 +100,6 @@ fn without_last_blanks(text: &[u8]) -> &[u8]
 pub fn trim(text: &[u8]) -> &[u8]
     ensures { result.now ≡ trimmed text.now }
 {
-    let blanks = reach(Place::Blanks, text).length;
+    let blanks = reach(Run::Blanks, text).length;
     without_last_blanks(&text[blanks..])
 }

@@ -9,13 +9,17 @@ mod ends;
 mod fronts;
 mod joins;
 mod laws;
+mod leads;
+mod line_words;
 mod lines;
 mod names;
 mod newlines;
 mod places;
 mod quotes;
 mod reader;
+mod runs;
 mod tree;
+mod words;
 
 pub use laws::{colon_line_law, joins_law, letters_law, one_cut, one_rc};
 pub use reader::{RcRefused, read_rc};

@@ -1,7 +1,8 @@
 //! Statements at their first byte: assignments, unsettings, colon lines, the end of a block, and what isn't understood.
 ghost use Rattle.std.specs.Prelude.{◌≡◌, ◌≤◌, ◌<◌, ◌^◌, ◌+◌, length, true};
 ghost use Rattle.pm_recipe.specs.Places.{far};
-ghost use Rattle.pm_recipe.specs.declared.places.Place.TheVariants.{Name};
+ghost use Rattle.pm_recipe.specs.Runs.{run_places};
+ghost use Rattle.pm_recipe.specs.declared.runs.Run.TheVariants.{Name};
 ghost use Rattle.pm_recipe.specs.Front.{skipped, unclosed, assignment, ends_name, behind_name, name_width, named};
 ghost use Rattle.pm_recipe.specs.Front.{colon_front, statement_of, Within};
 ghost use Rattle.pm_recipe.specs.Opens.{Knows};
@@ -9,9 +10,11 @@ ghost use Rattle.pm_recipe.specs.Opens.{Knows};
 use crate::bytes::starts_with;
 use crate::colon_line::{from_lock, is_locked, is_recipe, past_colon_line, word_in};
 use crate::fronts::{Front, Kind, line_of};
+use crate::line_words::InTail;
 use crate::newlines::line_end;
-use crate::places::{Place, past, past_first, reach};
+use crate::places::{past, past_first, reach};
 use crate::quotes::leaves_quote;
+use crate::runs::Run;
 use pm_bytes::{CLOSE_BRACE, EQUALS, begins_name, is_space};
 
 fn skip(text: &[u8]) -> Front
@@ -24,7 +27,7 @@ fn skip(text: &[u8]) -> Front
     line_of(
         Kind::Skipped,
         0,
-        reach(Place::TailWord, past_first(text)).length + 1,
+        reach(InTail::Word, past_first(text)).length + 1,
     )
 }
 
@@ -48,8 +51,8 @@ fn assignment_at(known: &[bool], text: &[u8], mid: usize, before: usize, behind:
     ensures no_close { result.kind ≡ Kind.Close → ⊥ }
     ensures within { Within result (length text.now) }
 {
-    let from = before + reach(Place::Blanks, behind).length;
-    let value = past(Place::Blanks, behind);
+    let from = before + reach(Run::Blanks, behind).length;
+    let value = past(Run::Blanks, behind);
     if leaves_quote(known, value) {
         return skip_line(text);
     }
@@ -78,24 +81,24 @@ pub fn past_name(text: &[u8]) -> &[u8]
     ensures text { result.now ≡ behind_name text.now }
     ensures length { name_width text.now + length result.now ≡ length text.now }
 {
-    past(Place::Blanks, past(Place::Name, text))
+    past(Run::Blanks, past(Run::Name, text))
 }
 
 fn named_at(known: &[bool], text: &[u8]) -> Front
     requires knows { Knows known.now text.now }
     requires some { 0 < length text.now }
-    requires start { 0 < far Name text.now }
+    requires start { 0 < far run_places Name text.now }
     requires room { length text.now < 2 ^ 63 }
     ensures front { result ≡ named text.now }
     ensures no_open { result.kind ≡ Kind.Open → ⊥ }
     ensures no_close { result.kind ≡ Kind.Close → ⊥ }
     ensures within { Within result (length text.now) }
 {
-    let mid = reach(Place::Name, text).length;
-    let behind = past(Place::Name, text);
+    let mid = reach(Run::Name, text).length;
+    let behind = past(Run::Name, text);
     let rest = past_name(text);
     if starts_with(EQUALS, rest) {
-        let before = mid + reach(Place::Blanks, behind).length + 1;
+        let before = mid + reach(Run::Blanks, behind).length + 1;
         return assignment_at(known, text, mid, before, past_first(rest));
     }
     if is_name_end(behind) {

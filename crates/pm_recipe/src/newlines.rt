@@ -1,7 +1,8 @@
 //! The ends of lines.
 ghost use Rattle.std.specs.Prelude.{◌≡◌, ◌≤◌, length};
 ghost use Rattle.pm_recipe.specs.Places.{far};
-ghost use Rattle.pm_recipe.specs.declared.places.Place.TheVariants.{Comment};
+ghost use Rattle.pm_recipe.specs.Runs.{up_to_places};
+ghost use Rattle.pm_recipe.specs.declared.runs.UpTo.TheVariants.{Newline};
 ghost use Rattle.pm_recipe.specs.Spans.{newlines};
 
 use memchr::memchr;
@@ -9,7 +10,7 @@ use pm_bytes::NEWLINE;
 
 /// How far it is to the end of the line as written.
 pub fn line_end(text: &[u8]) -> usize
-    ensures length { result ≡ far Comment text.now }
+    ensures length { result ≡ far up_to_places Newline text.now }
     ensures within { result ≤ length text.now }
 {
     match memchr(NEWLINE, text) {

@@ -4,10 +4,11 @@ ghost use Rattle.std.specs.Prelude.{◌≡◌, ◌+◌, IfOk, length};
 ghost use Rattle.pm_recipe.specs.Opens.{Knows, word_before, double_before, backquote_before, inner_before, is_open};
 ghost use Rattle.pm_recipe.specs.Opens.{opens_before};
 ghost use Rattle.pm_recipe.specs.Colon.{is_unclosed};
-ghost use Rattle.pm_recipe.specs.declared.places.Place.TheVariants.{Word};
+ghost use Rattle.pm_recipe.specs.declared.words.InWord.TheVariants.{Plain};
 
 use crate::bytes::starts_with;
-use crate::places::{Place, in_quote, reach};
+use crate::places::reach;
+use crate::words::InWord;
 use pm_bytes::{BACKQUOTE, BACKSLASH, DOUBLE_QUOTE, HASH, Memory, SINGLE_QUOTE, is_space};
 use std::alloc::Global;
 
@@ -138,11 +139,11 @@ pub fn open_words(alloc: Global, text: &[u8]) -> Result<Vec<bool>, Memory>
 
 fn opens_quote(known: &[bool], text: &[u8]) -> bool
     requires { Knows known.now text.now }
-    ensures { result ≡ is_open Word text.now }
+    ensures { result ≡ is_open Plain text.now }
 {
     match known.get(text.len()) {
         Some(is_open) => *is_open,
-        None => in_quote(reach(Place::Word, text).place),
+        None => reach(InWord::Plain, text).place.in_quote(),
     }
 }
 
