@@ -3,22 +3,17 @@ ghost use Rattle.std.specs.Prelude.{◌≡◌, ◌<◌, IfOk, [], None, length, 
 ghost use Rattle.pm_recipe.specs.Tree as Act;
 ghost use Rattle.pm_recipe.specs.Tree.{nil};
 ghost use Rattle.pm_recipe.specs.View.{tree_of, act_of};
-ghost use Rattle.pm_recipe.specs.Joins.{unjoined};
 ghost use Rattle.pm_recipe.specs.Weights.{condition_of};
 ghost use Rattle.pm_recipe.specs.Colon.{has_junk};
 ghost use Rattle.pm_recipe.specs.Item.Item.{Begins, Judges, Does, Opens, Fails, Closes, States};
 ghost use Rattle.pm_recipe.specs.Ends.{missing};
-ghost use Rattle.pm_recipe.specs.Reads.{head_of, program_line, item_of};
+ghost use Rattle.pm_recipe.specs.Reads.{head_of};
 ghost use Rattle.pm_recipe.specs.Build.{put, top_of, with_junk};
 ghost use Rattle.pm_recipe.specs.Builder.{built_of, whole};
 ghost use Rattle.pm_recipe.specs.Steps.{Puts, GivesUp, Opened, Closed, Builds};
 
 use crate::colon_line::{is_junked, read_flags, read_lock};
 use crate::conditions::read_condition;
-use crate::fronts::Kind;
-use crate::joins::without_joins;
-use crate::places::past;
-use crate::runs::Run;
 use crate::tree::{Action, Condition, Flags, Recipe, Statement, Statements};
 use pm_bytes::{Blob, Memory};
 use std::alloc::Global;
@@ -76,13 +71,6 @@ fn read_head(alloc: Global, line: u64, text: &[u8]) -> Result<Head, Memory>
         flags,
         lock,
     })
-}
-
-fn read_program(alloc: Global, text: &[u8]) -> Result<Blob, Memory>
-    ensures { IfOk result (λ line. line ≡ program_line text.now) }
-{
-    let line = without_joins(alloc, text)?;
-    Blob::from_slice(alloc, past(Run::Blanks, line.as_slice()))
 }
 
 impl Builder {
@@ -160,34 +148,12 @@ impl Builder {
     }
 
     /// A statement that isn't a recipe.
-    fn state(&mut self, statement: Statement) -> Result<(), Memory>
+    pub fn state(&mut self, statement: Statement) -> Result<(), Memory>
         ensures { IfOk result (λ _. Builds self.old self.new (States (tree_of statement))) }
     {
         self.give_up()?;
         self.put(statement)?;
         Ok(())
-    }
-
-    fn assign(&mut self, name: &[u8], value: &[u8]) -> Result<(), Memory>
-        ensures { IfOk result (λ _. Builds self.old self.new (States (Act.Assign (unjoined name.now) value.now))) }
-    {
-        let name = without_joins(self.alloc, name)?;
-        let value = Blob::from_slice(self.alloc, value)?;
-        self.state(Statement::Assign { name, value })
-    }
-
-    fn unset(&mut self, name: &[u8]) -> Result<(), Memory>
-        ensures { IfOk result (λ _. Builds self.old self.new (States (Act.Unset (unjoined name.now)))) }
-    {
-        let name = without_joins(self.alloc, name)?;
-        self.state(Statement::Unset { name })
-    }
-
-    fn skip(&mut self, line: u64, text: &[u8]) -> Result<(), Memory>
-        ensures { IfOk result (λ _. Builds self.old self.new (States (Act.Defect line text.now))) }
-    {
-        let text = Blob::from_slice(self.alloc, text)?;
-        self.state(Statement::Defect { line, text })
     }
 
     /// Tells that braces are missing.
@@ -199,7 +165,7 @@ impl Builder {
     }
 
     /// A recipe begins.
-    fn begin(&mut self, line: u64, text: &[u8]) -> Result<(), Memory>
+    pub fn begin(&mut self, line: u64, text: &[u8]) -> Result<(), Memory>
         ensures { IfOk result (λ _. Builds self.old self.new (Begins (head_of line text.now) (has_junk text.now))) }
     {
         self.give_up()?;
@@ -213,7 +179,7 @@ impl Builder {
     }
 
     /// A condition of the recipe that has begun.
-    fn condition(&mut self, text: &[u8]) -> Result<(), Memory>
+    pub fn condition(&mut self, text: &[u8]) -> Result<(), Memory>
         ensures { IfOk result (λ _. Builds self.old self.new (Judges (condition_of text.now))) }
     {
         if let Some(begun) = &mut self.begun {
@@ -224,7 +190,7 @@ impl Builder {
     }
 
     /// The action of the recipe that has begun.
-    fn act(&mut self, action: Action) -> Result<(), Memory>
+    pub fn act(&mut self, action: Action) -> Result<(), Memory>
         ensures { IfOk result (λ _. Builds self.old self.new (Does (act_of action))) }
     {
         match self.begun.take() {
@@ -233,38 +199,8 @@ impl Builder {
         }
     }
 
-    fn mailbox(&mut self, text: &[u8]) -> Result<(), Memory>
-        ensures { IfOk result (λ _. Builds self.old self.new (Does (Act.Mailbox (unjoined text.now)))) }
-    {
-        let text = without_joins(self.alloc, text)?;
-        self.act(Action::Mailbox(text))
-    }
-
-    fn forward(&mut self, text: &[u8]) -> Result<(), Memory>
-        ensures { IfOk result (λ _. Builds self.old self.new (Does (Act.Forward (unjoined text.now)))) }
-    {
-        let text = without_joins(self.alloc, text)?;
-        self.act(Action::Forward(text))
-    }
-
-    fn pipe(&mut self, text: &[u8]) -> Result<(), Memory>
-        ensures { IfOk result (λ _. Builds self.old self.new (Does (Act.Pipe (program_line text.now)))) }
-    {
-        let line = read_program(self.alloc, text)?;
-        self.act(Action::Pipe(line))
-    }
-
-    fn capture(&mut self, name: &[u8], text: &[u8]) -> Result<(), Memory>
-        ensures { IfOk result (λ _. Builds self.old self.new
-            (Does (Act.Capture (unjoined name.now) (program_line text.now)))) }
-    {
-        let name = without_joins(self.alloc, name)?;
-        let line = read_program(self.alloc, text)?;
-        self.act(Action::Capture { name, line })
-    }
-
     /// A defect in place of the recipe that has begun.
-    fn fail(&mut self, line: u64, text: &[u8]) -> Result<(), Memory>
+    pub fn fail(&mut self, line: u64, text: &[u8]) -> Result<(), Memory>
         ensures { IfOk result (λ _. Builds self.old self.new (Fails line text.now)) }
     {
         match self.begun.take() {
@@ -288,7 +224,7 @@ impl Builder {
     }
 
     /// The recipe that has begun opens a block.
-    fn open(&mut self) -> Result<(), Memory>
+    pub fn open(&mut self) -> Result<(), Memory>
         requires { IsSome self.old.begun }
         ensures { IfOk result (λ _. Builds self.old self.new Opens) }
     {
@@ -321,31 +257,6 @@ impl Builder {
         match self.levels.pop_front() {
             None => unreachable!(),
             Some(level) => self.close_level(level),
-        }
-    }
-
-    /// The span that stands in front.
-    pub fn take(&mut self, kind: Kind, line: u64, name: &[u8], text: &[u8]) -> Result<(), Memory>
-        requires begun { kind ≡ Kind.Open → IsSome self.old.begun }
-        requires block { kind ≡ Kind.Close → 0 < length self.old.levels.items }
-        ensures { IfOk result (λ _. Builds self.old self.new
-            (item_of (record { kind = kind; line = line; name = name.now; text = text.now }) kind)) }
-    {
-        match kind {
-            Kind::Gap => Ok(()),
-            Kind::Colon => self.begin(line, text),
-            Kind::Condition => self.condition(text),
-            Kind::Mailbox => self.mailbox(text),
-            Kind::Pipe => self.pipe(text),
-            Kind::Capture => self.capture(name, text),
-            Kind::Forward => self.forward(text),
-            Kind::WriteOut => self.act(Action::WriteOut),
-            Kind::Open => self.open(),
-            Kind::TooDeep => self.fail(line, text),
-            Kind::Close => self.close(),
-            Kind::Assign => self.assign(name, text),
-            Kind::Unset => self.unset(name),
-            Kind::Skipped => self.skip(line, text),
         }
     }
 

@@ -7,6 +7,7 @@ mod colon_line;
 mod conditions;
 mod ends;
 mod fronts;
+mod items;
 mod joins;
 mod laws;
 mod leads;

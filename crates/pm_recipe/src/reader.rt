@@ -10,6 +10,7 @@ ghost use Rattle.pm_recipe.specs.Builder.{built_of, whole, Stands};
 use crate::building::Builder;
 use crate::ends::{Unended, none_unended, tell_missing, unended_behind};
 use crate::fronts::{Kind, front_at, situation_behind, statements_in};
+use crate::items::take_span;
 use crate::newlines::newlines_in;
 use crate::quotes::open_words;
 use crate::tree::{Rc, Statements};
@@ -64,7 +65,8 @@ fn read_statements(alloc: Global, bytes: &[u8]) -> Result<Statements, Memory>
         let rest = &bytes[at..];
         let front = front_at(&known, &situation, rest);
         learn(alloc, front.kind, bytes, &mut known)?;
-        builder.take(
+        take_span(
+            &mut builder,
             front.kind,
             line,
             &rest[..front.mid],

@@ -27,11 +27,11 @@ loop-at-preserved c =
       within = omega (arith, length-drop at text, within.taken);
       line = omega (arith, c.newlines_in-line.ensures.within, length-take front.taken here, c.loop-at.invariant.line);
       depth = omega (arith, c.situation_behind-situation.ensures.bound, within.some);
-      suits = rw c.situation_behind-situation.ensures.after (suits-after _ _ (span_of front c.loop-at.line here) front.kind c.loop-at.situation c.in_ok-take.ensures c.loop-at.invariant.suits);
+      suits = rw c.situation_behind-situation.ensures.after (suits-after _ _ (span_of front c.loop-at.line here) front.kind c.loop-at.situation c.in_ok-take_span.ensures c.loop-at.invariant.suits);
       goes_on = (
         blocks,
         rw c.situation_behind-situation.ensures.after (c.unended_behind-unended.ensures old.0 old.1),
-        c.in_ok-take.ensures.built (ahead_of (items_at (c.loop-at.line + c.newlines_in-line.result) situation blocks (drop (at + front.taken) text)))
+        c.in_ok-take_span.ensures.built (ahead_of (items_at (c.loop-at.line + c.newlines_in-line.result) situation blocks (drop (at + front.taken) text)))
             ∙ ap (λ is. whole (built_of c.loop-at.builder) is) (sym (turned c.loop-at.line c.loop-at.situation old.0 text at here front _ _
             c.loop-at-test.true here_is c.front_at-front.ensures.front (ap (λ n. c.loop-at.line + n) c.newlines_in-line.ensures.count)
             c.situation_behind-situation.ensures.after))
