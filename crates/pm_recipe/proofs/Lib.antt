@@ -10,6 +10,7 @@ pub mod Forms
 pub mod WordRuns
 pub mod Quoted
 pub mod Worded
+pub mod Left
 pub mod Taking
 pub mod Shapes
 pub mod Pieces

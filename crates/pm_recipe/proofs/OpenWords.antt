@@ -1,5 +1,5 @@
 -- Whether words leave a quote open, one byte further to the left.
-use Rattle.std.proofs.Common.{◌≡◌, ◌+◌, ◌<◌, ◌≤◌, ℕ, Bool, true, false, cond, nat_eq, nat_lt, List, [], ◌∷◌, ◌++◌, refl, ap, sym, ◌∙◌, length, take, drop, get_or, arith, length-append, append_assoc}
+use Rattle.std.proofs.Common.{◌≡◌, ◌+◌, ◌<◌, ◌≤◌, ℕ, Bool, true, false, cond, nat_eq, nat_lt, List, [], ◌∷◌, ◌++◌, refl, ap, sym, ◌∙◌, length, take, drop, get_or, arith, subst, length-append, append_assoc}
 use Rattle.std.proofs.lemmas.List.{take-append-drop, drop_at, get_or_append_left, get_or_push}
 use Rattle.std.proofs.lemmas.Bool.Decides.{nat_tests}
 use Rattle.pm_bytes.specs.Alphabet.{SINGLE_QUOTE, DOUBLE_QUOTE, BACKQUOTE, BACKSLASH}
@@ -10,7 +10,8 @@ use Rattle.pm_recipe.specs.WordPlaces.{word_places, is_quote}
 use Rattle.pm_recipe.specs.declared.words.InWord.TheVariants as InWord
 use Rattle.pm_recipe.specs.Opens.{is_open, AreOpens, opens_before, word_before, Knows}
 use Rattle.pm_recipe.specs.Colon.{lock_part, behind_flags}
-use Rattle.pm_recipe.specs.Front.{behind_name}
+use Rattle.pm_recipe.proofs.Left.{IsLeft}
+use Rattle.pm_recipe.specs.Front.{behind_name, behind_equals}
 
 -- a byte of a word
 word-open : (byte : ℕ) (opens : Opens) (rest : List ℕ) → AreOpens opens rest → word_before byte opens ≡ is_open InWord.Plain (byte ∷ rest)
@@ -71,6 +72,9 @@ knows-drop known k text knows = record {
       knows.at (take k text ++ front) rest (sym (take-append-drop k text) ∙ ap (λ xs. take k text ++ xs) is ∙ sym (append_assoc (take k text) front rest)) less;
 }
 
+pub knows-left : (known : List Bool) (left text : List ℕ) → IsLeft left text → Knows known text → Knows known left
+knows-left known left text h knows = subst (λ xs. Knows known xs) (sym h.left_is) (knows-drop known h.count text knows)
+
 pub knows-none : (known : List Bool) (text : List ℕ) → known ≡ [] → Knows known text
 knows-none known text none = record { at = λ front rest is less. absurd (omega (arith, less, ap length none)) }
 
@@ -94,5 +98,6 @@ pub knows-lock : (known : List Bool) (text : List ℕ) → Knows known text → 
 knows-lock known text k =
     knows-drop known _ _ (knows-drop known 1 (behind_flags text) (knows-drop known _ _ (knows-drop known 1 _ (knows-drop known _ _ (knows-drop known 1 text k)))))
 
-pub knows-value : (known : List Bool) (text : List ℕ) → Knows known text → Knows known (drop 1 (behind_name text))
-knows-value known text k = knows-drop known 1 (behind_name text) (knows-drop known _ _ (knows-drop known _ text k))
+pub knows-value : (known : List Bool) (text : List ℕ) → Knows known text → Knows known (behind_equals text)
+knows-value known text k =
+    knows-drop known _ _ (knows-drop known 1 (behind_name text) (knows-drop known _ _ (knows-drop known _ text k)))

@@ -1,16 +1,15 @@
 -- The pieces of a text, and that they are a cut of it.
-use Rattle.std.proofs.Common.{◌≡◌, ◌+◌, ◌-◌, ◌<◌, ℕ, zero, suc, List, [], ◌∷◌, refl, ap, sym, ◌∙◌, length, take, drop, arith, subst, length-drop}
-use Rattle.std.proofs.lemmas.List.{take-append-drop, drop-drop}
-use Rattle.pm_recipe.specs.declared.fronts.Front.{Front}
+use Rattle.std.proofs.Common.{◌≡◌, ◌+◌, ◌-◌, ◌<◌, ℕ, zero, suc, List, [], ◌∷◌, refl, ap, sym, ◌∙◌, length, take, drop, arith, subst}
 use Rattle.pm_recipe.specs.declared.fronts.Situation.{Situation}
-use Rattle.pm_recipe.specs.Front.{front_of}
+use Rattle.pm_recipe.specs.Front.{Front, front_of, before}
 use Rattle.pm_recipe.specs.Spans.{span_of, line_past, newlines, situation_after, start}
-use Rattle.pm_recipe.specs.Spells.{Piece, IsCut}
+use Rattle.pm_recipe.specs.Spells.{IsCut}
 use Rattle.pm_recipe.specs.Item.{Item}
 use Rattle.pm_recipe.specs.Reads.{item_of}
 use Rattle.pm_recipe.specs.Ends.{Blocks, blocks_after}
 use Rattle.pm_recipe.specs.Listed.{pieces, pieces_of, items_from}
 use Rattle.pm_recipe.proofs.Cut.{line-newlines}
+use Rattle.pm_recipe.proofs.Left.{IsLeft, left-more, shorter, before-left, take-before, drop-before, some-before}
 use Rattle.pm_recipe.proofs.Shapes.{front-stands, front-spells}
 
 -- what stands in a text from a line, a situation and open blocks on
@@ -27,40 +26,40 @@ pieces-drop (suc skip) line situation (byte ∷ bytes) =
     ∙ ap (λ n. pieces zero n situation (drop skip bytes)) (line-newlines byte line (take skip bytes))
 
 -- the first piece, and the pieces behind it
-pub pieces-turn : (line : ℕ) (situation : Situation) (whole : List ℕ) → 0 < length whole
-    → pieces zero line situation whole
-    ≡ (record { span = span_of (front_of situation whole) line whole; bytes = take (front_of situation whole).taken whole })
-    ∷ pieces zero (line + newlines (take (front_of situation whole).taken whole)) (situation_after (front_of situation whole).kind situation)
-    (drop (front_of situation whole).taken whole)
+pub pieces-turn : (line : ℕ) (situation : Situation) (whole : List ℕ) → 0 < length whole → (let front = front_of situation whole in
+    pieces zero line situation whole
+    ≡ (record { span = span_of front line; bytes = before whole front.behind })
+    ∷ pieces zero (line + newlines (before whole front.behind)) (situation_after front.kind situation) front.behind)
 pieces-turn line situation [] some = absurd (omega arith)
 pieces-turn line situation (byte ∷ bytes) some =
     let front = front_of situation (byte ∷ bytes) in
     let after = situation_after front.kind situation in
-    let all : suc (front.taken - 1) ≡ front.taken = omega (arith, (front-stands situation byte bytes).0) in
-    let P : ℕ → List Piece = λ n. pieces zero (line + newlines (take n (byte ∷ bytes))) after (drop n (byte ∷ bytes)) in
-    ap (λ ps. (record { span = span_of front line (byte ∷ bytes); bytes = take front.taken (byte ∷ bytes) }) ∷ ps)
-    (pieces-drop (suc (front.taken - 1)) line after (byte ∷ bytes) ∙ ap P all)
+    let left = (front-stands situation byte bytes).0 in
+    let skip = length bytes - length front.behind in
+    ap (λ ps. (record { span = span_of front line; bytes = before (byte ∷ bytes) front.behind }) ∷ ps)
+    (pieces-drop (suc skip) line after (byte ∷ bytes)
+    ∙ ap (λ xs. pieces zero (line + newlines xs) after (drop skip bytes)) (take-before front.behind byte bytes left)
+    ∙ ap (λ xs. pieces zero (line + newlines (before (byte ∷ bytes) front.behind)) after xs) (drop-before front.behind byte bytes left))
 
 -- what its span says, and what stands behind it
-items-turn : (line : ℕ) (situation : Situation) (blocks : Blocks) (text : List ℕ) (front : Front)
+pub turned : (line : ℕ) (situation : Situation) (blocks : Blocks) (text : List ℕ) (front : Front) (line_now : ℕ) (situation_now : Situation)
     → 0 < length text → front ≡ front_of situation text
+    → line_now ≡ line + newlines (before text front.behind) → situation_now ≡ situation_after front.kind situation
     → items_at line situation blocks text
-    ≡ item_of (span_of front line text) front.kind
-    ∷ items_at (line + newlines (take front.taken text)) (situation_after front.kind situation) (blocks_after front.kind line blocks) (drop front.taken text)
-items-turn line situation blocks text front h is =
-    let P : Front → Type 0 = λ f. items_at line situation blocks text ≡ item_of (span_of f line text) f.kind
-    ∷ items_at (line + newlines (take f.taken text)) (situation_after f.kind situation) (blocks_after f.kind line blocks) (drop f.taken text) in
-    subst P (sym is) (ap (items_from situation blocks) (pieces-turn line situation text h))
+    ≡ item_of (span_of front line) front.kind ∷ items_at line_now situation_now (blocks_after front.kind line blocks) front.behind
+turned line situation blocks text front line_now situation_now some is line_is situation_is =
+    let P : Front → Type 0 = λ f. items_at line situation blocks text ≡ item_of (span_of f line) f.kind
+    ∷ items_at (line + newlines (before text f.behind)) (situation_after f.kind situation) (blocks_after f.kind line blocks) f.behind in
+    rw (line_is, situation_is) (subst P (sym is) (ap (items_from situation blocks) (pieces-turn line situation text some)))
 
--- a turn at a place of the text
-pub turned : (line : ℕ) (situation : Situation) (blocks : Blocks) (text : List ℕ) (at : ℕ) (here : List ℕ) (front : Front) (line_now : ℕ) (situation_now : Situation)
-    → at < length text → drop at text ≡ here → front ≡ front_of situation here
-    → line_now ≡ line + newlines (take front.taken here) → situation_now ≡ situation_after front.kind situation
-    → items_at line situation blocks (drop at text)
-    ≡ item_of (span_of front line here) front.kind ∷ items_at line_now situation_now (blocks_after front.kind line blocks) (drop (at + front.taken) text)
-turned line situation blocks text at here front line_now situation_now h here_is front_is line_is situation_is =
-    let some_left : 0 < length here = subst (λ xs. 0 < length xs) here_is (omega (arith, length-drop at text)) in
-    rw (line_is, situation_is, ← drop-drop front.taken at text, here_is) (items-turn line situation blocks here front some_left front_is)
+-- a front leaves less than the text
+pub leaves : (situation : Situation) (text : List ℕ) (front : Front) → 0 < length text → front ≡ front_of situation text
+    → IsLeft front.behind text × (length front.behind < length text)
+leaves situation [] front some is = absurd (omega arith)
+leaves situation (byte ∷ bytes) front some is =
+    let left = (front-stands situation byte bytes).0 in
+    subst (λ f. IsLeft f.behind (byte ∷ bytes) × (length f.behind < length (byte ∷ bytes))) (sym is)
+    (left-more _ byte bytes left, omega (arith, shorter _ bytes left))
 
 -- the pieces behind bytes that are passed over cut what follows these
 cut-behind : (skip line : ℕ) (situation : Situation) (text : List ℕ)
@@ -71,21 +70,25 @@ cut-behind (suc skip) line situation (byte ∷ bytes) =
     subst (λ n. IsCut n situation (pieces skip (line_past byte line) situation bytes) (drop skip bytes)) (line-newlines byte line (take skip bytes))
     (cut-behind skip (line_past byte line) situation bytes)
 cut-behind zero line situation (byte ∷ bytes) =
-    let front = front_of situation (byte ∷ bytes) in
-    let stands = front-stands situation byte bytes in
-    let here : line ≡ line + newlines (take zero (byte ∷ bytes)) = omega arith in
-    let all : suc (front.taken - 1) ≡ front.taken = omega (arith, stands.0) in
-    let rest = pieces (front.taken - 1) (line_past byte line) (situation_after front.kind situation) bytes in
-    let ends : drop (front.taken - 1) bytes ≡ drop front.taken (byte ∷ bytes) = ap (λ k. drop k (byte ∷ bytes)) all in
-    let starts : byte ∷ take (front.taken - 1) bytes ≡ take front.taken (byte ∷ bytes) = ap (λ k. take k (byte ∷ bytes)) all in
-    let more : IsCut (line + newlines (take front.taken (byte ∷ bytes))) (situation_after front.kind situation) rest (drop front.taken (byte ∷ bytes)) =
-    subst (λ xs. IsCut (line + newlines (take front.taken (byte ∷ bytes))) (situation_after front.kind situation) rest xs) ends
-    (subst (λ n. IsCut n (situation_after front.kind situation) rest (drop (front.taken - 1) bytes))
-    (line-newlines byte line (take (front.taken - 1) bytes) ∙ ap (λ xs. line + newlines xs) starts)
-    (cut-behind (front.taken - 1) (line_past byte line) (situation_after front.kind situation) bytes)) in
-    let some : 0 < length (take front.taken (byte ∷ bytes)) = subst (λ xs. 0 < length xs) starts (omega arith) in
-    subst (λ n. IsCut n situation (pieces zero line situation (byte ∷ bytes)) (byte ∷ bytes)) here
-    (drop front.taken (byte ∷ bytes), sym (take-append-drop front.taken (byte ∷ bytes)), refl, some, front-spells situation (byte ∷ bytes) front refl stands, more)
+    let text : List ℕ = byte ∷ bytes in
+    let front = front_of situation text in
+    let left = (front-stands situation byte bytes).0 in
+    let after = situation_after front.kind situation in
+    let skip = length bytes - length front.behind in
+    let here : line ≡ line + newlines (take zero text) = omega arith in
+    let starts : byte ∷ take skip bytes ≡ before text front.behind = take-before front.behind byte bytes left in
+    let more : IsCut (line + newlines (before text front.behind)) after (pieces skip (line_past byte line) after bytes) front.behind =
+    subst (λ xs. IsCut (line + newlines (before text front.behind)) after (pieces skip (line_past byte line) after bytes) xs) (drop-before front.behind byte bytes left)
+    (subst (λ n. IsCut n after (pieces skip (line_past byte line) after bytes) (drop skip bytes))
+    (line-newlines byte line (take skip bytes) ∙ ap (λ xs. line + newlines xs) starts) (cut-behind skip (line_past byte line) after bytes)) in
+    subst (λ n. IsCut n situation (pieces zero line situation text) text) here (
+      front.behind,
+      sym (before-left front.behind text (left-more front.behind byte bytes left)),
+      refl,
+      some-before front.behind byte bytes left,
+      front-spells situation byte bytes,
+      more,
+    )
 
 pub cut-text : (text : List ℕ) → IsCut 1 start (pieces_of text) text
 cut-text text = cut-behind 0 1 start text

@@ -1,16 +1,16 @@
 -- What stands at the front of a text is spelled as its kind is.
-use Rattle.std.proofs.Common.{◌≡◌, ◌+◌, ◌-◌, ◌<◌, ◌≤◌, ℕ, zero, suc, Bool, true, false, not, ◌&&◌, ◌||◌, cond, nat_eq, nat_le, nat_lt, List, [], ◌∷◌, ◌++◌, refl, ap, sym, ◌∙◌, length, take, drop, arith, subst, slice_range, length-drop}
-use Rattle.std.proofs.lemmas.List.{take-append-drop, drop-drop, drop_at, take_all, drop_all}
+use Rattle.std.proofs.Common.{◌≡◌, ◌-◌, ◌<◌, ◌≤◌, ℕ, suc, Bool, true, false, not, ◌&&◌, ◌||◌, cond, nat_eq, nat_le, nat_lt, List, [], ◌∷◌, ◌++◌, refl, ap, sym, ◌∙◌, length, take, drop, arith, subst}
+use Rattle.std.proofs.lemmas.List.{take-append-drop, drop_at, take_all, drop_all}
 use Rattle.std.proofs.lemmas.Bool.{cond_both}
 use Rattle.std.proofs.lemmas.Bool.Decides.{nat_tests}
 use Rattle.pm_bytes.specs.Letter.{is_blank_byte, is_digit_byte, is_name_byte, is_name_start, is_space_byte}
 use Rattle.pm_recipe.specs.Bytes.{begins_with}
 use Rattle.pm_bytes.specs.Alphabet.{NEWLINE, HASH, STAR, OPEN_BRACE, CLOSE_BRACE, COLON, EQUALS, BAR, BANG, BACKSLASH}
-use Rattle.pm_recipe.specs.declared.fronts.Front.{Front}
+use Rattle.pm_recipe.proofs.Left.{IsLeft, left-self, left-drop, left-of, left-more, before-drop, before-left}
 use Rattle.pm_recipe.specs.declared.fronts.Situation.{Situation}
 use Rattle.pm_recipe.specs.declared.fronts.Kind.{Kind}
 use Rattle.pm_recipe.specs.declared.fronts.Kind.TheVariants as kind
-use Rattle.pm_recipe.specs.Places.{reach_of, far, behind}
+use Rattle.pm_recipe.specs.Places.{reach_of, far, passed, behind}
 use Rattle.pm_recipe.specs.declared.runs.Run.TheVariants as Run
 use Rattle.pm_recipe.specs.declared.runs.UpTo.TheVariants as UpTo
 use Rattle.pm_recipe.specs.declared.line_words.InFlags.TheVariants as InFlags
@@ -18,10 +18,10 @@ use Rattle.pm_recipe.specs.declared.line_words.InTail.TheVariants as InTail
 use Rattle.pm_recipe.specs.Runs.{run_places, up_to_places}
 use Rattle.pm_recipe.specs.LineWords.{flag_places, tail_places}
 use Rattle.pm_recipe.specs.Colon.{word_length, is_unclosed, begins_recipe, has_lock, lock_part, behind_lock, behind_flags, behind_colon}
-use Rattle.pm_recipe.specs.Front.{front_of, piece, gap, line_front, ends_name, behind_name, name_width, named, statement_of, opens, ends_line, behind_equals, captures, capture, brace, recipe_line, most_blocks}
-use Rattle.pm_recipe.specs.Words.{belongs, IsRun, IsLine, AreBlanks, IsName, AreJoins, in_line}
+use Rattle.pm_recipe.specs.Front.{Front, before, front_of, piece, gap, whole_front, line_front, ends_name, behind_name, named, statement_of, opens, ends_line, behind_equals, captures, capture, other_action, brace, recipe_line, most_blocks}
+use Rattle.pm_recipe.specs.Words.{belongs, IsRun, AreBlanks, IsName, AreJoins, in_line}
 use Rattle.pm_recipe.specs.Quotes.{IsValue}
-use Rattle.pm_recipe.specs.Spells.{IsGap, IsMarked, IsOpened, IsNamed, IsSet, IsHead, IsLockHead, IsColonLine, HasForm, HasNone, IsBroken, IsUnclosed, IsMailbox, IsJunk, Spells}
+use Rattle.pm_recipe.specs.Spells.{IsMarked, IsOpened, IsNamed, IsSet, IsHead, IsLockHead, IsColonLine, HasForm, HasNone, IsBroken, IsUnclosed, IsMailbox, IsJunk, Spells}
 use Rattle.pm_recipe.specs.Spells.IsBroken.{Value, Lock}
 use Rattle.pm_recipe.specs.Spells.IsSkipped.{Broken, Other}
 use Rattle.pm_recipe.specs.Spells.IsGap.{Space, Join, Comment}
@@ -29,8 +29,8 @@ use Rattle.pm_recipe.specs.Spells.IsColonLine.{Plain, Locked}
 use Rattle.pm_recipe.proofs.RunLengths.{run, go}
 use Rattle.pm_recipe.proofs.WordRuns.{flags-run, tail-run, true-false, line-ends}
 use Rattle.pm_recipe.proofs.Worded.{value-read, read-value}
-use Rattle.pm_recipe.proofs.Forms.{equal, and-left, and-right, line-run, blanks-run, name-run, joins-run, begins-cons, three, rest-run}
-use Rattle.pm_recipe.proofs.Taking.{taken, known, known-head, to-value, other-name, blanks-are, blanks-far}
+use Rattle.pm_recipe.proofs.Forms.{equal, and-left, and-right, line-run, blanks-run, name-run, joins-run, begins-cons, rest-run}
+use Rattle.pm_recipe.proofs.Taking.{taken, known, known-head, other-name, blanks-are, blanks-far}
 
 -- what a span is apart from what has no form
 abbrev pub Shape : Situation → Kind → List ℕ → List ℕ → List ℕ → List ℕ → Type 0
@@ -38,42 +38,26 @@ Shape situation kind.Mailbox name text bytes last = IsMailbox situation name tex
 Shape situation kind.Skipped name text bytes last = IsJunk situation name text bytes last
 Shape situation sort name text bytes last = HasForm situation sort name text bytes last
 
--- a front takes something and has its kind's shape
+-- something stands before what a front leaves, and has its kind's shape
 abbrev pub Stands : Situation → List ℕ → Front → Type 0
 Stands situation text front =
-    (0 < front.taken) × Shape situation front.kind (take front.mid text) (slice_range text front.from front.to) (take front.taken text) (drop front.taken text)
+    IsLeft front.behind (drop 1 text) × Shape situation front.kind front.name front.text (before text front.behind) front.behind
 
 or-right : (a b : Bool) → (a || b) ≡ false → b ≡ false
 or-right true b h = true-false h
 or-right false b h = h
 
--- a line behind a byte
-marked : (Q : List ℕ → List ℕ → List ℕ → Type 0) (byte : ℕ) (bytes : List ℕ)
-    → Q (take (far run_places Run.Line bytes) bytes) (byte ∷ take (far run_places Run.Line bytes) bytes) (drop (far run_places Run.Line bytes) bytes)
-    → Q (slice_range (byte ∷ bytes) 1 (far run_places Run.Line bytes + 1)) (take (far run_places Run.Line bytes + 1) (byte ∷ bytes)) (drop (far run_places Run.Line bytes + 1) (byte ∷ bytes))
-marked Q byte bytes h =
-    let n = far run_places Run.Line bytes in
-    let e : suc n ≡ n + 1 = omega arith in
-    let f : n ≡ n + 1 - 1 = omega arith in
-    three Q (take n bytes) (byte ∷ take n bytes) (drop n bytes) (take (n + 1 - 1) bytes) (take (n + 1) (byte ∷ bytes)) (drop (n + 1) (byte ∷ bytes))
-    (ap (λ k. take k bytes) f) (ap (λ k. take k (byte ∷ bytes)) e) (ap (λ k. drop k (byte ∷ bytes)) e) h
+-- a byte and others
+marked : (Q : List ℕ → Type 0) (n byte : ℕ) (bytes : List ℕ) → Q (byte ∷ take n bytes) → Q (before (byte ∷ bytes) (drop n bytes))
+marked Q n byte bytes h = subst Q (sym (before-drop (suc n) (byte ∷ bytes))) h
 
 mark-line : (mark byte : ℕ) (bytes : List ℕ) → nat_eq byte mark ≡ true
     → IsMarked mark (take (far run_places Run.Line bytes) bytes) (byte ∷ take (far run_places Run.Line bytes) bytes) (drop (far run_places Run.Line bytes) bytes)
 mark-line mark byte bytes h = record { bytes_are = ap (λ b. b ∷ take (far run_places Run.Line bytes) bytes) (equal byte mark h); line = line-run bytes }
 
--- a text from its first byte on
-whole : (Q : List ℕ → List ℕ → List ℕ → Type 0) (n byte : ℕ) (bytes : List ℕ) → Q (byte ∷ take n bytes) (byte ∷ take n bytes) (drop n bytes)
-    → Q (slice_range (byte ∷ bytes) 0 (n + 1)) (take (n + 1) (byte ∷ bytes)) (drop (n + 1) (byte ∷ bytes))
-whole Q n byte bytes h =
-    let e : suc n ≡ n + 1 = omega arith in
-    let f : suc n ≡ n + 1 - 0 = omega arith in
-    three Q (byte ∷ take n bytes) (byte ∷ take n bytes) (drop n bytes) (take (n + 1 - 0) (byte ∷ bytes)) (take (n + 1) (byte ∷ bytes)) (drop (n + 1) (byte ∷ bytes))
-    (ap (λ k. take k (byte ∷ bytes)) f) (ap (λ k. take k (byte ∷ bytes)) e) (ap (λ k. drop k (byte ∷ bytes)) e) h
-
 mailbox-stands : (situation : Situation) (byte : ℕ) (bytes : List ℕ) → (situation.in_recipe && not (nat_eq byte CLOSE_BRACE || nat_eq byte COLON)) ≡ true
     → is_space_byte byte ≡ false → (nat_eq byte BACKSLASH && begins_with 10 bytes) ≡ false
-    → Stands situation (byte ∷ bytes) (line_front kind.Mailbox 0 (far run_places Run.Line bytes + 1))
+    → Stands situation (byte ∷ bytes) (whole_front kind.Mailbox (byte ∷ bytes) (behind run_places Run.Line bytes))
 mailbox-stands situation byte bytes here space join =
     let n = far run_places Run.Line bytes in
     let r : IsRun in_line byte (take n bytes) (drop n bytes) =
@@ -81,43 +65,25 @@ mailbox-stands situation byte bytes here space join =
     (run Run.Line byte bytes) in
     let first : belongs in_line 0 byte (take n bytes ++ drop n bytes) ≡ true =
     ap (λ b. not b || (nat_eq byte BACKSLASH && begins_with 10 (take n bytes ++ drop n bytes)) || false) (or-right (is_blank_byte byte) (nat_eq byte NEWLINE) space) in
-    (omega arith, whole (λ t b r. IsMailbox situation [] t b r) n byte bytes (here, refl, refl, (first, r)))
+    (left-of n bytes, marked (λ t. IsMailbox situation [] t t (drop n bytes)) n byte bytes (here, refl, refl, (first, r)))
 
 -- what isn't understood
 broken-stands : (situation : Situation) (byte : ℕ) (bytes : List ℕ) → (situation.in_recipe && not (nat_eq byte CLOSE_BRACE || nat_eq byte COLON)) ≡ false
-    → IsBroken (byte ∷ bytes) → Stands situation (byte ∷ bytes) (line_front kind.Skipped 0 (far up_to_places UpTo.Newline bytes + 1))
+    → IsBroken (byte ∷ bytes) → Stands situation (byte ∷ bytes) (whole_front kind.Skipped (byte ∷ bytes) (behind up_to_places UpTo.Newline bytes))
 broken-stands situation byte bytes here broken =
     let n = far up_to_places UpTo.Newline bytes in
     let again : IsBroken (byte ∷ (take n bytes ++ drop n bytes)) = subst (λ xs. IsBroken (byte ∷ xs)) (sym (take-append-drop n bytes)) broken in
-    (omega arith, whole (λ t b r. IsJunk situation [] t b r) n byte bytes (here, refl, refl, Broken byte (take n bytes) refl (rest-run bytes) again))
+    (left-of n bytes, marked (λ t. IsJunk situation [] t t (drop n bytes)) n byte bytes (here, refl, refl, Broken byte (take n bytes) refl (rest-run bytes) again))
 
 other-stands : (situation : Situation) (byte : ℕ) (bytes : List ℕ) → (situation.in_recipe && not (nat_eq byte CLOSE_BRACE || nat_eq byte COLON)) ≡ false
-    → (IsBroken (byte ∷ bytes) → ⊥) → Stands situation (byte ∷ bytes) (line_front kind.Skipped 0 (far tail_places InTail.Word bytes + 1))
+    → (IsBroken (byte ∷ bytes) → ⊥) → Stands situation (byte ∷ bytes) (whole_front kind.Skipped (byte ∷ bytes) (behind tail_places InTail.Word bytes))
 other-stands situation byte bytes here sound =
     let n = far tail_places InTail.Word bytes in
     let again : IsBroken (byte ∷ (take n bytes ++ drop n bytes)) → ⊥ = λ b. sound (subst (λ xs. IsBroken (byte ∷ xs)) (take-append-drop n bytes) b) in
-    (omega arith, whole (λ t b r. IsJunk situation [] t b r) n byte bytes (here, refl, refl, Other byte (take n bytes) refl (tail-run false 0 bytes) again))
+    (left-of n bytes, marked (λ t. IsJunk situation [] t t (drop n bytes)) n byte bytes (here, refl, refl, Other byte (take n bytes) refl (tail-run false 0 bytes) again))
 
 unclosed-is : (text : List ℕ) → is_unclosed text ≡ true → IsUnclosed text
 unclosed-is text h word last is value = true-false (sym h ∙ ap is_unclosed is ∙ (value-read word last value).1)
-
--- a text that is what is left of another
-pub record IsLeft (left : List ℕ) (text : List ℕ) : Type 0 where
-  pub count : ℕ
-  pub left_is : left ≡ drop count text
-
-left-self : (text : List ℕ) → IsLeft text text
-left-self text = record { count = 0; left_is = refl }
-
-left-drop : (n : ℕ) (left text : List ℕ) → IsLeft left text → IsLeft (drop n left) text
-left-drop n left text h = record { count = h.count + n; left_is = ap (λ xs. drop n xs) h.left_is ∙ drop-drop n h.count text }
-
-drop-left : (n : ℕ) (text : List ℕ) → drop (length text - length (drop n text)) text ≡ drop n text
-drop-left zero text = let e : length text - length text ≡ 0 = omega arith in ap (λ k. drop k text) e
-drop-left (suc n) [] = refl
-drop-left (suc n) (x ∷ xs) =
-    let e : length (x ∷ xs) - length (drop n xs) ≡ suc (length xs - length (drop n xs)) = omega (arith, length-drop n xs) in
-    ap (λ k. drop k (x ∷ xs)) e ∙ drop-left n xs
 
 -- what follows a colon line is left of what follows its colon
 colon-left : (byte : ℕ) (bytes : List ℕ) → IsLeft (behind_colon (byte ∷ bytes)) bytes
@@ -180,18 +146,13 @@ line-of byte bytes h closed = by (has_lock (byte ∷ bytes)) refl
 
 colon-stands : (situation : Situation) (byte : ℕ) (bytes : List ℕ) → begins_recipe (byte ∷ bytes) ≡ true
     → (has_lock (byte ∷ bytes) && is_unclosed (lock_part (byte ∷ bytes))) ≡ false
-    → Stands situation (byte ∷ bytes) (line_front kind.Colon 0 (length (byte ∷ bytes) - length (behind_colon (byte ∷ bytes))))
+    → Stands situation (byte ∷ bytes) (whole_front kind.Colon (byte ∷ bytes) (behind_colon (byte ∷ bytes)))
 colon-stands situation byte bytes h closed =
     let text : List ℕ = byte ∷ bytes in
+    let last = behind_colon text in
     let left = colon-left byte bytes in
-    let n = length text - length (behind_colon text) in
-    let f : n ≡ n - 0 = omega arith in
-    let last_is : drop n text ≡ behind_colon text =
-    ap (λ xs. drop (length text - length xs) text) left.left_is ∙ drop-left (suc left.count) text ∙ sym left.left_is in
-    let short : length (behind_colon text) ≤ length bytes = omega (arith, ap length left.left_is, length-drop left.count bytes) in
-    let line : IsColonLine (take n text ++ drop n text) (drop n text) =
-    subst (λ xs. IsColonLine xs (drop n text)) (sym (take-append-drop n text)) (subst (λ xs. IsColonLine text xs) (sym last_is) (line-of byte bytes h closed)) in
-    (omega (arith, short), (refl, ap (λ k. take k text) f, line))
+    let whole_is : before text last ++ last ≡ text = before-left last text (left-more last byte bytes left) in
+    (left, (refl, refl, subst (λ xs. IsColonLine xs last) (sym whole_is) (line-of byte bytes h closed)))
 
 -- a name at a byte that begins one
 named-at : (byte : ℕ) (bytes last : List ℕ) → is_name_start byte ≡ true → last ≡ drop (far run_places Run.Name (byte ∷ bytes)) (byte ∷ bytes)
@@ -208,10 +169,16 @@ named-at byte bytes last start last_is =
       reaches = subst (λ xs. IsName (take (far run_places Run.Name (byte ∷ bytes)) (byte ∷ bytes)) xs) (sym last_is) (name-run (byte ∷ bytes));
     }
 
-name-some : (byte : ℕ) (bytes : List ℕ) → is_name_start byte ≡ true → 0 < far run_places Run.Name (byte ∷ bytes)
-name-some byte bytes start =
+name-left : (byte : ℕ) (bytes : List ℕ) → is_name_start byte ≡ true → IsLeft (behind run_places Run.Name (byte ∷ bytes)) bytes
+name-left byte bytes start =
     let first : belongs is_name_byte 0 byte bytes ≡ true = ap (λ b. b || is_digit_byte byte || (nat_eq byte BACKSLASH && begins_with 10 bytes) || false) start in
-    omega (arith, go Run.Name 0 byte bytes first)
+    record {
+      count = reach_of run_places (nat_eq byte BACKSLASH && begins_with 10 bytes) Run.Name bytes;
+      left_is = ap (λ k. drop k (byte ∷ bytes)) (go Run.Name 0 byte bytes first);
+    }
+
+value-left : (byte : ℕ) (bytes : List ℕ) → is_name_start byte ≡ true → IsLeft (behind_equals (byte ∷ bytes)) bytes
+value-left byte bytes start = left-drop _ _ bytes (left-drop 1 _ bytes (left-drop _ _ bytes (name-left byte bytes start)))
 
 -- a name and an `=`
 set-of : (byte : ℕ) (bytes : List ℕ) → is_name_start byte ≡ true → begins_with EQUALS (behind_name (byte ∷ bytes)) ≡ true
@@ -239,63 +206,49 @@ set-of byte bytes start equals =
 
 -- an assignment, where the value's quotes are closed
 setting : (situation : Situation) (byte : ℕ) (bytes : List ℕ) → situation.in_recipe ≡ false → is_name_start byte ≡ true
-    → begins_with EQUALS (behind_name (byte ∷ bytes)) ≡ true
-    → is_unclosed (behind run_places Run.Blanks (drop 1 (behind_name (byte ∷ bytes)))) ≡ false
+    → begins_with EQUALS (behind_name (byte ∷ bytes)) ≡ true → is_unclosed (behind_equals (byte ∷ bytes)) ≡ false
     → Stands situation (byte ∷ bytes)
-    (let text : List ℕ = byte ∷ bytes in
-    let rest = drop 1 (behind_name text) in
-    let first = name_width text + 1 + far run_places Run.Blanks rest in
-    piece kind.Assign (far run_places Run.Name text) first (first + word_length (behind run_places Run.Blanks rest)) (first + word_length (behind run_places Run.Blanks rest)))
+    (let value = behind_equals (byte ∷ bytes) in
+    piece kind.Assign (passed run_places Run.Name (byte ∷ bytes)) (take (word_length value) value) (drop (word_length value) value))
 setting situation byte bytes here start equals closed =
     let text : List ℕ = byte ∷ bytes in
-    let value = behind run_places Run.Blanks (drop 1 (behind_name text)) in
+    let value = behind_equals text in
     let wl = word_length value in
-    let first = name_width text + 1 + far run_places Run.Blanks (drop 1 (behind_name text)) in
-    let wide : wl ≡ first + wl - first = omega arith in
-    let text_is : take wl value ≡ slice_range text first (first + wl) = ap (λ k. take k value) wide ∙ ap (λ xs. take (first + wl - first) xs) (sym (to-value text)) in
-    let last_is : drop wl value ≡ drop (first + wl) text = ap (λ xs. drop wl xs) (sym (to-value text)) ∙ drop-drop wl first text in
-    let value_is : value ≡ slice_range text first (first + wl) ++ drop (first + wl) text =
-    sym (take-append-drop wl value) ∙ ap (λ xs. xs ++ drop wl value) text_is ∙ ap (λ xs. slice_range text first (first + wl) ++ xs) last_is in
-    let name = take (far run_places Run.Name text) text in (
-      omega (arith, name-some byte bytes start),
+    let last = drop wl value in
+    let name = passed run_places Run.Name text in
+    let left = left-drop wl value bytes (value-left byte bytes start) in
+    let whole_is : before text last ++ last ≡ text = before-left last text (left-more last byte bytes left) in (
+      left,
       (
         here,
         record {
-          set = subst (λ xs. IsSet name (take (first + wl) text ++ drop (first + wl) text) xs) value_is
-              (subst (λ xs. IsSet name xs value) (sym (take-append-drop (first + wl) text)) (set-of byte bytes start equals));
-          value = subst (λ xs. IsValue (slice_range text first (first + wl)) xs) last_is (subst (λ xs. IsValue xs (drop wl value)) text_is (read-value value closed));
+          set = subst (λ xs. IsSet name (before text last ++ last) xs) (sym (take-append-drop wl value))
+              (subst (λ xs. IsSet name xs value) (sym whole_is) (set-of byte bytes start equals));
+          value = read-value value closed;
         },
       ),
     )
 
 -- a capture
 captured : (situation : Situation) (byte : ℕ) (bytes : List ℕ) → situation.in_recipe ≡ true → is_name_start byte ≡ true
-    → captures (byte ∷ bytes) ≡ true
-    → Stands situation (byte ∷ bytes) (capture (byte ∷ bytes) (name_width (byte ∷ bytes) + 1 + far run_places Run.Blanks (drop 1 (behind_name (byte ∷ bytes))) + 1))
+    → captures (byte ∷ bytes) ≡ true → Stands situation (byte ∷ bytes) (capture (byte ∷ bytes))
 captured situation byte bytes here start h =
     let text : List ℕ = byte ∷ bytes in
     let equals : begins_with EQUALS (behind_name text) ≡ true = and-left _ (begins_with BAR (behind_equals text)) h in
     let bar : begins_with BAR (behind_equals text) ≡ true = and-right (begins_with EQUALS (behind_name text)) _ h in
-    let at_bar = behind run_places Run.Blanks (drop 1 (behind_name text)) in
-    let line = drop 1 at_bar in
-    let ll = far run_places Run.Line line in
-    let before = name_width text + 1 + far run_places Run.Blanks (drop 1 (behind_name text)) in
-    let first = before + 1 in
-    let wide : ll ≡ first + ll - first = omega arith in
-    let to_line : drop first text ≡ line = sym (drop-drop 1 before text) ∙ ap (λ xs. drop 1 xs) (to-value text) in
-    let text_is : take ll line ≡ slice_range text first (first + ll) = ap (λ k. take k line) wide ∙ ap (λ xs. take (first + ll - first) xs) (sym to_line) in
-    let last_is : drop ll line ≡ drop (first + ll) text = ap (λ xs. drop ll xs) (sym to_line) ∙ drop-drop ll first text in
-    let line_is : line ≡ slice_range text first (first + ll) ++ drop (first + ll) text =
-    sym (take-append-drop ll line) ∙ ap (λ xs. xs ++ drop ll line) text_is ∙ ap (λ xs. slice_range text first (first + ll) ++ xs) last_is in
-    let bar_is : at_bar ≡ BAR ∷ (slice_range text first (first + ll) ++ drop (first + ll) text) = begins-cons BAR at_bar bar ∙ ap (λ xs. BAR ∷ xs) line_is in
-    let name = take (far run_places Run.Name text) text in (
-      omega arith,
+    let line = drop 1 (behind_equals text) in
+    let last = behind run_places Run.Line line in
+    let name = passed run_places Run.Name text in
+    let left = left-drop _ line bytes (left-drop 1 _ bytes (value-left byte bytes start)) in
+    let whole_is : before text last ++ last ≡ text = before-left last text (left-more last byte bytes left) in
+    let bar_is : behind_equals text ≡ BAR ∷ (passed run_places Run.Line line ++ last) =
+    begins-cons BAR (behind_equals text) bar ∙ ap (λ xs. BAR ∷ xs) (sym (take-append-drop (far run_places Run.Line line) line)) in (
+      left,
       (
         here,
         record {
-          set = subst (λ xs. IsSet name (take (first + ll) text ++ drop (first + ll) text) xs) bar_is
-              (subst (λ xs. IsSet name xs at_bar) (sym (take-append-drop (first + ll) text)) (set-of byte bytes start equals));
-          line = subst (λ xs. IsLine 0 (slice_range text first (first + ll)) xs) last_is (subst (λ xs. IsLine 0 xs (drop ll line)) text_is (line-run line));
+          set = subst (λ xs. IsSet name (before text last ++ last) xs) bar_is (subst (λ xs. IsSet name xs (behind_equals text)) (sym whole_is) (set-of byte bytes start equals));
+          line = line-run line;
         },
       ),
     )
@@ -311,23 +264,23 @@ named-stands : (situation : Situation) (byte : ℕ) (bytes : List ℕ) → situa
 named-stands situation byte bytes here start =
     let text : List ℕ = byte ∷ bytes in
     let outside : (situation.in_recipe && not (nat_eq byte CLOSE_BRACE || nat_eq byte COLON)) ≡ false = ap (λ b. b && not (nat_eq byte CLOSE_BRACE || nat_eq byte COLON)) here in
-    let value = behind run_places Run.Blanks (drop 1 (behind_name text)) in
+    let value = behind_equals text in
     cond_both (begins_with EQUALS (behind_name text)) _ _ (Stands situation text)
     (λ equals. cond_both (is_unclosed value) _ _ (Stands situation text)
     (λ h. broken-stands situation byte bytes outside (Value _ value (set-of byte bytes start equals) (unclosed-is value h)))
     (λ h. setting situation byte bytes here start equals h))
     (λ h. cond_both (ends_name (behind run_places Run.Name text)) _ _ (Stands situation text)
     (λ ends. (
-      name-some byte bytes start,
+      name-left byte bytes start,
       (
         here,
         refl,
         record {
-          bytes_are = refl;
+          bytes_are = before-drop (far run_places Run.Name text) text;
           named = named-at byte bytes _ start refl;
           ends = ends;
-          alone = λ after set. true-false (sym (known _ (take (far run_places Run.Name text) text ++ drop (far run_places Run.Name text) text) after set).equals
-              ∙ ap (λ xs. begins_with EQUALS (behind_name xs)) (take-append-drop (far run_places Run.Name text) text) ∙ h);
+          alone = λ after set. true-false (sym (known _ _ after set).equals
+              ∙ ap (λ xs. begins_with EQUALS (behind_name xs)) (before-left _ text (left-of (far run_places Run.Name text) text)) ∙ h);
         },
       ),
     ))
@@ -348,12 +301,12 @@ statement-stands situation byte bytes here =
     let text : List ℕ = byte ∷ bytes in
     cond_both (nat_eq byte CLOSE_BRACE && nat_lt 0 situation.depth) _ _ (Stands situation text)
     (λ h. (
-      omega arith,
+      left-self bytes,
       (
         deep (and-right (nat_eq byte CLOSE_BRACE) _ h),
         refl,
         ap (λ b. b ∷ []) (equal byte CLOSE_BRACE (and-left _ (nat_lt 0 situation.depth) h)),
-        ap (λ b. b ∷ []) (equal byte CLOSE_BRACE (and-left _ (nat_lt 0 situation.depth) h)),
+        before-drop 1 text ∙ ap (λ b. b ∷ []) (equal byte CLOSE_BRACE (and-left _ (nat_lt 0 situation.depth) h)),
       ),
     ))
     (λ h. cond_both (begins_recipe text) _ _ (Stands situation text)
@@ -403,19 +356,19 @@ brace-stands situation byte bytes here h =
     } in
     cond_both (nat_le most_blocks situation.depth) _ _ (Stands situation text)
     (λ e. (
-      omega arith,
+      record { count = length bytes; left_is = sym (drop_all (length bytes) bytes (omega arith)) },
       (
         here,
         refl,
         ap (λ b. b ∷ []) byte_is,
         bytes,
-        take_all (length text) text (omega arith) ∙ ap (λ b. b ∷ bytes) byte_is,
+        take_all (length text - 0) text (omega arith) ∙ ap (λ b. b ∷ bytes) byte_is,
         o,
-        drop_all (length text) text (omega arith),
+        refl,
         deep e,
       ),
     ))
-    (λ e. (omega arith, (here, refl, ap (λ b. b ∷ []) byte_is, ap (λ b. b ∷ []) byte_is, o, shallow e)))
+    (λ e. (left-self bytes, (here, refl, ap (λ b. b ∷ []) byte_is, before-drop 1 text ∙ ap (λ b. b ∷ []) byte_is, o, shallow e)))
   where
     deep : nat_le 1000 situation.depth ≡ true → 1000 ≤ situation.depth
     deep h = grind (arith, nat_tests)
@@ -425,20 +378,20 @@ brace-stands situation byte bytes here h =
 
 -- a bar and a line
 bar-stands : (situation : Situation) (byte : ℕ) (bytes : List ℕ) → situation.in_recipe ≡ true → nat_eq byte BAR ≡ true
-    → Stands situation (byte ∷ bytes) (cond (ends_line (behind run_places Run.Blanks bytes)) (line_front kind.WriteOut 1 (far run_places Run.Line bytes + 1)) (line_front kind.Pipe 1 (far run_places Run.Line bytes + 1)))
+    → Stands situation (byte ∷ bytes) (cond (ends_line (behind run_places Run.Blanks bytes)) (line_front kind.WriteOut bytes) (line_front kind.Pipe bytes))
 bar-stands situation byte bytes here bar =
     let n = far run_places Run.Line bytes in
     let m = mark-line BAR byte bytes bar in
     let all : take n bytes ++ drop n bytes ≡ bytes = take-append-drop n bytes in
     cond_both (ends_line (behind run_places Run.Blanks bytes)) _ _ (Stands situation (byte ∷ bytes))
     (λ e. (
-      omega arith,
-      marked (λ t b r. HasForm situation kind.WriteOut [] t b r) byte bytes
+      left-of n bytes,
+      marked (λ b. HasForm situation kind.WriteOut [] (take n bytes) b (drop n bytes)) n byte bytes
           (here, refl, m, blanks-are (take n bytes) (drop n bytes) m.line (ap (λ xs. ends_line (behind run_places Run.Blanks xs)) all ∙ e)),
     ))
     (λ e. (
-      omega arith,
-      marked (λ t b r. HasForm situation kind.Pipe [] t b r) byte bytes (
+      left-of n bytes,
+      marked (λ b. HasForm situation kind.Pipe [] (take n bytes) b (drop n bytes)) n byte bytes (
         here,
         refl,
         m,
@@ -447,6 +400,24 @@ bar-stands situation byte bytes here bar =
       ),
     ))
 
+-- an action that is no brace
+action-stands : (situation : Situation) (byte : ℕ) (bytes : List ℕ) → (situation.in_recipe && not (nat_eq byte CLOSE_BRACE || nat_eq byte COLON)) ≡ true → is_space_byte byte ≡ false
+    → (nat_eq byte BACKSLASH && begins_with 10 bytes) ≡ false
+    → Stands situation (byte ∷ bytes)
+    (cond (nat_eq byte BANG) (line_front kind.Forward bytes)
+    (cond (nat_eq byte BAR) (cond (ends_line (behind run_places Run.Blanks bytes)) (line_front kind.WriteOut bytes) (line_front kind.Pipe bytes)) (other_action (byte ∷ bytes))))
+action-stands situation byte bytes on space join =
+    let text : List ℕ = byte ∷ bytes in
+    let here : situation.in_recipe ≡ true = and-left _ (not (nat_eq byte CLOSE_BRACE || nat_eq byte COLON)) on in
+    let n = far run_places Run.Line bytes in
+    cond_both (nat_eq byte BANG) _ _ (Stands situation text)
+    (λ f. (left-of n bytes, marked (λ b. HasForm situation kind.Forward [] (take n bytes) b (drop n bytes)) n byte bytes (here, refl, mark-line BANG byte bytes f)))
+    (λ f. cond_both (nat_eq byte BAR) _ _ (Stands situation text)
+    (λ bar. bar-stands situation byte bytes here bar)
+    (λ bar. cond_both (is_name_start byte && captures text) _ _ (Stands situation text)
+    (λ i. captured situation byte bytes here (and-left _ (captures text) i) (and-right (is_name_start byte) _ i))
+    (λ i. mailbox-stands situation byte bytes on space join)))
+
 -- a line of a recipe
 line-stands : (situation : Situation) (byte : ℕ) (bytes : List ℕ) → (situation.in_recipe && not (nat_eq byte CLOSE_BRACE || nat_eq byte COLON)) ≡ true → is_space_byte byte ≡ false
     → (nat_eq byte BACKSLASH && begins_with 10 bytes) ≡ false
@@ -454,31 +425,26 @@ line-stands : (situation : Situation) (byte : ℕ) (bytes : List ℕ) → (situa
 line-stands situation byte bytes on space join =
     let text : List ℕ = byte ∷ bytes in
     let here : situation.in_recipe ≡ true = and-left _ (not (nat_eq byte CLOSE_BRACE || nat_eq byte COLON)) on in
+    let n = far run_places Run.Line bytes in
     cond_both (nat_eq byte STAR) _ _ (Stands situation text)
-    (λ h. (omega arith, marked (λ t b r. HasForm situation kind.Condition [] t b r) byte bytes (here, refl, mark-line STAR byte bytes h)))
+    (λ h. (left-of n bytes, marked (λ b. HasForm situation kind.Condition [] (take n bytes) b (drop n bytes)) n byte bytes (here, refl, mark-line STAR byte bytes h)))
     (λ h. cond_both (nat_eq byte OPEN_BRACE && opens bytes) _ _ (Stands situation text)
     (λ e. brace-stands situation byte bytes here e)
-    (λ e. cond_both (nat_eq byte BANG) _ _ (Stands situation text)
-    (λ f. (omega arith, marked (λ t b r. HasForm situation kind.Forward [] t b r) byte bytes (here, refl, mark-line BANG byte bytes f)))
-    (λ f. cond_both (nat_eq byte BAR) _ _ (Stands situation text)
-    (λ bar. bar-stands situation byte bytes here bar)
-    (λ bar. cond_both (is_name_start byte && captures text) _ _ (Stands situation text)
-    (λ i. captured situation byte bytes here (and-left _ (captures text) i) (and-right (is_name_start byte) _ i))
-    (λ i. mailbox-stands situation byte bytes on space join)))))
+    (λ e. action-stands situation byte bytes on space join))
 
 -- what stands at the front
 pub front-stands : (situation : Situation) (byte : ℕ) (bytes : List ℕ) → Stands situation (byte ∷ bytes) (front_of situation (byte ∷ bytes))
 front-stands situation byte bytes =
     let text : List ℕ = byte ∷ bytes in
     cond_both (is_space_byte byte) _ _ (Stands situation text)
-    (λ h. (omega arith, (refl, refl, Space byte refl h)))
+    (λ h. (left-self bytes, (refl, refl, Space byte (before-drop 1 text) h)))
     (λ space. cond_both (nat_eq byte BACKSLASH && begins_with 10 bytes) _ _ (Stands situation text)
     (λ h. (
-      omega arith,
+      left-of 1 bytes,
       (
         refl,
         refl,
-        Join (ap (λ b. b ∷ take 1 bytes) (equal byte BACKSLASH (and-left _ (begins_with 10 bytes) h))
+        Join (before-drop 2 text ∙ ap (λ b. b ∷ take 1 bytes) (equal byte BACKSLASH (and-left _ (begins_with 10 bytes) h))
             ∙ ap (λ xs. BACKSLASH ∷ take 1 xs) (begins-cons 10 bytes (and-right (nat_eq byte BACKSLASH) _ h))),
       ),
     ))
@@ -488,35 +454,39 @@ front-stands situation byte bytes =
     (λ e. line-stands situation byte bytes e space join)
     (λ e. statement-stands situation byte bytes e))))
   where
-    comment : nat_eq byte HASH ≡ true → Stands situation (byte ∷ bytes) (gap (far up_to_places UpTo.Newline bytes + 1))
+    comment : nat_eq byte HASH ≡ true → Stands situation (byte ∷ bytes) (gap (behind up_to_places UpTo.Newline bytes))
     comment h =
-        let n = far up_to_places UpTo.Newline bytes in
-        let e : suc n ≡ n + 1 = omega arith in (
-          omega arith,
-          (
-            refl,
-            refl,
-            subst (λ k. IsGap (take k (byte ∷ bytes)) (drop k (byte ∷ bytes))) e
-                (Comment (take n bytes) (ap (λ b. b ∷ take n bytes) (equal byte HASH h)) (rest-run bytes)),
-          ),
+        let n = far up_to_places UpTo.Newline bytes in (
+          left-of n bytes,
+          (refl, refl, Comment (take n bytes) (before-drop (suc n) (byte ∷ bytes) ∙ ap (λ b. b ∷ take n bytes) (equal byte HASH h)) (rest-run bytes)),
         )
 
 -- and what has no form has none
-pub front-spells : (situation : Situation) (text : List ℕ) (front : Front) → front ≡ front_of situation text → Stands situation text front
-    → Spells situation front.kind (take front.mid text) (slice_range text front.from front.to) (take front.taken text) (drop front.taken text)
-front-spells situation text front is stands = by front.kind (sym (ap (λ f. f.kind) is)) stands.1
+pub front-spells : (situation : Situation) (byte : ℕ) (bytes : List ℕ) → (let front = front_of situation (byte ∷ bytes) in
+    Spells situation front.kind front.name front.text (before (byte ∷ bytes) front.behind) front.behind)
+front-spells situation byte bytes = by front.kind refl stands.1
   where
-    none : (sort : Kind) → (front_of situation text).kind ≡ sort → ((name text' bytes last : List ℕ) → HasForm situation sort name text' bytes last → ⊥)
-        → HasNone situation (take front.taken text ++ drop front.taken text)
-    none sort sort_is empty kind' name text' bytes last whole form =
-        let t = taken situation kind' name text' bytes last form in
-        let whole_is : text ≡ bytes ++ last = sym (take-append-drop front.taken text) ∙ whole in
-        let same : kind' ≡ sort = sym t.kind_is ∙ ap (λ xs. (front_of situation xs).kind) (sym whole_is) ∙ sort_is in
-        empty name text' bytes last (subst (λ k. HasForm situation k name text' bytes last) same form)
+    text : List ℕ
+    text = byte ∷ bytes
 
-    by : (sort : Kind) → (front_of situation text).kind ≡ sort
-        → Shape situation sort (take front.mid text) (slice_range text front.from front.to) (take front.taken text) (drop front.taken text)
-        → Spells situation sort (take front.mid text) (slice_range text front.from front.to) (take front.taken text) (drop front.taken text)
+    front : Front
+    front = front_of situation text
+
+    stands : Stands situation text front
+    stands = front-stands situation byte bytes
+
+    whole-is : before text front.behind ++ front.behind ≡ text
+    whole-is = before-left front.behind text (left-more front.behind byte bytes stands.0)
+
+    none : (sort : Kind) → front.kind ≡ sort → ((name text' bytes' last : List ℕ) → HasForm situation sort name text' bytes' last → ⊥)
+        → HasNone situation (before text front.behind ++ front.behind)
+    none sort sort_is empty kind' name text' bytes' last whole form =
+        let taken_is = taken situation kind' name text' bytes' last form in
+        let same : kind' ≡ sort = sym (ap (λ f. f.kind) taken_is) ∙ ap (λ xs. (front_of situation xs).kind) (sym whole ∙ whole-is) ∙ sort_is in
+        empty name text' bytes' last (subst (λ k. HasForm situation k name text' bytes' last) same form)
+
+    by : (sort : Kind) → front.kind ≡ sort → Shape situation sort front.name front.text (before text front.behind) front.behind
+        → Spells situation sort front.name front.text (before text front.behind) front.behind
     by kind.Mailbox e shape = (shape, none kind.Mailbox e (λ n t b r form. form))
     by kind.Skipped e shape = (shape, none kind.Skipped e (λ n t b r form. form))
     by kind.Gap e shape = shape

@@ -1,16 +1,16 @@
 -- What has a form of the language is what stands at the front of the text.
-use Rattle.std.proofs.Common.{◌≡◌, ◌+◌, ◌-◌, ◌<◌, ◌≤◌, ℕ, suc, Bool, true, false, not, ◌&&◌, ◌||◌, cond, nat_eq, nat_le, nat_lt, List, [], ◌∷◌, ◌++◌, refl, ap, sym, ◌∙◌, length, take, drop, arith, subst, slice_range}
-use Rattle.std.proofs.lemmas.List.{take-append-drop, drop-drop, take_at, drop_at, length-append, append-nil, length-take-le}
+use Rattle.std.proofs.Common.{◌≡◌, ◌<◌, ◌≤◌, ℕ, Bool, true, false, not, ◌&&◌, ◌||◌, cond, nat_eq, nat_le, nat_lt, List, [], ◌∷◌, ◌++◌, refl, ap, sym, ◌∙◌, length, take, drop, arith, subst}
+use Rattle.std.proofs.lemmas.List.{take-append-drop, take_at, drop_at, append-nil, length-take-le}
 use Rattle.std.proofs.lemmas.Bool.{cond-true, cond-false}
 use Rattle.std.proofs.lemmas.Bool.Decides.{nat_tests}
 use Rattle.pm_bytes.specs.Letter.{is_blank_byte, is_name_start, is_space_byte}
 use Rattle.pm_recipe.specs.Bytes.{begins_with}
 use Rattle.pm_bytes.specs.Alphabet.{NEWLINE, HASH, STAR, OPEN_BRACE, CLOSE_BRACE, COLON, EQUALS, BAR, BANG, BACKSLASH}
-use Rattle.pm_recipe.specs.declared.fronts.Front.{Front}
+use Rattle.pm_recipe.proofs.Left.{before-at}
 use Rattle.pm_recipe.specs.declared.fronts.Situation.{Situation}
 use Rattle.pm_recipe.specs.declared.fronts.Kind.{Kind}
 use Rattle.pm_recipe.specs.declared.fronts.Kind.TheVariants as kind
-use Rattle.pm_recipe.specs.Places.{far, behind}
+use Rattle.pm_recipe.specs.Places.{far, passed, behind}
 use Rattle.pm_recipe.specs.declared.runs.Run.TheVariants as Run
 use Rattle.pm_recipe.specs.declared.runs.UpTo.TheVariants as UpTo
 use Rattle.pm_recipe.specs.declared.line_words.InFlags.TheVariants as InFlags
@@ -18,7 +18,7 @@ use Rattle.pm_recipe.specs.declared.line_words.InTail.TheVariants as InTail
 use Rattle.pm_recipe.specs.Runs.{run_places, up_to_places}
 use Rattle.pm_recipe.specs.LineWords.{flag_places, tail_places}
 use Rattle.pm_recipe.specs.Colon.{word_length, is_unclosed, begins_recipe, has_lock, lock_part, behind_lock, behind_flags, behind_colon}
-use Rattle.pm_recipe.specs.Front.{front_of, piece, gap, line_front, ends_name, behind_name, name_width, named, colon_front, opens, ends_line, behind_equals, captures, capture, brace, most_blocks}
+use Rattle.pm_recipe.specs.Front.{Front, front_of, piece, gap, whole_front, line_front, ends_name, behind_name, named, colon_front, opens, ends_line, behind_equals, captures, capture, brace, most_blocks}
 use Rattle.pm_recipe.specs.Words.{belongs, IsLine, AreBlanks, IsName, AreJoins, in_line}
 use Rattle.pm_recipe.specs.Spells.{IsGap, IsMarked, IsOpened, IsNamed, IsSet, IsSetting, IsCapture, IsLoneName, IsHead, IsColonLine, HasForm}
 use Rattle.pm_recipe.specs.Spells.IsGap.{Space, Join, Comment}
@@ -28,12 +28,11 @@ use Rattle.pm_recipe.proofs.WordRuns.{flags-length, rest-length, tail-length, li
 use Rattle.pm_recipe.proofs.Worded.{value-read}
 use Rattle.pm_recipe.proofs.Forms.{equal, no, blanks-run, within}
 
--- a front takes these bytes of a text, with this name and text
-pub record Takes (front : Front) (kind : Kind) (name : List ℕ) (text : List ℕ) (bytes : List ℕ) (whole : List ℕ) : Type 0 where
-  pub kind_is : front.kind ≡ kind
-  pub taken_is : front.taken ≡ length bytes
-  pub name_is : take front.mid whole ≡ name
-  pub text_is : slice_range whole front.from front.to ≡ text
+-- spans with the same name, text and end
+pub same-piece : (kind : Kind) (name name' text text' behind behind' : List ℕ) → name ≡ name' → text ≡ text' → behind ≡ behind'
+    → piece kind name text behind ≡ piece kind name' text' behind'
+same-piece kind name name' text text' behind behind' n t b =
+    ap (λ xs. piece kind xs text behind) n ∙ ap (λ xs. piece kind name' xs behind) t ∙ ap (λ xs. piece kind name' text' xs) b
 
 -- how far readers come at the runs
 pub line-far : (text behind : List ℕ) → IsLine 0 text behind → far run_places Run.Line (text ++ behind) ≡ length text
@@ -49,15 +48,12 @@ pub joins-far : (text behind : List ℕ) → AreJoins 0 text behind → far run_
 joins-far text behind h = run-length Run.Joins 0 text behind h
 
 -- what a name, an `=` and blanks are to the readers
-pub record Known (name : List ℕ) (text : List ℕ) (value : List ℕ) (blanks : List ℕ) (indent : List ℕ) : Type 0 where
-  pub name_far : far run_places Run.Name text ≡ length name
-  pub name_is : take (far run_places Run.Name text) text ≡ name
-  pub width : name_width text ≡ length name + length blanks
+pub record Known (name : List ℕ) (text : List ℕ) (value : List ℕ) : Type 0 where
+  pub name_is : passed run_places Run.Name text ≡ name
   pub equals : begins_with EQUALS (behind_name text) ≡ true
-  pub indent_far : far run_places Run.Blanks (drop 1 (behind_name text)) ≡ length indent
-  pub value_is : behind run_places Run.Blanks (drop 1 (behind_name text)) ≡ value
+  pub value_is : behind_equals text ≡ value
 
-pub known : (name text value : List ℕ) (s : IsSet name text value) → Known name text value s.blanks s.indent
+pub known : (name text value : List ℕ) → IsSet name text value → Known name text value
 known name text value s =
     let after = s.indent ++ value in
     let rest = s.blanks ++ (EQUALS ∷ after) in
@@ -66,21 +62,11 @@ known name text value s =
     let b = blanks-far s.blanks (EQUALS ∷ after) s.apart in
     let equals_is : behind_name (name ++ rest) ≡ EQUALS ∷ after = ap (behind run_places Run.Blanks) rest_is ∙ drop_at s.blanks (EQUALS ∷ after) _ (sym b) in
     let i = blanks-far s.indent value s.indented in
-    subst (λ t. Known name t value s.blanks s.indent) (sym s.text_is) (record {
-      name_far = n;
+    subst (λ t. Known name t value) (sym s.text_is) (record {
       name_is = take_at name rest _ (sym n);
-      width = ap (λ k. k + far run_places Run.Blanks (behind run_places Run.Name (name ++ rest))) n ∙ ap (λ xs. length name + far run_places Run.Blanks xs) rest_is ∙ ap (λ k. length name + k) b;
       equals = ap (begins_with EQUALS) equals_is;
-      indent_far = ap (λ xs. far run_places Run.Blanks (drop 1 xs)) equals_is ∙ i;
       value_is = ap (λ xs. behind run_places Run.Blanks (drop 1 xs)) equals_is ∙ drop_at s.indent value _ (sym i);
     })
-
-pub to-value : (text : List ℕ) → drop (name_width text + 1 + far run_places Run.Blanks (drop 1 (behind_name text))) text ≡ behind run_places Run.Blanks (drop 1 (behind_name text))
-to-value text =
-    let na = far run_places Run.Name text in
-    let bl = far run_places Run.Blanks (behind run_places Run.Name text) in
-    let ind = far run_places Run.Blanks (drop 1 (behind_name text)) in
-    sym (ap (λ xs. drop ind (drop 1 xs)) (drop-drop bl na text) ∙ ap (λ xs. drop ind xs) (drop-drop 1 (na + bl) text) ∙ drop-drop ind (na + bl + 1) text)
 
 -- a byte that begins a name is no other
 space-name : (byte : ℕ) → is_name_start byte ≡ true → is_space_byte byte ≡ false
@@ -106,7 +92,7 @@ name-statement situation byte bytes here start =
 
 pub name-recipe : (situation : Situation) (byte : ℕ) (bytes : List ℕ) → situation.in_recipe ≡ true → is_name_start byte ≡ true → captures (byte ∷ bytes) ≡ true
     → front_of situation (byte ∷ bytes)
-    ≡ capture (byte ∷ bytes) (name_width (byte ∷ bytes) + 1 + far run_places Run.Blanks (drop 1 (behind_name (byte ∷ bytes))) + 1)
+    ≡ capture (byte ∷ bytes)
 name-recipe situation byte bytes here start h =
     cond-false (is_space_byte byte) _ _ (space-name byte start)
     ∙ cond-false (nat_eq byte BACKSLASH && begins_with 10 bytes) _ _ (ap (λ b. b && begins_with 10 bytes) (other-name byte BACKSLASH start refl))
@@ -129,82 +115,46 @@ named-front name behind whole rest front f n is h =
 
 -- an assignment
 setting-taken : (situation : Situation) (name text bytes last : List ℕ) → situation.in_recipe ≡ false → IsSetting name text bytes last
-    → Takes (front_of situation (bytes ++ last)) kind.Assign name text bytes (bytes ++ last)
+    → front_of situation (bytes ++ last) ≡ piece kind.Assign name text last
 setting-taken situation name text bytes last here s =
     let whole = bytes ++ last in
-    let set = s.set in
-    let k = known name whole (text ++ last) set in
-    let value = behind run_places Run.Blanks (drop 1 (behind_name whole)) in
-    let first = name_width whole + 1 + far run_places Run.Blanks (drop 1 (behind_name whole)) in
+    let k = known name whole (text ++ last) s.set in
     let r = value-read text last s.value in
-    let wl : word_length value ≡ length text = ap word_length k.value_is ∙ r.0 in
-    let closed : is_unclosed value ≡ false = ap is_unclosed k.value_is ∙ r.1 in
-    let is : named whole ≡ piece kind.Assign (far run_places Run.Name whole) first (first + word_length value) (first + word_length value) =
-    cond-true (begins_with EQUALS (behind_name whole)) _ _ k.equals ∙ cond-false (is_unclosed value) _ _ closed in
-    let front_is : front_of situation whole ≡ named whole =
-    named-front name _ whole _ (λ t. front_of situation t) (named whole) set.named set.text_is
-    (λ rest e. name-statement situation set.named.first rest here set.named.begins ∙ ap named (sym e)) in
-    let size : length bytes + length last ≡ length name + (length set.blanks + suc (length set.indent + (length text + length last))) =
-    sym (length-append bytes last) ∙ ap length set.text_is ∙ length-append name _ ∙ ap (λ n. length name + n) (length-append set.blanks _
-    ∙ ap (λ n. length set.blanks + suc n) (length-append set.indent (text ++ last) ∙ ap (λ n. length set.indent + n) (length-append text last))) in
-    let wide : first + word_length value - first ≡ length text = omega (arith, wl) in
-    subst (λ f. Takes f kind.Assign name text bytes whole) (sym (front_is ∙ is)) (record {
-      kind_is = refl;
-      taken_is = omega (arith, k.width, k.indent_far, wl, size);
-      name_is = k.name_is;
-      text_is = ap (λ xs. take (first + word_length value - first) xs) (to-value whole ∙ k.value_is)
-          ∙ take_at text last _ (sym wide);
-    })
+    named-front name _ whole _ (λ t. front_of situation t) (named whole) s.set.named s.set.text_is
+    (λ rest e. name-statement situation s.set.named.first rest here s.set.named.begins ∙ ap named (sym e))
+    ∙ cond-true (begins_with EQUALS (behind_name whole)) _ _ k.equals
+    ∙ cond-false (is_unclosed (behind_equals whole)) _ _ (ap is_unclosed k.value_is ∙ r.1)
+    ∙ same-piece kind.Assign _ name _ text _ last k.name_is
+    (ap (λ xs. take (word_length xs) xs) k.value_is ∙ take_at text last _ (sym r.0))
+    (ap (λ xs. drop (word_length xs) xs) k.value_is ∙ drop_at text last _ (sym r.0))
 
 -- a capture
 capture-taken : (situation : Situation) (name text bytes last : List ℕ) → situation.in_recipe ≡ true → IsCapture name text bytes last
-    → Takes (front_of situation (bytes ++ last)) kind.Capture name text bytes (bytes ++ last)
+    → front_of situation (bytes ++ last) ≡ piece kind.Capture name text last
 capture-taken situation name text bytes last here s =
     let whole = bytes ++ last in
-    let set = s.set in
-    let k = known name whole (BAR ∷ (text ++ last)) set in
-    let at_bar = behind run_places Run.Blanks (drop 1 (behind_name whole)) in
-    let first = name_width whole + 1 + far run_places Run.Blanks (drop 1 (behind_name whole)) + 1 in
-    let ll : far run_places Run.Line (drop 1 (behind_equals whole)) ≡ length text = ap (λ xs. far run_places Run.Line (drop 1 xs)) k.value_is ∙ line-far text last s.line in
+    let k = known name whole (BAR ∷ (text ++ last)) s.set in
+    let line_is : drop 1 (behind_equals whole) ≡ text ++ last = ap (drop 1) k.value_is in
     let captured : captures whole ≡ true = ap (λ b. b && begins_with BAR (behind_equals whole)) k.equals ∙ ap (begins_with BAR) k.value_is in
-    let front_is : front_of situation whole ≡ capture whole first =
-    named-front name _ whole _ (λ t. front_of situation t) (capture whole first) set.named set.text_is
-    (λ rest e. name-recipe situation set.named.first rest here set.named.begins (ap captures (sym e) ∙ captured)
-    ∙ ap (λ t. capture t (name_width t + 1 + far run_places Run.Blanks (drop 1 (behind_name t)) + 1)) (sym e)) in
-    let size : length bytes + length last ≡ length name + (length set.blanks + suc (length set.indent + suc (length text + length last))) =
-    sym (length-append bytes last) ∙ ap length set.text_is ∙ length-append name _ ∙ ap (λ n. length name + n) (length-append set.blanks _
-    ∙ ap (λ n. length set.blanks + suc n) (length-append set.indent (BAR ∷ (text ++ last)) ∙ ap (λ n. length set.indent + suc n) (length-append text last))) in
-    let n = far run_places Run.Line (drop 1 (behind_equals whole)) in
-    let wide : first + n - first ≡ length text = omega (arith, ll) in
-    subst (λ f. Takes f kind.Capture name text bytes whole) (sym front_is) (record {
-      kind_is = refl;
-      taken_is = omega (arith, k.width, k.indent_far, ll, size);
-      name_is = k.name_is;
-      text_is = ap (λ xs. take (first + n - first) xs)
-          (sym (drop-drop 1 (name_width whole + 1 + far run_places Run.Blanks (drop 1 (behind_name whole))) whole) ∙ ap (λ xs. drop 1 xs) (to-value whole ∙ k.value_is))
-          ∙ take_at text last _ (sym wide);
-    })
+    named-front name _ whole _ (λ t. front_of situation t) (capture whole) s.set.named s.set.text_is
+    (λ rest e. name-recipe situation s.set.named.first rest here s.set.named.begins (ap captures (sym e) ∙ captured) ∙ ap capture (sym e))
+    ∙ same-piece kind.Capture _ name _ text _ last k.name_is
+    (ap (passed run_places Run.Line) line_is ∙ take_at text last _ (sym (line-far text last s.line)))
+    (ap (behind run_places Run.Line) line_is ∙ drop_at text last _ (sym (line-far text last s.line)))
 
 -- a name alone
 lone-taken : (situation : Situation) (name text bytes last : List ℕ) → situation.in_recipe ≡ false → text ≡ [] → IsLoneName name bytes last
-    → Takes (front_of situation (bytes ++ last)) kind.Unset name text bytes (bytes ++ last)
+    → front_of situation (bytes ++ last) ≡ piece kind.Unset name text last
 lone-taken situation name text bytes last here none s =
     let whole = bytes ++ last in
     let is : whole ≡ name ++ last = ap (λ xs. xs ++ last) s.bytes_are in
-    let n : far run_places Run.Name whole ≡ length name = ap (far run_places Run.Name) is ∙ name-far name last s.named.reaches in
-    let last_is : behind run_places Run.Name whole ≡ last = ap (behind run_places Run.Name) is ∙ drop_at name last _ (sym (name-far name last s.named.reaches)) in
-    let front_is : front_of situation whole ≡ named whole =
+    let n = name-far name last s.named.reaches in
+    let last_is : behind run_places Run.Name whole ≡ last = ap (behind run_places Run.Name) is ∙ drop_at name last _ (sym n) in
     named-front name _ whole last (λ t. front_of situation t) (named whole) s.named is
-    (λ rest e. name-statement situation s.named.first rest here s.named.begins ∙ ap named (sym e)) in
-    let unset : named whole ≡ piece kind.Unset (far run_places Run.Name whole) 0 0 (far run_places Run.Name whole) =
-    cond-false (begins_with EQUALS (behind_name whole)) _ _ (alone whole last is last_is s)
-    ∙ cond-true (ends_name (behind run_places Run.Name whole)) _ _ (ap ends_name last_is ∙ s.ends) in
-    subst (λ f. Takes f kind.Unset name text bytes whole) (sym (front_is ∙ unset)) (record {
-      kind_is = refl;
-      taken_is = n ∙ sym (ap length s.bytes_are);
-      name_is = ap (take (far run_places Run.Name whole)) is ∙ take_at name last _ (sym n);
-      text_is = sym none;
-    })
+    (λ rest e. name-statement situation s.named.first rest here s.named.begins ∙ ap named (sym e))
+    ∙ cond-false (begins_with EQUALS (behind_name whole)) _ _ (alone whole last is last_is s)
+    ∙ cond-true (ends_name (behind run_places Run.Name whole)) _ _ (ap ends_name last_is ∙ s.ends)
+    ∙ same-piece kind.Unset _ name _ text _ last (ap (passed run_places Run.Name) is ∙ take_at name last _ (sym n)) (sym none) last_is
   where
     begins-cons : (wanted : ℕ) (xs : List ℕ) → begins_with wanted xs ≡ true → xs ≡ wanted ∷ drop 1 xs
     begins-cons wanted [] h = no h
@@ -242,15 +192,12 @@ lone-taken situation name text bytes last here none s =
 
 -- a byte and a line
 marked-taken : (situation : Situation) (mark : ℕ) (sort : Kind) (name text bytes last : List ℕ)
-    → front_of situation (mark ∷ (text ++ last)) ≡ line_front sort 1 (far run_places Run.Line (text ++ last) + 1) → name ≡ [] → IsMarked mark text bytes last
-    → Takes (front_of situation (bytes ++ last)) sort name text bytes (bytes ++ last)
+    → front_of situation (mark ∷ (text ++ last)) ≡ line_front sort (text ++ last) → name ≡ [] → IsMarked mark text bytes last
+    → front_of situation (bytes ++ last) ≡ piece sort name text last
 marked-taken situation mark sort name text bytes last is none m =
-    let n = far run_places Run.Line (text ++ last) in
-    let far_is : n ≡ length text = line-far text last m.line in
-    let wide : n + 1 - 1 ≡ length text = omega (arith, far_is) in
-    subst (λ b. Takes (front_of situation (b ++ last)) sort name text b (b ++ last)) (sym m.bytes_are)
-    (subst (λ f. Takes f sort name text (mark ∷ text) (mark ∷ (text ++ last))) (sym is)
-    (record { kind_is = refl; taken_is = omega (arith, far_is); name_is = sym none; text_is = take_at text last (n + 1 - 1) (sym wide) }))
+    let n = line-far text last m.line in
+    ap (λ b. front_of situation (b ++ last)) m.bytes_are ∙ is
+    ∙ same-piece sort _ name _ text _ last (sym none) (take_at text last _ (sym n)) (drop_at text last _ (sym n))
 
 and-true : (b : Bool) → b ≡ true → (b && true) ≡ true
 and-true b h = ap (λ x. x && true) h
@@ -291,7 +238,7 @@ blanks-are text last line e =
 
 bar-front : (situation : Situation) (text : List ℕ) → situation.in_recipe ≡ true
     → front_of situation (BAR ∷ text)
-    ≡ cond (ends_line (behind run_places Run.Blanks text)) (line_front kind.WriteOut 1 (far run_places Run.Line text + 1)) (line_front kind.Pipe 1 (far run_places Run.Line text + 1))
+    ≡ cond (ends_line (behind run_places Run.Blanks text)) (line_front kind.WriteOut text) (line_front kind.Pipe text)
 bar-front situation text here = cond-true (situation.in_recipe && true) _ _ (and-true _ here)
 
 -- a brace that opens a block
@@ -355,34 +302,25 @@ colon-end text last (Locked lock tail h value t) =
     )
 
 colon-taken : (situation : Situation) (name text bytes last : List ℕ) → name ≡ [] → bytes ≡ text → IsColonLine (bytes ++ last) last
-    → Takes (front_of situation (bytes ++ last)) kind.Colon name text bytes (bytes ++ last)
+    → front_of situation (bytes ++ last) ≡ piece kind.Colon name text last
 colon-taken situation name text bytes last none is line =
     let whole = bytes ++ last in
     let e = colon-end whole last line in
-    let n = length whole - length (behind_colon whole) in
-    let size : n ≡ length bytes = omega (arith, ap length e.2, length-append bytes last) in
-    let wide : n - 0 ≡ length bytes = omega (arith, size) in
-    let front_is : front_of situation whole ≡ line_front kind.Colon 0 n =
-    colon-statement situation whole (behind_flags whole) e.0 ∙ cond-false (has_lock whole && is_unclosed (lock_part whole)) _ _ e.1 in
-    subst (λ f. Takes f kind.Colon name text bytes whole) (sym front_is)
-    (record { kind_is = refl; taken_is = size; name_is = sym none; text_is = take_at bytes last (n - 0) (sym wide) ∙ is })
+    colon-statement situation whole (behind_flags whole) e.0 ∙ cond-false (has_lock whole && is_unclosed (lock_part whole)) _ _ e.1
+    ∙ ap (λ xs. whole_front kind.Colon whole xs) e.2 ∙ same-piece kind.Colon _ name _ text last last (sym none) (before-at bytes last ∙ is) refl
 
 gap-taken : (situation : Situation) (name text bytes last : List ℕ) → name ≡ [] → text ≡ [] → IsGap bytes last
-    → Takes (front_of situation (bytes ++ last)) kind.Gap name text bytes (bytes ++ last)
-gap-taken situation name text bytes last none empty (Space byte is space) =
-    subst (λ b. Takes (front_of situation (b ++ last)) kind.Gap name text b (b ++ last)) (sym is)
-    (subst (λ f. Takes f kind.Gap name text (byte ∷ []) (byte ∷ last)) (sym (cond-true (is_space_byte byte) (gap 1) _ space))
-    (record { kind_is = refl; taken_is = refl; name_is = sym none; text_is = sym empty }))
-gap-taken situation name text bytes last none empty (Join is) =
-    subst (λ b. Takes (front_of situation (b ++ last)) kind.Gap name text b (b ++ last)) (sym is)
-    (record { kind_is = refl; taken_is = refl; name_is = sym none; text_is = sym empty })
-gap-taken situation name text bytes last none empty (Comment rest is r) =
-    subst (λ b. Takes (front_of situation (b ++ last)) kind.Gap name text b (b ++ last)) (sym is)
-    (record { kind_is = refl; taken_is = omega (arith, rest-length rest last r); name_is = sym none; text_is = sym empty })
+    → front_of situation (bytes ++ last) ≡ piece kind.Gap name text last
+gap-taken situation name text bytes last none empty g = by g ∙ same-piece kind.Gap _ name _ text last last (sym none) (sym empty) refl
+  where
+    by : IsGap bytes last → front_of situation (bytes ++ last) ≡ gap last
+    by (Space byte is space) = ap (λ b. front_of situation (b ++ last)) is ∙ cond-true (is_space_byte byte) (gap last) _ space
+    by (Join is) = ap (λ b. front_of situation (b ++ last)) is
+    by (Comment rest is h) = ap (λ b. front_of situation (b ++ last)) is ∙ ap gap (drop_at rest last _ (sym (rest-length rest last h)))
 
 -- each form
 pub taken : (situation : Situation) (sort : Kind) (name text bytes last : List ℕ) → HasForm situation sort name text bytes last
-    → Takes (front_of situation (bytes ++ last)) sort name text bytes (bytes ++ last)
+    → front_of situation (bytes ++ last) ≡ piece sort name text last
 taken situation kind.Gap name text bytes last h = gap-taken situation name text bytes last h.0 h.1 h.2
 taken situation kind.Condition name text bytes last h =
     marked-taken situation STAR kind.Condition name text bytes last (cond-true (situation.in_recipe && true) _ _ (and-true _ h.0)) h.1 h.2
@@ -401,26 +339,23 @@ taken situation kind.WriteOut name text bytes last h =
     (ap ends_line (drop_at text last _ (sym (blanks-far text last h.3))) ∙ line-ends 0 text last h.2.line)) h.1 h.2
 taken situation kind.Capture name text bytes last h = capture-taken situation name text bytes last h.0 h.1
 taken situation kind.Open name text bytes last h =
-    subst (λ b. Takes (front_of situation (b ++ last)) kind.Open name text b (b ++ last)) (sym h.3)
-    (subst (λ f. Takes f kind.Open name text (OPEN_BRACE ∷ []) (OPEN_BRACE ∷ last)) (sym (open-front situation last h.0 (opened last h.4) ∙ cond-false (nat_le 1000 situation.depth) _ _ (shallow h.5)))
-    (record { kind_is = refl; taken_is = refl; name_is = sym h.1; text_is = sym h.2 }))
+    ap (λ b. front_of situation (b ++ last)) h.3 ∙ open-front situation last h.0 (opened last h.4) ∙ cond-false (nat_le 1000 situation.depth) _ _ (shallow h.5)
+    ∙ same-piece kind.Open _ name _ text last last (sym h.1) (sym h.2) refl
   where
     shallow : situation.depth < 1000 → nat_le 1000 situation.depth ≡ false
     shallow h = grind (arith, nat_tests)
 taken situation kind.TooDeep name text bytes last h =
     let rest = h.3 in
     let whole : bytes ++ last ≡ OPEN_BRACE ∷ rest = ap (λ xs. bytes ++ xs) h.6 ∙ append-nil bytes ∙ h.4 in
-    subst (λ w. Takes (front_of situation w) kind.TooDeep name text bytes w) (sym whole)
-    (subst (λ f. Takes f kind.TooDeep name text bytes (OPEN_BRACE ∷ rest)) (sym (open-front situation rest h.0 (opened rest h.5) ∙ cond-true (nat_le 1000 situation.depth) _ _ (deep h.7)))
-    (record { kind_is = refl; taken_is = sym (ap length h.4); name_is = sym h.1; text_is = sym h.2 }))
+    ap (front_of situation) whole ∙ open-front situation rest h.0 (opened rest h.5) ∙ cond-true (nat_le 1000 situation.depth) _ _ (deep h.7)
+    ∙ same-piece kind.TooDeep _ name _ text _ last (sym h.1) (sym h.2) (sym h.6)
   where
     deep : 1000 ≤ situation.depth → nat_le 1000 situation.depth ≡ true
     deep h = grind (arith, nat_tests)
 taken situation kind.Close name text bytes last h =
-    subst (λ b. Takes (front_of situation (b ++ last)) kind.Close name text b (b ++ last)) (sym h.3)
-    (subst (λ f. Takes f kind.Close name text (CLOSE_BRACE ∷ []) (CLOSE_BRACE ∷ last))
-    (sym (cond-false (situation.in_recipe && false) _ _ (and-false situation.in_recipe) ∙ cond-true (nat_lt 0 situation.depth) _ _ (deep h.0)))
-    (record { kind_is = refl; taken_is = refl; name_is = sym h.1; text_is = sym h.2 }))
+    ap (λ b. front_of situation (b ++ last)) h.3 ∙ cond-false (situation.in_recipe && false) _ _ (and-false situation.in_recipe)
+    ∙ cond-true (nat_lt 0 situation.depth) _ _ (deep h.0)
+    ∙ same-piece kind.Close _ name _ text last last (sym h.1) (sym h.2) refl
   where
     deep : 0 < situation.depth → nat_lt 0 situation.depth ≡ true
     deep h = grind (arith, nat_tests)

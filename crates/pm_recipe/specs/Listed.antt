@@ -1,8 +1,8 @@
 -- The statements of an rcfile as a value, from the left: a text has these, and no others (`one_rc`).
-use Rattle.std.specs.Prelude.{ℕ, ◌-◌, zero, suc, List, [], ◌∷◌, ◌++◌, take}
+use Rattle.std.specs.Prelude.{ℕ, ◌-◌, zero, suc, List, [], ◌∷◌, ◌++◌, length}
 use Rattle.pm_recipe.specs.declared.fronts.Situation.{Situation}
 use Rattle.pm_recipe.specs.Tree.{Trees}
-use Rattle.pm_recipe.specs.Front.{front_of}
+use Rattle.pm_recipe.specs.Front.{front_of, before}
 use Rattle.pm_recipe.specs.Spans.{span_of, line_past, situation_after, start}
 use Rattle.pm_recipe.specs.Spells.{Piece, end_of, spans_of}
 use Rattle.pm_recipe.specs.Ends.{Blocks, no_blocks, blocks_behind, closings}
@@ -16,8 +16,8 @@ pieces skip line situation [] = []
 pieces (suc skip) line situation (byte ∷ bytes) = pieces skip (line_past byte line) situation bytes
 pieces zero line situation (byte ∷ bytes) =
     let front = front_of situation (byte ∷ bytes) in
-    (record { span = span_of front line (byte ∷ bytes); bytes = take front.taken (byte ∷ bytes) })
-    ∷ pieces (front.taken - 1) (line_past byte line) (situation_after front.kind situation) bytes
+    (record { span = span_of front line; bytes = before (byte ∷ bytes) front.behind })
+    ∷ pieces (length bytes - length front.behind) (line_past byte line) (situation_after front.kind situation) bytes
 
 -- the pieces of an rcfile
 abbrev pub pieces_of : List ℕ → List Piece

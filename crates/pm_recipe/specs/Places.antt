@@ -1,5 +1,5 @@
 -- How far a reader comes in a text, from the place where it stands.
-use Rattle.std.specs.Prelude.{ℕ, ◌+◌, List, [], ◌∷◌, if◌then◌else◌, nat_eq, Bool, false, not, ◌&&◌, ◌||◌, drop}
+use Rattle.std.specs.Prelude.{ℕ, ◌+◌, List, [], ◌∷◌, if◌then◌else◌, nat_eq, Bool, false, not, ◌&&◌, ◌||◌, take, drop}
 use Rattle.pm_recipe.specs.Bytes.{begins_with}
 use Rattle.pm_bytes.specs.Alphabet.{NEWLINE, BACKSLASH}
 
@@ -35,6 +35,10 @@ rest_of places joined place (byte ∷ bytes) =
 -- how far a reader comes from this place
 abbrev pub far : {Place : Type 0} → Places Place → Place → List ℕ → ℕ
 far places place text = reach_of places false place text
+
+-- what is read
+abbrev pub passed : {Place : Type 0} → Places Place → Place → List ℕ → List ℕ
+passed places place text = take (far places place text) text
 
 -- what stands behind there
 abbrev pub behind : {Place : Type 0} → Places Place → Place → List ℕ → List ℕ

@@ -1,7 +1,7 @@
 -- An rcfile cut into spans, from the left.
-use Rattle.std.specs.Prelude.{ℕ, ◌+◌, ◌-◌, List, [], ◌∷◌, if◌then◌else◌, nat_eq, false, true, slice_range, take}
+use Rattle.std.specs.Prelude.{ℕ, ◌+◌, ◌-◌, List, [], ◌∷◌, if◌then◌else◌, nat_eq, false, true}
 use Rattle.pm_bytes.specs.Alphabet.{NEWLINE}
-use Rattle.pm_recipe.specs.declared.fronts.Front.{Front}
+use Rattle.pm_recipe.specs.Front.{Front}
 use Rattle.pm_recipe.specs.declared.fronts.Situation.{Situation}
 use Rattle.pm_recipe.specs.declared.fronts.Kind.{Kind}
 use Rattle.pm_recipe.specs.declared.fronts.Kind.TheVariants.{Gap, Colon, Condition, Open, Close}
@@ -14,8 +14,8 @@ pub record Span : Type 0 where
   pub text : List ℕ
 
 -- the span of a front on this line
-abbrev pub span_of : Front → ℕ → List ℕ → Span
-span_of front line text = record { kind = front.kind; line = line; name = take front.mid text; text = slice_range text front.from front.to }
+abbrev pub span_of : Front → ℕ → Span
+span_of front line = record { kind = front.kind; line = line; name = front.name; text = front.text }
 
 -- the number of the line behind a byte
 abbrev pub line_past : ℕ → ℕ → ℕ

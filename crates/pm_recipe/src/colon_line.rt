@@ -1,5 +1,5 @@
 //! The line on which a recipe begins: its flags and its lock.
-ghost use Rattle.std.specs.Prelude.{◌≡◌, ◌≤◌, ◌<◌, ◌+◌, ◌-◌, length, IfOk, nat_lt, drop, [], ◌∷◌};
+ghost use Rattle.std.specs.Prelude.{◌≡◌, ◌≤◌, ◌<◌, ◌+◌, ◌-◌, length, IfOk, nat_lt, take, drop, [], ◌∷◌};
 ghost use Rattle.pm_recipe.specs.Places.{far};
 ghost use Rattle.pm_recipe.specs.Runs.{run_places};
 ghost use Rattle.pm_recipe.specs.declared.runs.Run.TheVariants.{Letters};
@@ -9,21 +9,23 @@ ghost use Rattle.pm_recipe.specs.Colon.{lock_of, has_junk, has_letter, flags_of}
 
 use crate::bytes::starts_with;
 use crate::line_words::{InFlags, InTail};
-use crate::places::{past, past_first, reach};
+use crate::places::{past, past_first, reach, split};
 use crate::runs::{Run, UpTo};
 use crate::tree::Flags;
 use crate::words::InWord;
 use pm_bytes::{Blob, COLON, HASH, Memory, NEWLINE};
 use std::alloc::Global;
 
-pub fn word_in(text: &[u8]) -> usize
-    ensures length { result ≡ word_length text.now }
-    ensures within { result ≤ length text.now }
+/// A word, and what follows it. One that begins with `#` is a comment, and the word is empty.
+pub fn split_word(text: &[u8]) -> (&[u8], &[u8])
+    ensures word { result.0.now ≡ take (word_length text.now) text.now }
+    ensures behind { result.1.now ≡ drop (word_length text.now) text.now }
+    ensures shorter { length result.1.now ≤ length text.now }
 {
     if starts_with(HASH, text) {
-        0
+        (&[], text)
     } else {
-        reach(InWord::Plain, text).length
+        split(InWord::Plain, text)
     }
 }
 
@@ -52,9 +54,7 @@ fn past_zero(text: &[u8]) -> &[u8]
 fn flags_in(text: &[u8]) -> &[u8]
     ensures { result.now ≡ flags_part text.now }
 {
-    let rest = past_zero(text);
-    let end = reach(InFlags::Word, rest).length;
-    &rest[..end]
+    split(InFlags::Word, past_zero(text)).0
 }
 
 fn past_flags(text: &[u8]) -> &[u8]
@@ -81,16 +81,7 @@ fn past_lock(text: &[u8]) -> &[u8]
     ensures text { result.now ≡ behind_lock text.now }
     ensures shorter { length result.now ≤ length text.now - 1 }
 {
-    let rest = from_lock(text);
-    past_word(rest, word_in(rest))
-}
-
-fn past_word(text: &[u8], end: usize) -> &[u8]
-    requires { end ≤ length text.now }
-    ensures text { result.now ≡ drop end text.now }
-    ensures shorter { length result.now ≤ length text.now }
-{
-    &text[end..]
+    split_word(from_lock(text)).1
 }
 
 /// What follows the line.
@@ -111,9 +102,7 @@ pub fn read_lock(alloc: Global, text: &[u8]) -> Result<Option<Blob>, Memory>
     if !is_locked(text) {
         return Ok(None);
     }
-    let rest = from_lock(text);
-    let end = word_in(rest);
-    Ok(Some(Blob::from_slice(alloc, &rest[..end])?))
+    Ok(Some(Blob::from_slice(alloc, split_word(from_lock(text)).0)?))
 }
 
 fn has_other_flags(text: &[u8]) -> bool

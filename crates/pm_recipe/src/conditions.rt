@@ -8,7 +8,7 @@ ghost use Rattle.pm_recipe.specs.Weights.{dollar_line};
 use crate::bytes::starts_with;
 use crate::joins::{trim, without_indents, without_joins};
 use crate::leads::{InLead, InNumeral};
-use crate::places::{past, past_first, reach};
+use crate::places::{past, past_first, reach, split};
 use crate::runs::{Run, UpTo};
 use crate::tree::{Condition, Weight};
 use pm_bytes::{Blob, CARET, DOLLAR, DOT, MINUS, Memory, PLUS, is_blank, is_digit};
@@ -58,8 +58,7 @@ fn digits_in(text: &[u8]) -> &[u8]
 fn numeral_in(text: &[u8]) -> &[u8]
     ensures { result.now ≡ numeral text.now }
 {
-    let end = reach(InNumeral::Sign, text).length;
-    &text[..end]
+    split(InNumeral::Sign, text).0
 }
 
 fn exponent_in(text: &[u8]) -> &[u8]
@@ -178,9 +177,9 @@ fn has_dollar(text: &[u8]) -> bool
 fn read_dollar_line(alloc: Global, text: &[u8]) -> Result<Blob, Memory>
     ensures { IfOk result (λ line. line ≡ dollar_line text.now) }
 {
-    let end = reach(UpTo::Dollar, text).length;
-    let mut line = without_indents(alloc, &text[..end])?;
-    let rest = without_joins(alloc, past(UpTo::Dollar, text))?;
+    let (front, rest) = split(UpTo::Dollar, text);
+    let mut line = without_indents(alloc, front)?;
+    let rest = without_joins(alloc, rest)?;
     line.push_slice(rest.as_slice())?;
     Ok(line)
 }

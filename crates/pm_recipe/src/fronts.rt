@@ -1,13 +1,14 @@
 //! What stands at the front of an rcfile's text: the next span, by its first bytes and the situation.
 ghost use Rattle.std.specs.Prelude.{◌≡◌, ◌≤◌, ◌<◌, ◌^◌, ◌+◌, length, true};
-ghost use Rattle.pm_recipe.specs.Front.{front_of, gap, line_front, Within};
+ghost use Rattle.pm_recipe.specs.Front.{front_in, front_of, gap, before, whole_front, byte_front};
 ghost use Rattle.pm_recipe.specs.Spans.{situation_after, in_statements};
 ghost use Rattle.pm_recipe.specs.Opens.{Knows};
 
 use crate::bytes::starts_with;
 use crate::lines::recipe_line_at;
 use crate::names::statement_at;
-use crate::newlines::line_end;
+use crate::newlines::past_line;
+use crate::places::past_first;
 use pm_bytes::{BACKSLASH, CLOSE_BRACE, COLON, HASH, NEWLINE, is_space};
 
 /// What a span is.
@@ -29,14 +30,13 @@ pub enum Kind {
     Skipped,
 }
 
-/// The front of a text: a name of `mid` bytes, and a text from `from` to `to`. It takes `taken` bytes.
+/// The front of a text: a span's name and its text, and what is behind the span.
 #[derive(Clone, Copy)]
-pub struct Front {
+pub struct Front<'a> {
     pub kind: Kind,
-    pub mid: usize,
-    pub from: usize,
-    pub to: usize,
-    pub taken: usize,
+    pub name: &'a [u8],
+    pub text: &'a [u8],
+    pub behind: &'a [u8],
 }
 
 /// How many blocks are open, and whether a recipe has begun.
@@ -49,50 +49,72 @@ pub struct Situation {
 // As many blocks may be nested.
 const MOST_BLOCKS: usize = 1000;
 
-fn gap_of(taken: usize) -> Front
-    ensures { result ≡ gap taken }
+fn gap_of(behind: &[u8]) -> Front<'_>
+    ensures front { front_in result ≡ gap behind.now }
+    ensures kind { result.kind ≡ Kind.Gap }
 {
     Front {
         kind: Kind::Gap,
-        mid: 0,
-        from: 0,
-        to: 0,
-        taken,
+        name: &[],
+        text: &[],
+        behind,
     }
 }
 
-/// A text from `from` on that is the whole front behind it.
-pub fn line_of(kind: Kind, from: usize, taken: usize) -> Front
-    ensures { result ≡ line_front kind from taken }
+/// What stands in a text before what is left of it.
+pub fn text_before<'a>(text: &'a [u8], left: &[u8]) -> &'a [u8]
+    requires { length left.now ≤ length text.now }
+    ensures { result.now ≡ before text.now left.now }
+{
+    &text[..text.len() - left.len()]
+}
+
+/// A span whose text is all that stands before these bytes.
+pub fn whole_span<'a>(kind: Kind, text: &'a [u8], behind: &'a [u8]) -> Front<'a>
+    requires { length behind.now ≤ length text.now }
+    ensures front { front_in result ≡ whole_front kind text.now behind.now }
+    ensures kind { result.kind ≡ kind }
 {
     Front {
         kind,
-        mid: 0,
-        from,
-        to: taken,
-        taken,
+        name: &[],
+        text: text_before(text, behind),
+        behind,
+    }
+}
+
+/// A span of one byte.
+pub fn byte_span(kind: Kind, text: &[u8]) -> Front<'_>
+    requires { 0 < length text.now }
+    ensures front { front_in result ≡ byte_front kind text.now }
+    ensures kind { result.kind ≡ kind }
+{
+    Front {
+        kind,
+        name: &[],
+        text: &text[..1],
+        behind: &text[1..],
     }
 }
 
 /// What stands at the front, where `known` tells of some of the text's words whether they leave a quote open.
-pub fn front_at(known: &[bool], situation: &Situation, text: &[u8]) -> Front
+pub fn front_at<'a>(known: &[bool], situation: &Situation, text: &'a [u8]) -> Front<'a>
     requires some { 0 < length text.now }
-    requires room { length text.now < 2 ^ 63 }
     requires knows { Knows known.now text.now }
-    ensures front { result ≡ front_of situation.now text.now }
+    ensures front { front_in result ≡ front_of situation.now text.now }
     ensures open { result.kind ≡ Kind.Open → situation.now.in_recipe ≡ true }
     ensures close { result.kind ≡ Kind.Close → 0 < situation.now.depth }
-    ensures within { Within result (length text.now) }
 {
     let byte = text[0];
+    let rest = past_first(text);
     if is_space(byte) {
-        return gap_of(1);
+        return gap_of(rest);
     }
-    if byte == BACKSLASH && starts_with(NEWLINE, &text[1..]) {
-        return gap_of(2);
+    if byte == BACKSLASH && starts_with(NEWLINE, rest) {
+        return gap_of(past_first(rest));
     }
     if byte == HASH {
-        return gap_of(line_end(&text[1..]) + 1);
+        return gap_of(past_line(rest));
     }
     if situation.in_recipe && byte != CLOSE_BRACE && byte != COLON {
         recipe_line_at(situation.depth >= MOST_BLOCKS, text)

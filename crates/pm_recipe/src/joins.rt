@@ -4,7 +4,7 @@ ghost use Rattle.pm_recipe.specs.declared.joins.Side.TheVariants as Side;
 ghost use Rattle.pm_recipe.specs.Joins.{is_join, unjoined, unindented, before_blanks};
 ghost use Rattle.pm_recipe.specs.Kept.{is_dropped, side_after, kept, trimmed};
 
-use crate::places::{newline_behind, reach};
+use crate::places::{newline_behind, past};
 use crate::runs::Run;
 use pm_bytes::{BACKSLASH, Blob, Memory, is_blank};
 use std::alloc::Global;
@@ -100,6 +100,5 @@ fn without_last_blanks(text: &[u8]) -> &[u8]
 pub fn trim(text: &[u8]) -> &[u8]
     ensures { result.now ≡ trimmed text.now }
 {
-    let blanks = reach(Run::Blanks, text).length;
-    without_last_blanks(&text[blanks..])
+    without_last_blanks(past(Run::Blanks, text))
 }

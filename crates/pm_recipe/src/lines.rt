@@ -1,15 +1,12 @@
 //! Lines of a recipe at their first byte: conditions and actions.
-ghost use Rattle.std.specs.Prelude.{◌≡◌, ◌≤◌, ◌<◌, ◌^◌, ◌+◌, ◌-◌, length, drop, true};
-ghost use Rattle.pm_recipe.specs.Places.{far};
-ghost use Rattle.pm_recipe.specs.Runs.{run_places};
-ghost use Rattle.pm_recipe.specs.declared.runs.Run.TheVariants.{Line, Blanks};
-ghost use Rattle.pm_recipe.specs.Front.{opens, ends_line, behind_equals, captures, capture, other_action, recipe_line};
-ghost use Rattle.pm_recipe.specs.Front.{line_front, name_width, behind_name, brace, Within};
+ghost use Rattle.std.specs.Prelude.{◌≡◌, ◌<◌, length};
+ghost use Rattle.pm_recipe.specs.Front.{front_in, opens, ends_line, behind_equals, captures, capture, other_action};
+ghost use Rattle.pm_recipe.specs.Front.{line_front, brace, recipe_line};
 
 use crate::bytes::starts_with;
-use crate::fronts::{Front, Kind, line_of};
+use crate::fronts::{Front, Kind, byte_span, whole_span};
 use crate::names::{is_name_end, past_name};
-use crate::places::{past, past_first, reach};
+use crate::places::{past, past_first, split};
 use crate::runs::Run;
 use pm_bytes::{BANG, BAR, EQUALS, NEWLINE, OPEN_BRACE, STAR, begins_name};
 
@@ -40,101 +37,85 @@ fn is_capture(text: &[u8]) -> bool
     starts_with(EQUALS, past_name(text)) && starts_with(BAR, past_equals(text))
 }
 
-// The rest of the line, from a byte within it on.
-fn line_from(kind: Kind, from: usize, text: &[u8]) -> Front
-    requires some { 0 < length text.now }
-    requires room { length text.now < 2 ^ 63 }
-    requires from { from ≤ 1 }
-    ensures front { result ≡ line_front kind from (far run_places Line (drop 1 text.now) + 1) }
-    ensures within { Within result (length text.now) }
+fn line_span(kind: Kind, text: &[u8]) -> Front<'_>
+    ensures front { front_in result ≡ line_front kind text.now }
+    ensures kind { result.kind ≡ kind }
 {
-    line_of(kind, from, reach(Run::Line, past_first(text)).length + 1)
-}
-
-fn capture_at(text: &[u8]) -> Front
-    requires room { length text.now < 2 ^ 63 }
-    requires captures { captures text.now ≡ true }
-    ensures front { result ≡ capture text.now (name_width text.now + 1 + far run_places Blanks
-        (drop 1 (behind_name text.now)) + 1) }
-    ensures within { Within result (length text.now) }
-{
-    let mid = reach(Run::Name, text).length;
-    let width = text.len() - past_name(text).len();
-    let behind = past_first(past_name(text));
-    let from = width + 1 + reach(Run::Blanks, behind).length + 1;
-    let to = from + reach(Run::Line, past_first(past_equals(text))).length;
+    let (text, behind) = split(Run::Line, text);
     Front {
-        kind: Kind::Capture,
-        mid,
-        from,
-        to,
-        taken: to,
+        kind,
+        name: &[],
+        text,
+        behind,
     }
 }
 
-fn other_action_at(text: &[u8]) -> Front
+fn capture_at(text: &[u8]) -> Front<'_>
+    ensures front { front_in result ≡ capture text.now }
+    ensures kind { result.kind ≡ Kind.Capture }
+{
+    let (name, _) = split(Run::Name, text);
+    let (line, behind) = split(Run::Line, past_first(past_equals(text)));
+    Front {
+        kind: Kind::Capture,
+        name,
+        text: line,
+        behind,
+    }
+}
+
+fn other_action_at(text: &[u8]) -> Front<'_>
     requires some { 0 < length text.now }
-    requires room { length text.now < 2 ^ 63 }
-    ensures front { result ≡ other_action text.now }
+    ensures front { front_in result ≡ other_action text.now }
     ensures no_close { result.kind ≡ Kind.Close → ⊥ }
-    ensures within { Within result (length text.now) }
 {
     if begins_name(text[0]) && is_capture(text) {
         capture_at(text)
     } else {
-        line_from(Kind::Mailbox, 0, text)
+        whole_span(Kind::Mailbox, text, past(Run::Line, past_first(text)))
     }
 }
 
-fn brace_at(deep: bool, text: &[u8]) -> Front
+fn brace_at(deep: bool, text: &[u8]) -> Front<'_>
     requires some { 0 < length text.now }
-    ensures front { result ≡ brace deep text.now }
+    ensures front { front_in result ≡ brace deep text.now }
     ensures no_close { result.kind ≡ Kind.Close → ⊥ }
-    ensures within { Within result (length text.now) }
 {
     if deep {
         Front {
             kind: Kind::TooDeep,
-            mid: 0,
-            from: 0,
-            to: 1,
-            taken: text.len(),
+            name: &[],
+            text: &text[..1],
+            behind: &[],
         }
     } else {
-        Front {
-            kind: Kind::Open,
-            mid: 0,
-            from: 0,
-            to: 1,
-            taken: 1,
-        }
+        byte_span(Kind::Open, text)
     }
 }
 
 /// A line of a recipe at its first byte.
-pub fn recipe_line_at(deep: bool, text: &[u8]) -> Front
+pub fn recipe_line_at(deep: bool, text: &[u8]) -> Front<'_>
     requires some { 0 < length text.now }
-    requires room { length text.now < 2 ^ 63 }
-    ensures front { result ≡ recipe_line deep text.now }
+    ensures front { front_in result ≡ recipe_line deep text.now }
     ensures no_close { result.kind ≡ Kind.Close → ⊥ }
-    ensures within { Within result (length text.now) }
 {
     let byte = text[0];
+    let rest = past_first(text);
     if byte == STAR {
-        return line_from(Kind::Condition, 1, text);
+        return line_span(Kind::Condition, rest);
     }
-    if byte == OPEN_BRACE && opens_block(past_first(text)) {
+    if byte == OPEN_BRACE && opens_block(rest) {
         return brace_at(deep, text);
     }
     if byte == BANG {
-        return line_from(Kind::Forward, 1, text);
+        return line_span(Kind::Forward, rest);
     }
     if byte != BAR {
         return other_action_at(text);
     }
-    if at_line_end(past(Run::Blanks, past_first(text))) {
-        line_from(Kind::WriteOut, 1, text)
+    if at_line_end(past(Run::Blanks, rest)) {
+        line_span(Kind::WriteOut, rest)
     } else {
-        line_from(Kind::Pipe, 1, text)
+        line_span(Kind::Pipe, rest)
     }
 }

@@ -1,6 +1,6 @@
 //! The ends of lines.
 ghost use Rattle.std.specs.Prelude.{◌≡◌, ◌≤◌, length};
-ghost use Rattle.pm_recipe.specs.Places.{far};
+ghost use Rattle.pm_recipe.specs.Places.{far, behind};
 ghost use Rattle.pm_recipe.specs.Runs.{up_to_places};
 ghost use Rattle.pm_recipe.specs.declared.runs.UpTo.TheVariants.{Newline};
 ghost use Rattle.pm_recipe.specs.Spans.{newlines};
@@ -9,7 +9,7 @@ use memchr::memchr;
 use pm_bytes::NEWLINE;
 
 /// How far it is to the end of the line as written.
-pub fn line_end(text: &[u8]) -> usize
+fn line_end(text: &[u8]) -> usize
     ensures length { result ≡ far up_to_places Newline text.now }
     ensures within { result ≤ length text.now }
 {
@@ -17,6 +17,14 @@ pub fn line_end(text: &[u8]) -> usize
         Some(end) => end,
         None => text.len(),
     }
+}
+
+/// The end of the line as written, and what follows.
+pub fn past_line(text: &[u8]) -> &[u8]
+    ensures text { result.now ≡ behind up_to_places Newline text.now }
+    ensures shorter { length result.now ≤ length text.now }
+{
+    &text[line_end(text)..]
 }
 
 /// How many lines end in a text.

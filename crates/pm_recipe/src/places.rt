@@ -3,7 +3,7 @@ ghost use Rattle.std.specs.Prelude.{◌≡◌, ◌≤◌, ◌<◌, length, drop,
 ghost use Rattle.std.specs.Prelude.{◌-◌, Bool, ℕ};
 ghost use Rattle.pm_bytes.specs.Alphabet as alphabet;
 ghost use Rattle.pm_recipe.specs.Bytes.{begins_with};
-ghost use Rattle.pm_recipe.specs.Places.{Places, reach_of, rest_of, far, behind};
+ghost use Rattle.pm_recipe.specs.Places.{Places, reach_of, rest_of, far, passed, behind};
 
 use crate::bytes::starts_with;
 use pm_bytes::{BACKSLASH, NEWLINE};
@@ -86,13 +86,22 @@ fn place_behind<P: Place>(joined: bool, joining: bool, place: P, byte: u8) -> P
     }
 }
 
+/// What is read, and what is behind, where a reader comes no further.
+pub fn split<P: Place>(place: P, text: &[u8]) -> (&[u8], &[u8])
+    ensures passed { result.0.now ≡ passed P.places place text.now }
+    ensures behind { result.1.now ≡ behind P.places place text.now }
+    ensures length { far P.places place text.now + length result.1.now ≡ length text.now }
+{
+    let length = reach(place, text).length;
+    (&text[..length], &text[length..])
+}
+
 /// What is behind, where a reader comes no further.
 pub fn past<P: Place>(place: P, text: &[u8]) -> &[u8]
     ensures text { result.now ≡ behind P.places place text.now }
     ensures length { far P.places place text.now + length result.now ≡ length text.now }
 {
-    let length = reach(place, text).length;
-    &text[length..]
+    split(place, text).1
 }
 
 /// The bytes behind the first.

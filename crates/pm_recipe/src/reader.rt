@@ -9,7 +9,7 @@ ghost use Rattle.pm_recipe.specs.Builder.{built_of, whole, Stands};
 
 use crate::building::Builder;
 use crate::ends::{Unended, none_unended, tell_missing, unended_behind};
-use crate::fronts::{Kind, front_at, situation_behind, statements_in};
+use crate::fronts::{Kind, front_at, situation_behind, statements_in, text_before};
 use crate::items::take_span;
 use crate::newlines::newlines_in;
 use crate::quotes::open_words;
@@ -60,22 +60,15 @@ fn read_statements(alloc: Global, bytes: &[u8]) -> Result<Statements, Memory>
     let mut unended = none_unended();
     let mut known = Vec::new(alloc);
     let mut line = 1;
-    let mut at = 0;
-    while at < bytes.len() {
-        let rest = &bytes[at..];
+    let mut rest = bytes;
+    while !rest.is_empty() {
         let front = front_at(&known, &situation, rest);
         learn(alloc, front.kind, bytes, &mut known)?;
-        take_span(
-            &mut builder,
-            front.kind,
-            line,
-            &rest[..front.mid],
-            &rest[front.from..front.to],
-        )?;
+        take_span(&mut builder, front.kind, line, front.name, front.text)?;
         unended = unended_behind(front.kind, line, situation, unended);
         situation = situation_behind(front.kind, situation);
-        line += newlines_in(&rest[..front.taken]);
-        at += front.taken;
+        line += newlines_in(text_before(rest, front.behind));
+        rest = front.behind;
     }
     finish(builder, situation.depth, unended)
 }

@@ -1,9 +1,14 @@
 use Rattle.std.proofs.Common.{ap, sym, ◌∙◌, subst, drop}
+use Rattle.pm_recipe.specs.Places.{behind}
+use Rattle.pm_recipe.specs.declared.runs.Run.TheVariants as Run
+use Rattle.pm_recipe.specs.Runs.{run_places}
 use Rattle.pm_recipe.specs.Opens.{Knows}
 use Rattle.pm_recipe.proofs.OpenWords.{knows-value}
 use Rattle.pm_recipe.proofs.names.named_at.Goals as goal
 
-pub assignment_at-requires-clause-knows : goal.assignment_at-requires-clause-knows
-assignment_at-requires-clause-knows c =
-    subst (λ xs. Knows c.args.known.now xs) (sym (c.past_first.ensures.text ∙ ap (drop 1) c.past_name-rest.ensures.text))
-    (knows-value c.args.known.now c.args.text.now c.requires.knows)
+pub assignment_at-requires : goal.assignment_at-requires
+assignment_at-requires c = record {
+  knows = subst (λ xs. Knows c.args.known.now xs)
+      (sym (c.past.ensures.text ∙ ap (behind run_places Run.Blanks) (c.past_first.ensures.text ∙ ap (drop 1) c.past_name-rest.ensures)))
+      (knows-value c.args.known.now c.args.text.now c.requires.knows);
+}
