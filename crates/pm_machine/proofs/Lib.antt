@@ -11,6 +11,7 @@ pub mod TreeDelivered
 pub mod LastStep
 pub mod FirstKept
 pub mod EndStatus
+mod OneEnding
 pub mod DeliveredLast
 pub mod NoStray
 pub mod DefaultDelivered

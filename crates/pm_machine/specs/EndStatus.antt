@@ -43,3 +43,7 @@ abbrev pub EndHasStatus : Type 0
 EndHasStatus =
     (line : CommandLine) (env : Environ) (bytes : List ℕ) (entries : List Entry) (ending : Ending) → Means advance (run_of line env bytes) entries ending
     → EndsBy (run_of line env bytes) entries ending
+
+-- and over the same entries it does so in one way
+abbrev pub EndsOneWay : Type 0
+EndsOneWay = (c : Course) (entries : List Entry) (first second : Ending) → EndsBy c entries first → EndsBy c entries second → first ≡ second

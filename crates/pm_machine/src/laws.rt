@@ -1,7 +1,7 @@
 //! Laws of a run, each as the contract of a call that does nothing.
 ghost use Rattle.pm_machine.specs.Laws.{EndsOrWants, OneEnd, DeliveredIsDone};
 ghost use Rattle.pm_machine.specs.Completeness.{ClearIsWell};
-ghost use Rattle.pm_machine.specs.EndStatus.{EndHasStatus};
+ghost use Rattle.pm_machine.specs.EndStatus.{EndHasStatus, EndsOneWay};
 
 /// Over the same entries a step that ends wants no act.
 pub fn ends_or_wants()
@@ -25,6 +25,11 @@ pub fn delivered_is_done()
 /// behind the entries up to the end, and by the variables that the process had then.
 pub fn end_has_status()
     ensures { EndHasStatus }
+{}
+
+/// Over the same entries there is one such end, and so one status.
+pub fn ends_one_way()
+    ensures { EndsOneWay }
 {}
 
 /// Where each lock is got and each mailbox and folder takes its piece, where a mail filter's rcfile is read, and where a
