@@ -18,6 +18,7 @@ use Rattle.pm_top.specs.Promise.{IsFramed, Promise}
 use Rattle.pm_top.specs.Traced.{Traced}
 use Rattle.pm_journal.proofs.ChildrenStay.{no_child_left}
 use Rattle.pm_machine.proofs.ClearRun.{clear_is_well}
+use Rattle.pm_machine.proofs.EndStatus.{end_has_status}
 use Rattle.pm_top.proofs.Faultless.{faultless_in}
 use Rattle.pm_top.proofs.Grown.{grown_in, calls_child}
 use Rattle.pm_top.proofs.Refusals.{meaning_of, starved_of, refuses_of}
@@ -86,6 +87,7 @@ promised run t locks child = let a = t.account in record {
   how = t.how;
   account = a;
   meaning = meaning_of run t.how;
+  status = λ h. end_has_status h.line run.env h.mail run.entries h.ending h.means;
   state = record { tree = tree_in run t.how a; written = written_in run t.how a; said = said_in run t.how a };
   deliveries = accounts_deliver (done_in run t.how) run.before a.middle a.accounts;
   files = grown_in run t.how a;
@@ -98,7 +100,7 @@ promised run t locks child = let a = t.account in record {
   };
   refusals = refuses_of run t.how;
   memory = starved_of run t.how;
-  complete = λ h clear. clear_is_well h.line run.env h.mail run.entries h.ending h.means clear;
+  complete = λ h clear. clear_is_well end_has_status h.line run.env h.mail run.entries h.ending h.means clear;
   faultless = faultless_in run t.how a;
   children = (ran_in run t.how a).child ∙ (ap (child_after (joined a.accounts.groups ++ calls_in run t.how ++ joined a.back.groups)) child ∙ none_runs run t.how a);
 }

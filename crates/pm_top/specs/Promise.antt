@@ -9,6 +9,7 @@ use Rattle.pm_journal.specs.Deliveries.{all_folders, asked_folders, AllDelivered
 use Rattle.pm_journal.specs.Held.{AllGivenBack}
 use Rattle.pm_journal.specs.Laws.{SomeFaulty}
 use Rattle.pm_machine.specs.Completeness.{IsClear, EndsWell}
+use Rattle.pm_machine.specs.EndStatus.{EndsBy}
 use Rattle.pm_machine.specs.Courses.{run_of}
 use Rattle.pm_words.specs.Words.{command_line}
 use Rattle.pm_top.specs.Run.{Run}
@@ -90,6 +91,8 @@ pub record Promise (run : Run) : Type 0 where
   pub account : Account run how
   -- the entries are the meaning of every run that was neither refused nor starved
   pub meaning : IsRefused run ⊎ (IsStarved run ⊎ HasMeaning run)
+  -- its status is that of its first process's end
+  pub status : (h : HasMeaning run) → EndsBy (run_of h.line run.env h.mail) run.entries h.ending
   -- the files and the sinks are what the account makes of them
   pub state : HasState run how account
   -- each act left in the files what its reply says
@@ -104,8 +107,9 @@ pub record Promise (run : Run) : Type 0 where
   pub refusals : Refuses run
   -- a run with status 71 was starved, or its meaning gives that status
   pub memory : run.status ≡ 71 → IsStarved run ⊎ HasMeaning run
-  -- where nothing stands in its way, the first process delivers the mail or goes off on another host
-  pub complete : (h : HasMeaning run) → IsClear (run_of h.line run.env h.mail) run.entries → EndsWell h.ending
+  -- where nothing stands in its way, the first process delivers the mail or goes off on another host, and the status is that of this end
+  pub complete : (h : HasMeaning run) → IsClear (run_of h.line run.env h.mail) run.entries
+      → EndsWell (run_of h.line run.env h.mail) run.entries h.ending
   -- where an entry of the host's tells of a fault, the host's count rose in the run
   pub faultless : SomeFaulty run.entries → Rose run.before.host.faults run.after.host.faults
   -- no child runs afterwards
