@@ -23,6 +23,7 @@ pub fn delivered_is_done()
 
 /// The status of each run is that of its first process's end, by the exit code of TRAP's program, where that was to run
 /// behind the entries up to the end, and by the variables that the process had then.
+#[tactic(auto, using(crate::proofs::EndStatus::end_has_status))]
 pub fn end_has_status()
     ensures { EndHasStatus }
 {}
