@@ -3,6 +3,7 @@ pub mod EnvironmentLemmas
 pub mod JudgeLemmas
 pub mod ConditionLemmas
 pub mod ProcessLemmas
+mod FirstValueLemmas
 mod GlobalLemmas
 mod WalkLemmas
 mod LeaveLemmas

@@ -7,7 +7,7 @@ ghost use Rattle.pm_meaning.specs.Minds.{mind_of};
 ghost use Rattle.pm_meaning.specs.FirstValues.{environment_value, is_filled, is_login, login_name};
 ghost use Rattle.pm_meaning.specs.FirstValues.{home_folder, search_path, time_zone, first_folder};
 ghost use Rattle.pm_meaning.specs.FirstValues.{system_mailbox, user_values, place_values, mailbox_values};
-ghost use Rattle.pm_meaning.specs.FirstValues.{program_values, file_values, all_set, first_process};
+ghost use Rattle.pm_meaning.specs.FirstValues.{program_values, file_values, all_set, first_table, first_process};
 
 use pm_bytes::{Blob, Environ, Memory, Name, Names};
 use pm_journal::HeldLocks;
@@ -30,14 +30,7 @@ pub fn begin(
     ensures locks { IfOk result (λ process. process.locks.names ≡ []) }
 {
     let filter = line.filter;
-    let mut vars = Vars::new(alloc, env.pid);
-    add_arguments(alloc, &mut vars, &line.arguments)?;
-    set_user(alloc, &mut vars, env)?;
-    set_time_zone(alloc, &mut vars, env)?;
-    set_place(alloc, &mut vars, filter, env)?;
-    set_mailbox(alloc, &mut vars, filter, env)?;
-    set_programs(alloc, &mut vars)?;
-    set_files(alloc, &mut vars)?;
+    let vars = first_vars(alloc, line, env)?;
     let base = start_base(alloc, filter, env)?;
     let host_name = env.host_name.copy(alloc)?;
     Ok(Process {
@@ -60,6 +53,22 @@ pub fn begin(
             size: 0,
         },
     })
+}
+
+// The variables, with the arguments of the command line.
+fn first_vars(alloc: Global, line: &CommandLine, env: &Environ) -> Result<Vars, Memory>
+    ensures { IfOk result (λ vars. vars ≡ first_table line.now.filter line.now.arguments env.now) }
+{
+    let filter = line.filter;
+    let mut vars = Vars::new(alloc, env.pid);
+    add_arguments(alloc, &mut vars, &line.arguments)?;
+    set_user(alloc, &mut vars, env)?;
+    set_time_zone(alloc, &mut vars, env)?;
+    set_place(alloc, &mut vars, filter, env)?;
+    set_mailbox(alloc, &mut vars, filter, env)?;
+    set_programs(alloc, &mut vars)?;
+    set_files(alloc, &mut vars)?;
+    Ok(vars)
 }
 
 fn add_arguments(alloc: Global, vars: &mut Vars, arguments: &Names) -> Result<(), Memory>
