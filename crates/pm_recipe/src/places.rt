@@ -8,7 +8,7 @@ ghost use Rattle.pm_recipe.specs.Places.{Places, reach_of, rest_of, far, passed,
 use crate::bytes::starts_with;
 use pm_bytes::{BACKSLASH, NEWLINE};
 
-/// The places of one reader.
+/// A place in which a reader of a text can stand. An enum has those of one reader.
 pub trait Place: Copy {
     ghost places: { Places Self };
 
