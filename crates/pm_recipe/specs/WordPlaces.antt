@@ -1,4 +1,4 @@
--- The reader of words: which quotes are open. In each of them but the single ones a backslash takes the next byte along, a
+-- The reader of words: which quotes are open. Outside single quotes a backslash takes the next byte along, a
 -- newline too, so that two lines are joined.
 use Rattle.std.specs.Prelude.{ℕ, if◌then◌else◌, nat_eq, Bool, false, true}
 use Rattle.pm_bytes.specs.Letter.{is_space_byte}

@@ -70,7 +70,7 @@ fn named_at<'a>(known: &[bool], text: &'a [u8]) -> Front<'a>
     ensures no_close { result.kind ≡ Kind.Close → ⊥ }
 {
     let (name, behind) = split(Run::Name, text);
-    let rest = past_name(text);
+    let rest = past(Run::Blanks, behind);
     if starts_with(EQUALS, rest) {
         return assignment_at(known, text, name, past(Run::Blanks, past_first(rest)));
     }

@@ -9,6 +9,7 @@ use Rattle.pm_recipe.proofs.names.named_at.Goals as goal
 pub assignment_at-requires : goal.assignment_at-requires
 assignment_at-requires c = record {
   knows = subst (λ xs. Knows c.args.known.now xs)
-      (sym (c.past.ensures.text ∙ ap (behind run_places Run.Blanks) (c.past_first.ensures.text ∙ ap (drop 1) c.past_name-rest.ensures)))
+      (sym (c.past.ensures.text ∙ ap (behind run_places Run.Blanks) (c.past_first.ensures.text
+      ∙ ap (drop 1) (c.past-rest.ensures.text ∙ ap (behind run_places Run.Blanks) c.split.ensures.behind))))
       (knows-value c.args.known.now c.args.text.now c.requires.knows);
 }
