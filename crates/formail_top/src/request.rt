@@ -90,16 +90,25 @@ fn bars_reply(setting: &Setting) -> bool
 fn count_skips(settings: &[Setting]) -> usize
     ensures { result ≡ count_by is_skip settings.now }
 {
-    settings.iter().filter(|setting| skips(*setting)).count()
+    let mut count = 0;
+    for setting in settings {
+        if skips(setting) {
+            count += 1;
+        }
+    }
+    count
 }
 
 fn count_totals(settings: &[Setting]) -> usize
     ensures { result ≡ count_by is_total settings.now }
 {
-    settings
-        .iter()
-        .filter(|setting| bounds_total(*setting))
-        .count()
+    let mut count = 0;
+    for setting in settings {
+        if bounds_total(setting) {
+            count += 1;
+        }
+    }
+    count
 }
 
 fn has_skip(settings: &[Setting]) -> bool
@@ -203,7 +212,13 @@ fn has_cache(settings: &[Setting]) -> bool
 fn count_caches(settings: &[Setting]) -> usize
     ensures { result ≡ count_by is_cache settings.now }
 {
-    settings.iter().filter(|setting| caches(*setting)).count()
+    let mut count = 0;
+    for setting in settings {
+        if caches(setting) {
+            count += 1;
+        }
+    }
+    count
 }
 
 fn all_go_with_cache(settings: &[Setting]) -> bool
