@@ -1,6 +1,6 @@
 -- What formail writes.
-use Rattle.std.specs.Prelude.{ℕ, Bool, true, nat_eq, nat_lt, Option, Some, None, List, [], ◌∷◌, ◌++◌, ◌+◌, ◌-◌, drop, take, length, codes, if◌then◌else◌}
-use Rattle.std.specs.List.{starts_with, flat_map, concat, prefix_len, suffix_len}
+use Rattle.std.specs.Prelude.{◌≡◌, ◌⊎◌, ℕ, Bool, true, nat_eq, nat_lt, Option, Some, None, List, [], ◌∷◌, ◌++◌, ◌+◌, ◌-◌, drop, take, length, codes, if◌then◌else◌}
+use Rattle.std.specs.List.{starts_with, ends_with, flat_map, concat, prefix_len, suffix_len}
 use Rattle.pm_bytes.specs.Letter.{is_space_byte}
 use Rattle.pm_message.specs.Lines.{lines}
 use Rattle.pm_message.specs.Piece.{ended}
@@ -17,6 +17,11 @@ prefixed_line prefix line = if starts_with nat_eq line (codes "From ") then pref
 
 abbrev pub body_for : Edits → List ℕ → List ℕ
 body_for edits body = if edits.keep_body then body else flat_map (prefixed_line edits.prefix) (lines body)
+
+-- the body comes as it is, and ends what it stands behind as in a mailbox, unless `-f` stands
+pub record Stays (edits : Edits) (body : List ℕ) : Type 0 where
+  pub plain : body_for edits body ≡ body
+  pub closed : (edits.keep_from ≡ true) ⊎ (ends_with nat_eq body (codes "\n\n") ≡ true)
 
 -- a text without the blanks and newlines at its end
 abbrev pub without_back : List ℕ → List ℕ

@@ -1,16 +1,20 @@
 //! What formail writes of one mail.
-ghost use Rattle.std.specs.Prelude.{◌≡◌, ◌≤◌, ◌+◌, ◌++◌, length, IfOk, option_copied};
+ghost use Rattle.std.specs.Prelude.{◌≡◌, ◌≤◌, ◌+◌, ◌++◌, ℕ, List, true, false, codes, length, IfOk};
 ghost use Rattle.std.specs.List.{flat_map, concat, prefix_len, suffix_len};
 ghost use Rattle.bstr.specs.Text.{lines_of};
 ghost use Rattle.pm_bytes.specs.Letter.{is_space_byte};
+ghost use Rattle.pm_message.specs.Lines.{lines};
 ghost use Rattle.pm_message.specs.Piece.{ended};
 ghost use Rattle.formail_edit.specs.Keyed.{keyed, keyed_as};
-ghost use Rattle.formail_edit.specs.Output.{prefixed_line, body_for, trimmed, content_for, extraction, taken_from, taken, front_of, mail_of, edited};
+ghost use Rattle.formail_edit.specs.Sender.{line_at};
+ghost use Rattle.formail_edit.specs.Output.{prefixed_line, body_for, Stays, trimmed, content_for, extraction, taken_from, taken, front_of, mail_of, edited};
 
 use crate::application::edit_fields;
 use crate::meaning::is_meant;
-use crate::{Edits, Take};
+use crate::sender::line_before;
+use crate::{Edited, Edits, Take};
 use bstr::ByteSlice;
+use memchr::memmem;
 use pm_bytes::{Blob, Memory, is_space};
 use pm_message::{Message, field_texts, read_key};
 use std::alloc::Global;
@@ -61,23 +65,67 @@ fn with_fields(mut text: Blob, fields: &[Blob]) -> Result<Blob, Memory>
     Ok(text)
 }
 
+// The line to put in front, where there is one.
+fn front(alloc: Global, line: &Option<Blob>) -> Result<Blob, Memory>
+    ensures { IfOk result (λ front. front ≡ front_of line.now) }
+{
+    match line {
+        None => Ok(Blob::empty(alloc)),
+        Some(line) => line.copy(alloc),
+    }
+}
+
+// The mail up to its body.
+fn head(alloc: Global, fields: &[Blob], line: &Option<Blob>) -> Result<Blob, Memory>
+    ensures { IfOk result (λ head. head ≡ front_of line.now ++ concat fields.now ++ codes "\n") }
+{
+    let mut text = front(alloc, line)?;
+    text = with_fields(text, fields)?;
+    text.push_slice(b"\n")?;
+    Ok(text)
+}
+
+// Whether some line would begin a mail in a mailbox.
+fn has_from_line(text: &[u8]) -> bool
+    ensures { result ≡ false → (prefix : List ℕ) → flat_map (prefixed_line prefix) (lines text.now) ≡ text.now }
+{
+    if text.starts_with(b"From ") {
+        return true;
+    }
+    match memmem::find(text, b"\nFrom ") {
+        None => false,
+        Some(_) => true,
+    }
+}
+
+// Whether the body can stay as it is, behind any head.
+fn stays(body: &[u8], edits: &Edits) -> bool
+    ensures { result ≡ true → Stays edits.now body.now }
+{
+    if !edits.keep_from && !body.ends_with(b"\n\n") {
+        return false;
+    }
+    edits.keep_body || !has_from_line(body)
+}
+
 fn mail(
     alloc: Global,
     fields: &[Blob],
-    body: &[u8],
+    body: &Blob,
     edits: &Edits,
-    from: Option<&[u8]>,
-) -> Result<Blob, Memory>
-    ensures { IfOk result (λ mail. mail ≡ mail_of edits.now fields.now body.now (option_copied from.entry)) }
+    line: &Option<Blob>,
+) -> Result<Edited, Memory>
+    ensures { IfOk result (λ mail. mail ≡ mail_of edits.now fields.now body.now line.now) }
 {
-    let mut text = Blob::from_slice(alloc, from.unwrap_or(b""))?;
-    text = with_fields(text, fields)?;
-    text.push_slice(b"\n")?;
-    text = with_body(text, body, edits)?;
-    if edits.keep_from {
-        return Ok(text);
+    let head = head(alloc, fields, line)?;
+    if stays(body.as_slice(), edits) {
+        return Ok(Edited::new(head, body.copy(alloc)?));
     }
-    end(text)
+    let text = with_body(head, body.as_slice(), edits)?;
+    if edits.keep_from {
+        return Ok(Edited::whole(alloc, text));
+    }
+    Ok(Edited::whole(alloc, end(text)?))
 }
 
 // How many bytes the margin at the front has.
@@ -168,22 +216,17 @@ fn take_all(alloc: Global, fields: &[Blob], body: &[u8], edits: &Edits) -> Resul
     Ok(text)
 }
 
-/// What formail writes of a mail. `from` is the line to put in front, where there is one; `Memory`
-/// is the only error.
-pub fn edit(
-    alloc: Global,
-    message: &Message,
-    edits: &Edits,
-    from: Option<&[u8]>,
-) -> Result<Blob, Memory>
-    ensures { IfOk result (λ text. text ≡ edited message.now edits.now (option_copied from.entry)) }
+/// What formail writes of a mail at a moment, in seconds since 1970, in UTC. `Memory` is the only error.
+pub fn edit(alloc: Global, message: &Message, edits: &Edits, moment: i64) -> Result<Edited, Memory>
+    ensures { IfOk result (λ text. text ≡ edited message.now edits.now (line_at moment message.now edits.now)) }
 {
     let texts = field_texts(alloc, message)?;
     let fields = edit_fields(alloc, texts, edits)?;
-    let body = message.body.as_slice();
-    if edits.takes.as_slice().is_empty() {
-        mail(alloc, fields.as_slice(), body, edits, from)
-    } else {
-        take_all(alloc, fields.as_slice(), body, edits)
+    let fields = fields.as_slice();
+    if !edits.takes.as_slice().is_empty() {
+        let text = take_all(alloc, fields, message.body.as_slice(), edits)?;
+        return Ok(Edited::whole(alloc, text));
     }
+    let line = line_before(alloc, message, fields, edits, moment)?;
+    mail(alloc, fields, &message.body, edits, &line)
 }

@@ -1,6 +1,5 @@
 -- The mails of a mailbox.
-use Rattle.std.specs.Prelude.{ℕ, ◌+◌, ◌-◌, ◌&&◌, ◌++◌, min, Bool, false, nat_eq, List, [], ◌∷◌, length, map, take, drop, Option, Some, None, codes, bytes_eq, if◌then◌else◌}
-use Rattle.std.specs.Borrow.{Bor}
+use Rattle.std.specs.Prelude.{ℕ, ◌+◌, ◌-◌, ◌&&◌, ◌++◌, min, Bool, false, nat_eq, List, [], ◌∷◌, length, take, drop, Option, Some, None, codes, bytes_eq, if◌then◌else◌}
 use Rattle.std.specs.List.{starts_with}
 use Rattle.pm_message.specs.Lines.{lines}
 
@@ -43,7 +42,3 @@ abbrev pub selected : ℕ → Option ℕ → List (List ℕ) → List (List ℕ)
 selected skip total parts =
     let first = first_of (length parts) skip in
     take (behind_last_of (length parts) skip total - first) (drop first parts)
-
--- the texts that some slices hold
-abbrev pub texts_of : List (Bor (List ℕ)) → List (List ℕ)
-texts_of slices = map (λ slice. slice.now) slices

@@ -1,10 +1,10 @@
 //! The mails of a mailbox: each begins with a line `From ` behind an empty line.
 ghost use Rattle.std.specs.Prelude.{◌≡◌, ◌≤◌, ◌<◌, ◌∷◌, ◌++◌, IfOk, length, take, drop};
 ghost use Rattle.std.specs.List.{concat};
-ghost use Rattle.formail_split.specs.Parts.{parts_of, texts_of};
+ghost use Rattle.formail_split.specs.Parts.{parts_of};
 
 use memchr::memmem;
-use pm_bytes::Memory;
+use pm_bytes::{Blob, Memory};
 use std::alloc::Global;
 
 /// How many bytes the first mail has.
@@ -23,18 +23,19 @@ fn first_length(bytes: &[u8]) -> usize
     }
 }
 
-/// The mails of a mailbox in their order (formail(1), option -s); no byte of it is copied. `Memory`
-/// is the only error.
-pub fn parts<'a>(alloc: Global, bytes: &'a [u8]) -> Result<Vec<&'a [u8]>, Memory>
-    ensures cut { IfOk result (λ parts. texts_of parts.items ≡ parts_of bytes.now) }
-    ensures whole { IfOk result (λ parts. concat (texts_of parts.items) ≡ bytes.now) }
+/// The mails of a mailbox in their order (formail(1), option -s), each in the memory of the mailbox where that has
+/// several owners. `Memory` is the only error.
+pub fn parts(alloc: Global, mailbox: &Blob) -> Result<Vec<Blob>, Memory>
+    ensures cut { IfOk result (λ parts. parts.items ≡ parts_of mailbox.now) }
+    ensures whole { IfOk result (λ parts. concat parts.items ≡ mailbox.now) }
 {
+    let bytes = mailbox.as_slice();
     let mut parts = Vec::new(alloc);
-    let mut rest = bytes;
-    while !rest.is_empty() {
-        let (part, others) = rest.split_at(first_length(rest));
-        parts.push(part)?;
-        rest = others;
+    let mut start = 0;
+    while start < bytes.len() {
+        let end = start + first_length(&bytes[start..]);
+        parts.push(mailbox.part(alloc, start, end)?)?;
+        start = end;
     }
     Ok(parts)
 }

@@ -1,12 +1,9 @@
 -- What formail writes for its input.
 use Rattle.std.specs.Prelude.{ℕ, ℤ, Bool, true, false, Option, Some, None, option_map, List, [], ◌∷◌, map, take, if◌then◌else◌}
 use Rattle.std.specs.List.{list_any, flat_map}
-use Rattle.pm_message.specs.Date.{from_line_of}
 use Rattle.pm_message.specs.Split.{split_of}
-use Rattle.pm_message.specs.declared.head.Message.{Message}
 use Rattle.formail_edit.specs.Output.{edited}
-use Rattle.formail_edit.specs.Sender.{sender_for}
-use Rattle.formail_edit.specs.declared.edits.Edits.{Edits}
+use Rattle.formail_edit.specs.Sender.{sender_for, line_at}
 use Rattle.formail_extra.specs.Reply.{reply_of, envelope_of}
 use Rattle.formail_extra.specs.Seen.{identifier_of}
 use Rattle.formail_split.specs.Parts.{parts_of, selected}
@@ -30,11 +27,6 @@ is_line_due (Some who) = true
 abbrev pub wants_moment : Request → List (List ℕ) → Bool
 wants_moment request mails = list_any (λ mail. is_line_due (sender_of_output request mail)) mails
 
--- a mail after its edits, with such a line where one is due
-abbrev pub edited_at : ℤ → Message → Edits → List ℕ
-edited_at moment message edits =
-    edited message edits (option_map (λ who. from_line_of who moment) (sender_for message edits))
-
 -- what a mail is remembered by: its identifier, or under `-r` the first 4,096 bytes of its sender
 abbrev pub id_of : Request → List ℕ → Option (List ℕ)
 id_of request mail =
@@ -55,7 +47,7 @@ kept_of (false ∷ kept) (mail ∷ mails) = kept_of kept mails
 abbrev pub output_of : Request → ℤ → List ℕ → List ℕ
 output_of request moment mail =
     if request.reply then reply_of (split_of mail) request.trust request.edits
-    else edited_at moment (split_of mail) request.edits
+    else edited (split_of mail) request.edits (line_at moment (split_of mail) request.edits)
 
 -- the outputs of some mails, one behind the other
 abbrev pub outputs_of : Request → ℤ → List (List ℕ) → List ℕ

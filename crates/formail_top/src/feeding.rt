@@ -1,6 +1,5 @@
 //! Where the output goes: to `out`, or each mail's to a child of its own.
 ghost use Rattle.std.specs.Prelude.{◌≡◌, ◌++◌, IfOk, OnErr, codes};
-ghost use Rattle.formail_split.specs.Parts.{texts_of};
 ghost use Rattle.formail_top.specs.Outputs.{wants_moment};
 ghost use Rattle.formail_top.specs.Run.{AsksAtMost, AsksIf, Feeds, command_for, feed_status};
 
@@ -8,18 +7,18 @@ use crate::Request;
 use crate::outputs::{each_output, want_moment};
 use formail_edit::Listed;
 use formail_split::{Outcome, feed_each};
-use pm_bytes::{Memory, Name, Names, Pairs};
+use pm_bytes::{Blob, Memory, Name, Names, Pairs};
 use pm_host::{Child, Command, Host};
 use std::alloc::Global;
 
 /// The host's moment, where the output of some mail begins with a line that names it.
 pub fn moment_for<H: Host>(
     alloc: Global,
-    mails: &[&[u8]],
+    mails: &[Blob],
     request: &Request,
     host: &mut H,
 ) -> Result<i64, Memory>
-    ensures ok { IfOk result (λ moment. AsksIf (wants_moment request.now (texts_of mails.now)) moment
+    ensures ok { IfOk result (λ moment. AsksIf (wants_moment request.now mails.now) moment
         (H.told host.old) (H.told host.new)) }
     ensures memory { OnErr result (H.told host.new ≡ H.told host.old) }
     ensures child { (H.told host.new).child ≡ (H.told host.old).child }
@@ -76,13 +75,13 @@ fn status_of(outcome: Outcome) -> u8
 /// Each mail's output is given to a child of its own. All memory is taken before the first one.
 pub fn feed<H: Host>(
     alloc: Global,
-    mails: &[&[u8]],
+    mails: &[Blob],
     request: &Request,
     command: &Command,
     host: &mut H,
 ) -> Result<u8, Memory>
     requires { (H.told host.old).child ≡ Child.NoChild }
-    ensures ok { IfOk result (λ status. Feeds command.now request.now (texts_of mails.now) status (H.told host.old) (H.told host.new)) }
+    ensures ok { IfOk result (λ status. Feeds command.now request.now mails.now status (H.told host.old) (H.told host.new)) }
     ensures asked { OnErr result (AsksAtMost (H.told host.old) (H.told host.new)) }
     ensures none { (H.told host.new).child ≡ Child.NoChild }
 {

@@ -2,8 +2,7 @@
 ghost use Rattle.std.specs.Prelude.{◌≡◌, ◌⊎◌, IfOk, OnErr, map, string_bytes};
 ghost use Rattle.formail_top.specs.Run.{IsOutput, AsksAtMost, Writes, Puts, kept_status, PutsKept, AfterStep, Remembers, Treats, LeavesCache, Leaves, LeavesOff, Ended};
 ghost use Rattle.formail_top.specs.Outputs.{mails_of};
-ghost use Rattle.formail_split.specs.Parts.{texts_of};
-ghost use Rattle.std.specs.List.{list_any};
+ghost use Rattle.std.specs.List.{list_any, concat};
 
 use crate::Request;
 use crate::feeding::{command, feed, moment_for};
@@ -12,58 +11,69 @@ use crate::request::read_request;
 use formail_cache::{Cache, CacheEnd, cache_step};
 use pm_bytes::{Blob, Environ, Memory, Pairs};
 use pm_host::{Child, Host, Sink, Source};
-use pm_streams::{Mail, WriteEnd, read_mail, write_text};
+use pm_streams::{Mail, read_mail, write_texts};
 use std::alloc::Global;
 
-// The output for some mails, for which the host may be asked for the moment.
+// The output for some mails, in parts, for which the host may be asked for the moment.
 fn output<H: Host>(
     alloc: Global,
-    mails: &[&[u8]],
+    mails: &[Blob],
     request: &Request,
     host: &mut H,
-) -> Result<Blob, Memory>
+) -> Result<Vec<Blob>, Memory>
     ensures ok { IfOk result
-        (λ text. IsOutput request.now (texts_of mails.now) text (H.told host.old) (H.told host.new)) }
+        (λ texts. IsOutput request.now mails.now (concat texts.items) (H.told host.old) (H.told host.new)) }
     ensures memory { OnErr result (AsksAtMost (H.told host.old) (H.told host.new)) }
     ensures child { (H.told host.new).child ≡ (H.told host.old).child }
 {
     let moment = moment_for(alloc, mails, request, host)?;
-    let text = outputs(alloc, mails, request, moment)?;
-    Ok(text)
+    let texts = outputs(alloc, mails, request, moment)?;
+    Ok(texts)
+}
+
+// Room for short texts: as much as they all want, but not so much that to clear it costs more than it saves.
+fn room_for(texts: &[Blob]) -> usize {
+    let mut room: usize = 0;
+    for text in texts {
+        room = room.saturating_add(text.len());
+    }
+    room.min(65_536)
 }
 
 // The output is written, and the status says whether all of it was.
 fn write<H: Host, O: Sink>(
     alloc: Global,
-    mails: &[&[u8]],
+    mails: &[Blob],
     request: &Request,
     host: &mut H,
     out: &mut O,
 ) -> Result<u8, Memory>
-    ensures ok { IfOk result (λ status. Writes request.now (texts_of mails.now) status
+    ensures ok { IfOk result (λ status. Writes request.now mails.now status
         (H.told host.old) (H.told host.new) (O.told out.old) (O.told out.new)) }
     ensures asked { OnErr result (AsksAtMost (H.told host.old) (H.told host.new)) }
     ensures unwritten { OnErr result (O.told out.new ≡ O.told out.old) }
     ensures child { (H.told host.new).child ≡ (H.told host.old).child }
 {
-    let text = output(alloc, mails, request, host)?;
-    match write_text(out, text.as_slice()) {
-        WriteEnd::Wrote => Ok(0),
-        WriteEnd::Short(_) => Ok(74),
+    let texts = output(alloc, mails, request, host)?;
+    let mut room = vec![in alloc; 0u8; room_for(texts.as_slice())]?;
+    if write_texts(out, texts.as_slice(), room.as_mut_slice()) {
+        Ok(0)
+    } else {
+        Ok(74)
     }
 }
 
 // The output for some mails is written, or given to children.
 fn finish<H: Host, O: Sink>(
     alloc: Global,
-    mails: &[&[u8]],
+    mails: &[Blob],
     request: &Request,
     vars: &Pairs,
     host: &mut H,
     out: &mut O,
 ) -> Result<u8, Memory>
     requires { (H.told host.old).child ≡ Child.NoChild }
-    ensures ok { IfOk result (λ status. Puts request.now.program request.now vars.now (texts_of mails.now) status
+    ensures ok { IfOk result (λ status. Puts request.now.program request.now vars.now mails.now status
         (H.told host.old) (H.told host.new) (O.told out.old) (O.told out.new)) }
     ensures asked { OnErr result (AsksAtMost (H.told host.old) (H.told host.new)) }
     ensures unwritten { OnErr result (O.told out.new ≡ O.told out.old) }
@@ -91,7 +101,7 @@ fn status_of(kept: &[bool]) -> u8
 // The mails that are kept are put where the words ask for, or the status says whether one is.
 fn finish_kept<H: Host, O: Sink>(
     alloc: Global,
-    mails: &[&[u8]],
+    mails: &[Blob],
     kept: &[bool],
     request: &Request,
     vars: &Pairs,
@@ -100,7 +110,7 @@ fn finish_kept<H: Host, O: Sink>(
 ) -> Result<u8, Memory>
     requires { (H.told host.old).child ≡ Child.NoChild }
     ensures ok { IfOk result
-        (λ status. PutsKept request.now.split kept.now request.now vars.now (texts_of mails.now) status
+        (λ status. PutsKept request.now.split kept.now request.now vars.now mails.now status
         (H.told host.old) (H.told host.new) (O.told out.old) (O.told out.new)) }
     ensures asked { OnErr result (AsksAtMost (H.told host.old) (H.told host.new)) }
     ensures unwritten { OnErr result (O.told out.new ≡ O.told out.old) }
@@ -118,14 +128,14 @@ fn finish_kept<H: Host, O: Sink>(
 fn after_step<H: Host, O: Sink>(
     alloc: Global,
     end: &CacheEnd,
-    mails: &[&[u8]],
+    mails: &[Blob],
     request: &Request,
     vars: &Pairs,
     host: &mut H,
     out: &mut O,
 ) -> Result<u8, Memory>
     requires { (H.told host.old).child ≡ Child.NoChild }
-    ensures ok { IfOk result (λ status. AfterStep end.now request.now vars.now (texts_of mails.now) status
+    ensures ok { IfOk result (λ status. AfterStep end.now request.now vars.now mails.now status
         (H.told host.old) (H.told host.new) (O.told out.old) (O.told out.new)) }
     ensures asked { OnErr result (AsksAtMost (H.told host.old) (H.told host.new)) }
     ensures unwritten { OnErr result (O.told out.new ≡ O.told out.old) }
@@ -146,14 +156,14 @@ fn after_step<H: Host, O: Sink>(
 fn remember<H: Host, O: Sink>(
     alloc: Global,
     cache: &Cache,
-    mails: &[&[u8]],
+    mails: &[Blob],
     request: &Request,
     vars: &Pairs,
     host: &mut H,
     out: &mut O,
 ) -> Result<u8, Memory>
     requires { (H.told host.old).child ≡ Child.NoChild }
-    ensures ok { IfOk result (λ status. Remembers cache.now request.now vars.now (texts_of mails.now) status
+    ensures ok { IfOk result (λ status. Remembers cache.now request.now vars.now mails.now status
         (H.told host.old) (H.told host.new) (O.told out.old) (O.told out.new)) }
     ensures left { OnErr result (LeavesCache cache.now (H.told host.old) (H.told host.new)) }
     ensures unwritten { OnErr result (O.told out.new ≡ O.told out.old) }
@@ -168,7 +178,7 @@ fn remember<H: Host, O: Sink>(
 // What becomes of some mails.
 fn treat<H: Host, O: Sink>(
     alloc: Global,
-    mails: &[&[u8]],
+    mails: &[Blob],
     request: &Request,
     vars: &Pairs,
     host: &mut H,
@@ -176,7 +186,7 @@ fn treat<H: Host, O: Sink>(
 ) -> Result<u8, Memory>
     requires { (H.told host.old).child ≡ Child.NoChild }
     ensures ok { IfOk result
-        (λ status. Treats request.now.cache request.now vars.now (texts_of mails.now) status
+        (λ status. Treats request.now.cache request.now vars.now mails.now status
         (H.told host.old) (H.told host.new) (O.told out.old) (O.told out.new)) }
     ensures left { OnErr result (Leaves request.now.cache (H.told host.old) (H.told host.new)) }
     ensures unwritten { OnErr result (O.told out.new ≡ O.told out.old) }
@@ -191,7 +201,7 @@ fn treat<H: Host, O: Sink>(
 // What becomes of an input.
 fn treat_all<H: Host, O: Sink>(
     alloc: Global,
-    bytes: &[u8],
+    bytes: &Blob,
     request: &Request,
     vars: &Pairs,
     host: &mut H,
@@ -239,8 +249,9 @@ fn run<S: Source, H: Host, O: Sink>(
     match read_mail(alloc, source)? {
         Mail::TooMany => Ok(65),
         Mail::Failed => Ok(74),
-        Mail::Bytes(bytes) => {
-            let status = treat_all(alloc, bytes.as_slice(), &request, &env.vars, host, out)?;
+        Mail::Bytes(mut bytes) => {
+            bytes.share()?;
+            let status = treat_all(alloc, &bytes, &request, &env.vars, host, out)?;
             Ok(status)
         }
     }

@@ -1,56 +1,66 @@
 //! What is written for an input.
 ghost use Rattle.std.specs.Prelude.{◌≡◌, IfOk, map, take};
-ghost use Rattle.std.specs.List.{list_any, flat_map};
-ghost use Rattle.formail_split.specs.Parts.{parts_of, selected, texts_of};
-ghost use Rattle.formail_top.specs.Outputs.{mails_of, sender_of_output, wants_moment, edited_at, output_of, outputs_of, each_output_of, id_of, ids_of, kept_of};
+ghost use Rattle.std.specs.List.{list_any, flat_map, concat};
+ghost use Rattle.formail_split.specs.Parts.{parts_of, selected};
+ghost use Rattle.formail_top.specs.Outputs.{mails_of, sender_of_output, wants_moment, output_of, outputs_of, each_output_of, id_of, ids_of, kept_of};
 
 use crate::Request;
-use formail_edit::{Edits, edit, from_sender};
+use formail_edit::{Edited, edit, from_sender};
 use formail_extra::{envelope, identifier, reply};
 use formail_split::{parts, select};
 use pm_bytes::{Blob, Memory};
-use pm_message::{Message, from_line, split};
+use pm_message::divide;
 use std::alloc::Global;
 
+// Copies of some mails.
+fn copies(alloc: Global, mails: &[Blob]) -> Result<Vec<Blob>, Memory>
+    ensures { IfOk result (λ copies. copies.items ≡ mails.now) }
+{
+    let mut copies = Vec::with_capacity(alloc, mails.len())?;
+    for mail in mails {
+        copies.push(mail.copy(alloc)?)?;
+    }
+    Ok(copies)
+}
+
 // The mails of a mailbox that are wanted.
-fn wanted<'a>(alloc: Global, bytes: &'a [u8], request: &Request) -> Result<Vec<&'a [u8]>, Memory>
-    ensures { IfOk result (λ mails. texts_of mails.items
+fn wanted(alloc: Global, bytes: &Blob, request: &Request) -> Result<Vec<Blob>, Memory>
+    ensures { IfOk result (λ mails. mails.items
         ≡ selected request.now.skip request.now.total (parts_of bytes.now)) }
 {
     let parts = parts(alloc, bytes)?;
     let all = parts.as_slice();
     let (first, last) = select(all.len(), request.skip, request.total);
-    let mut wanted = Vec::new(alloc);
-    wanted.extend_from_slice(&all[first..last])?;
+    let wanted = copies(alloc, &all[first..last])?;
     Ok(wanted)
 }
 
-/// The mails of an input; no byte of it is copied.
-pub fn mails<'a>(alloc: Global, bytes: &'a [u8], request: &Request) -> Result<Vec<&'a [u8]>, Memory>
-    ensures { IfOk result (λ mails. texts_of mails.items ≡ mails_of request.now bytes.now) }
+/// The mails of an input, in its memory where it has several owners.
+pub fn mails(alloc: Global, bytes: &Blob, request: &Request) -> Result<Vec<Blob>, Memory>
+    ensures { IfOk result (λ mails. mails.items ≡ mails_of request.now bytes.now) }
 {
     if request.split {
         return wanted(alloc, bytes, request);
     }
     let mut one = Vec::new(alloc);
-    one.push(bytes)?;
+    one.push(bytes.copy(alloc)?)?;
     Ok(one)
 }
 
 // The sender of the line that is put in front of a mail's output; none where none is due.
-fn sender(alloc: Global, mail: &[u8], request: &Request) -> Result<Option<Blob>, Memory>
+fn sender(alloc: Global, mail: &Blob, request: &Request) -> Result<Option<Blob>, Memory>
     ensures { IfOk result (λ who. who ≡ sender_of_output request.now mail.now) }
 {
     if request.reply {
         return Ok(None);
     }
-    let message = split(alloc, mail)?;
+    let message = divide(alloc, mail.copy(alloc)?)?;
     from_sender(alloc, &message, &request.edits)
 }
 
 /// Whether the output of some mail begins with a line that names the moment.
-pub fn want_moment(alloc: Global, mails: &[&[u8]], request: &Request) -> Result<bool, Memory>
-    ensures { IfOk result (λ wants. wants ≡ wants_moment request.now (texts_of mails.now)) }
+pub fn want_moment(alloc: Global, mails: &[Blob], request: &Request) -> Result<bool, Memory>
+    ensures { IfOk result (λ wants. wants ≡ wants_moment request.now mails.now) }
 {
     for mail in mails {
         if let Some(_) = sender(alloc, mail, request)? {
@@ -60,58 +70,48 @@ pub fn want_moment(alloc: Global, mails: &[&[u8]], request: &Request) -> Result<
     Ok(false)
 }
 
-// A mail after its edits, with a line in front where one is due.
-fn edited(alloc: Global, message: &Message, edits: &Edits, moment: i64) -> Result<Blob, Memory>
-    ensures { IfOk result (λ text. text ≡ edited_at moment message.now edits.now) }
-{
-    let Some(who) = from_sender(alloc, message, edits)? else {
-        return edit(alloc, message, edits, None);
-    };
-    let line = from_line(alloc, who.as_slice(), moment)?;
-    let text = edit(alloc, message, edits, Some(line.as_slice()))?;
-    Ok(text)
-}
-
 // The output of one mail.
-fn output(alloc: Global, mail: &[u8], request: &Request, moment: i64) -> Result<Blob, Memory>
+fn output(alloc: Global, mail: &Blob, request: &Request, moment: i64) -> Result<Edited, Memory>
     ensures { IfOk result (λ text. text ≡ output_of request.now moment mail.now) }
 {
-    let message = split(alloc, mail)?;
+    let message = divide(alloc, mail.copy(alloc)?)?;
     if request.reply {
-        return reply(alloc, &message, request.trust, &request.edits);
+        let text = reply(alloc, &message, request.trust, &request.edits)?;
+        return Ok(Edited::whole(alloc, text));
     }
-    edited(alloc, &message, &request.edits, moment)
+    edit(alloc, &message, &request.edits, moment)
 }
 
-/// The outputs of some mails, one behind the other. `moment` is in seconds since 1970, in UTC.
+/// The outputs of some mails as texts that stand one behind the other. `moment` is in seconds since 1970, in UTC.
 pub fn outputs(
     alloc: Global,
-    mails: &[&[u8]],
+    mails: &[Blob],
     request: &Request,
     moment: i64,
-) -> Result<Blob, Memory>
-    ensures { IfOk result (λ text. text ≡ outputs_of request.now moment (texts_of mails.now)) }
+) -> Result<Vec<Blob>, Memory>
+    ensures { IfOk result (λ texts. concat texts.items ≡ outputs_of request.now moment mails.now) }
 {
-    let mut text = Blob::empty(alloc);
+    let mut texts = Vec::new(alloc);
     for mail in mails {
-        let output = output(alloc, mail, request, moment)?;
-        text.push_slice(output.as_slice())?;
+        let (front, rest) = output(alloc, mail, request, moment)?.into_parts();
+        texts.push(front)?;
+        texts.push(rest)?;
     }
-    Ok(text)
+    Ok(texts)
 }
 
 /// The outputs of some mails, each for itself. `moment` is in seconds since 1970, in UTC.
 pub fn each_output(
     alloc: Global,
-    mails: &[&[u8]],
+    mails: &[Blob],
     request: &Request,
     moment: i64,
 ) -> Result<Vec<Blob>, Memory>
-    ensures { IfOk result (λ texts. texts.items ≡ each_output_of request.now moment (texts_of mails.now)) }
+    ensures { IfOk result (λ texts. texts.items ≡ each_output_of request.now moment mails.now) }
 {
     let mut texts = Vec::new(alloc);
     for mail in mails {
-        texts.push(output(alloc, mail, request, moment)?)?;
+        texts.push(output(alloc, mail, request, moment)?.join()?)?;
     }
     Ok(texts)
 }
@@ -125,10 +125,10 @@ fn cut(alloc: Global, text: &Blob, most: usize) -> Result<Blob, Memory>
 }
 
 // What a mail is remembered by.
-fn id(alloc: Global, mail: &[u8], request: &Request) -> Result<Option<Blob>, Memory>
+fn id(alloc: Global, mail: &Blob, request: &Request) -> Result<Option<Blob>, Memory>
     ensures { IfOk result (λ id. id ≡ id_of request.now mail.now) }
 {
-    let message = split(alloc, mail)?;
+    let message = divide(alloc, mail.copy(alloc)?)?;
     if !request.reply {
         return identifier(alloc, &message);
     }
@@ -139,8 +139,8 @@ fn id(alloc: Global, mail: &[u8], request: &Request) -> Result<Option<Blob>, Mem
 }
 
 /// What some mails are remembered by (formail(1), option -D).
-pub fn ids(alloc: Global, mails: &[&[u8]], request: &Request) -> Result<Vec<Option<Blob>>, Memory>
-    ensures { IfOk result (λ ids. ids.items ≡ ids_of request.now (texts_of mails.now)) }
+pub fn ids(alloc: Global, mails: &[Blob], request: &Request) -> Result<Vec<Option<Blob>>, Memory>
+    ensures { IfOk result (λ ids. ids.items ≡ ids_of request.now mails.now) }
 {
     let mut ids = Vec::new(alloc);
     for mail in mails {
@@ -149,13 +149,9 @@ pub fn ids(alloc: Global, mails: &[&[u8]], request: &Request) -> Result<Vec<Opti
     Ok(ids)
 }
 
-/// Those of some mails that are kept; no byte of them is copied.
-pub fn kept_mails<'a>(
-    alloc: Global,
-    mails: &[&'a [u8]],
-    kept: &[bool],
-) -> Result<Vec<&'a [u8]>, Memory>
-    ensures { IfOk result (λ left. texts_of left.items ≡ kept_of kept.now (texts_of mails.now)) }
+/// Those of some mails that are kept.
+pub fn kept_mails(alloc: Global, mails: &[Blob], kept: &[bool]) -> Result<Vec<Blob>, Memory>
+    ensures { IfOk result (λ left. left.items ≡ kept_of kept.now mails.now) }
 {
     let mut left = Vec::new(alloc);
     let mut rest = mails;
@@ -164,7 +160,7 @@ pub fn kept_mails<'a>(
             return Ok(left);
         };
         if *keep {
-            left.push(*mail)?;
+            left.push(mail.copy(alloc)?)?;
         }
         rest = others;
     }

@@ -1,10 +1,9 @@
-use Rattle.std.proofs.Common.{[], ◌∷◌}
-use Rattle.std.proofs.lemmas.List.{map-append}
-use Rattle.formail_split.specs.Parts.{texts_of}
-use Rattle.formail_split.proofs.PartLemmas.{one_more}
+use Rattle.formail_split.proofs.PartLemmas.{slice_rest, one_more_at}
 use Rattle.formail_split.proofs.mailbox.parts.Goals as goal
 
-pub loop-rest-preserved : goal.loop-rest-preserved
-loop-rest-preserved c =
-    rw (c.in_ok-push.ensures.items, map-append (λ part. part.now) c.loop-rest.parts.items (c.split_at.result.0 ∷ []))
-    (one_more _ c.loop-rest.rest.now _ _ (texts_of c.loop-rest.parts.items) c.first_length.result c.first_length.ensures.first c.split_at.ensures.front c.split_at.ensures.back c.loop-rest.invariant)
+pub loop-start-preserved : goal.loop-start-preserved
+loop-start-preserved c =
+    let bytes = c.as_slice-bytes.result.now in
+    rw c.in_ok-push.ensures.items
+    (one_more_at bytes _ c.in_ok-part.field-0 c.loop-start.parts.items c.loop-start.start c.first_length.result (slice_rest bytes c.loop-start.start)
+    c.loop-start-test.true c.first_length.ensures.within c.first_length.ensures.first (rw (← c.as_slice-bytes.ensures) at c.in_ok-part.ensures) (c.loop-start.invariant.1, c.loop-start.invariant.2))

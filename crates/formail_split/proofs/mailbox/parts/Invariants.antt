@@ -1,12 +1,13 @@
-use Rattle.std.proofs.Common.{◌≡◌, ◌++◌, length}
+use Rattle.std.proofs.Common.{◌≡◌, ◌≤◌, ◌-◌, ◌++◌, length, drop}
 use Rattle.std.specs.List.{concat}
-use Rattle.formail_split.specs.Parts.{parts_of, texts_of}
+use Rattle.formail_split.specs.Parts.{parts_of}
 use Rattle.formail_split.proofs.mailbox.parts.Given as goal
 
-abbrev pub invariant-loop-rest : goal.invariant-loop-rest
-invariant-loop-rest l =
-    (texts_of l.parts.items ++ parts_of l.rest ≡ parts_of l.bytes)
-    × (concat (texts_of l.parts.items) ++ l.rest ≡ l.bytes)
+abbrev pub invariant-loop-start : goal.invariant-loop-start
+invariant-loop-start l =
+    (l.start ≤ length l.bytes)
+    × (l.parts.items ++ parts_of (drop l.start l.bytes) ≡ parts_of l.bytes)
+    × (concat l.parts.items ++ drop l.start l.bytes ≡ l.bytes)
 
-abbrev pub decreases-loop-rest : goal.decreases-loop-rest
-decreases-loop-rest l = length l.rest
+abbrev pub decreases-loop-start : goal.decreases-loop-start
+decreases-loop-start l = length l.bytes - l.start

@@ -20,7 +20,7 @@ pub returns-clause-ok : goal.returns-clause-ok
 returns-clause-ok g c =
     let read = sym c.in_ok-request.ensures ∙ c.in-Some.is in
     let drained = subst (λ m. Drains m (g.S.Source.told c.args.source.now) (g.S.Source.told c.read_mail.new.source)) c.in-Bytes.is c.in_ok-read_mail.ensures in
-    put c.in-Some.request read c.in-Bytes.bytes drained (rw c.as_slice.ensures at c.in_ok-status-in-Bytes.ensures.ok)
+    put c.in-Some.request read c.in-Bytes.bytes drained (rw c.share.ensures at c.in_ok-status-in-Bytes.ensures.ok)
 
 pub returns-in_err-status-in-Bytes-clause-left : goal.returns-in_err-status-in-Bytes-clause-left
 returns-in_err-status-in-Bytes-clause-left g c =

@@ -1,9 +1,9 @@
 use Rattle.std.proofs.Common.{◌≡◌, ◌++◌, drop}
-use Rattle.formail_split.specs.Parts.{texts_of}
+use Rattle.std.specs.List.{concat}
 use Rattle.formail_top.specs.Outputs.{outputs_of}
 use Rattle.formail_top.proofs.outputs.outputs.Given as goal
 
 abbrev pub invariant-loop-mail : goal.invariant-loop-mail
 invariant-loop-mail l =
-    l.text ++ outputs_of l.request l.moment (texts_of (drop l.mail-index l.mails))
-    ≡ outputs_of l.request l.moment (texts_of l.mails)
+    concat l.texts.items ++ outputs_of l.request l.moment (drop l.mail-index l.mails)
+    ≡ outputs_of l.request l.moment l.mails
