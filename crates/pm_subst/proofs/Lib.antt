@@ -1,4 +1,6 @@
 pub mod Gather
+pub mod Length
+pub mod Counted
 pub mod Turn
 pub mod Trim
 pub mod Plain

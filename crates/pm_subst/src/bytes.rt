@@ -1,5 +1,5 @@
 //! How far names, quotes and commands reach, and the operators of expressions.
-ghost use Rattle.std.specs.Prelude.{◌≡◌, ◌≤◌, ◌+◌, length, false};
+ghost use Rattle.std.specs.Prelude.{◌≡◌, ◌≤◌, ◌+◌, length, count_by, false};
 ghost use Rattle.pm_subst.specs.Bytes.{is_operator, name_length, quote_length, command_length};
 
 use pm_bytes::{
@@ -16,6 +16,13 @@ pub fn is_operator_byte(byte: u8) -> bool
         OPEN_PARENTHESIS | CLOSE_PARENTHESIS | OPEN_BRACKET | CLOSE_BRACKET => true,
         _ => false,
     }
+}
+
+/// How many bytes mean more than themselves in an expression.
+pub fn operators(text: &[u8]) -> usize
+    ensures { result ≡ count_by is_operator text.now }
+{
+    text.iter().filter(|byte| is_operator_byte(**byte)).count()
 }
 
 /// How many bytes at the front belong to a name that has begun.

@@ -1,11 +1,11 @@
-use Rattle.std.proofs.Common.{◌≡◌, take}
+use Rattle.std.proofs.Common.{◌≡◌, take, false}
 use Rattle.pm_subst.specs.Buffer.{Holds}
 use Rattle.pm_subst.specs.Fields.{Fields, gathered}
 use Rattle.pm_subst.specs.Values.{value_elements}
-use Rattle.pm_subst.proofs.buffer.Buffer.push_value.Given as goal
+use Rattle.pm_subst.proofs.buffer.Buffer.push_split.Given as goal
 
 abbrev pub invariant-loop-byte : goal.invariant-loop-byte
 invariant-loop-byte l = record {
   splits_is : l.self.splits ≡ l.fn.self.splits;
-  holds : (fields : Fields) → Holds l.fn.self fields → Holds l.self (gathered l.fn.self.splits fields (value_elements l.quoted (take l.byte-index l.bytes)));
+  holds : (fields : Fields) → Holds l.fn.self fields → Holds l.self (gathered l.fn.self.splits fields (value_elements false (take l.byte-index l.bytes)));
 }

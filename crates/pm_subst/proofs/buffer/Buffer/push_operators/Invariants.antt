@@ -2,7 +2,7 @@ use Rattle.std.proofs.Common.{◌≡◌, take, flat_map}
 use Rattle.pm_subst.specs.Buffer.{Holds}
 use Rattle.pm_subst.specs.Fields.{Fields, gathered}
 use Rattle.pm_subst.specs.Values.{value_elements, escaped_operator}
-use Rattle.pm_subst.proofs.buffer.Buffer.push_escaped.Given as goal
+use Rattle.pm_subst.proofs.buffer.Buffer.push_operators.Given as goal
 
 abbrev pub invariant-loop-byte : goal.invariant-loop-byte
 invariant-loop-byte l = record {
