@@ -1,5 +1,6 @@
 //! The words of an expansion, of which no more is kept than may be answered. The length is counted to its end.
-ghost use Rattle.std.specs.Prelude.{◌≡◌, ◌<◌, ◌≤◌, ◌+◌, ◌-◌, ◌^◌, ◌++◌, IfOk, [], None, IsTrue, false, length, map, flat_map, min, if◌then◌else◌};
+ghost use Rattle.std.specs.Prelude.{◌≡◌, ◌<◌, ◌≤◌, ◌+◌, ◌-◌, ◌^◌, ◌++◌, IfOk, [], None, IsTrue, false};
+ghost use Rattle.std.specs.Prelude.{length, map, flat_map, min, if◌then◌else◌};
 ghost use Rattle.pm_subst.specs.Buffer.{Holds, Changes, Gathers};
 ghost use Rattle.pm_subst.specs.Fields.{with_byte, begun, ended, with_element, most_length, Blank, Byte};
 ghost use Rattle.pm_subst.specs.Values.{value_element, value_elements, escaped_operator};
