@@ -24,8 +24,9 @@ use std::collections::VecDeque;
 pub fn abstract_of(alloc: Global, process: &Process) -> Result<Blob, Memory>
     ensures { IfOk result (λ text. text ≡ abstract_in (mind_of process.now)) }
 {
-    let mut text = from_part(alloc, process.message.head.as_slice())?;
-    let subject = subject_part(alloc, &process.message)?;
+    let parts = process.message.parts();
+    let mut text = from_part(alloc, parts.head.as_slice())?;
+    let subject = subject_part(alloc, parts)?;
     let folder = folder_part(alloc, &process.stored)?;
     text.push_slice(subject.as_slice())?;
     text.push_slice(folder.as_slice())?;

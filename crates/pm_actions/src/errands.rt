@@ -100,7 +100,7 @@ fn fed_piece(alloc: Global, flags: Flags, process: &Process) -> Result<Blob, Mem
 {
     piece(
         alloc,
-        &process.message,
+        process.message.parts(),
         fed_parts(flags),
         Kind::Other,
         flags.raw,

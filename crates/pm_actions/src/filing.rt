@@ -154,7 +154,7 @@ fn shared_piece(
         return piece.copy(alloc);
     }
     let feed = fed_parts(flags);
-    let mut piece = piece(alloc, &process.message, feed, kind, flags.raw)?;
+    let mut piece = piece(alloc, process.message.parts(), feed, kind, flags.raw)?;
     piece.share()?;
     let copy = piece.copy(alloc)?;
     *made = Some(piece);
@@ -177,8 +177,9 @@ fn file_size(flags: Flags, name: &Name, piece: &Blob, process: &Process) -> u64
 fn fed_length(flags: Flags, process: &Process) -> u64
     ensures { result ≡ length (folder_piece flags (mind_of process.now)) }
 {
-    let head = process.message.head.as_slice();
-    let body = process.message.body.as_slice();
+    let parts = process.message.parts();
+    let head = parts.head.as_slice();
+    let body = parts.body.as_slice();
     let bytes = match fed_parts(flags) {
         Feed::Head => head.len(),
         Feed::Body => body.len(),
@@ -219,7 +220,7 @@ fn own_piece(alloc: Global, flags: Flags, process: &Process) -> Result<Blob, Mem
 {
     piece(
         alloc,
-        &process.message,
+        process.message.parts(),
         fed_parts(flags),
         Kind::Other,
         flags.raw,

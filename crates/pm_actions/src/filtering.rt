@@ -117,10 +117,12 @@ fn take_mail(
         return Ok(fed);
     }
     let feed = fed_parts(flags);
-    if is_too_long(feed, output, &process.message) {
+    let parts = process.message.parts();
+    if is_too_long(feed, output, parts) {
         return Ok(Outcome::TooLong);
     }
-    process.message = refilled(alloc, feed, output, &process.message)?;
+    let parts = refilled(alloc, feed, output, parts)?;
+    process.message.replace(parts);
     Ok(Outcome::Done)
 }
 

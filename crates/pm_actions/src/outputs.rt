@@ -23,7 +23,6 @@ use pm_journal::{
     Journal, RunEnd, couldnt_start, lost_contact, output_too_long, unusable_name, value_too_long,
 };
 use pm_meaning::{Process, ProgramLine};
-use pm_message::whole;
 use pm_subst::{Mode, commands};
 use std::alloc::Global;
 
@@ -166,7 +165,7 @@ fn run_command<D: Outside>(
         journal.old journal.new (D.told outside.old) (D.told outside.new) }
     ensures keeping { Keeping journal.new process.new.locks.names }
 {
-    let input = whole(alloc, &process.message)?;
+    let input = process.message.whole(alloc)?;
     let end = run(
         alloc,
         &process.locks,

@@ -12,7 +12,7 @@ use crate::searching::{length_of, search};
 use crate::sizes::{measured_outcome, number_in, outcome_if};
 use crate::weighing::{add_code, add_length, add_score};
 use pm_bytes::{Blob, Memory};
-use pm_message::Message;
+use pm_message::Mail;
 use pm_recipe::{Condition, Flags, Weight};
 use pm_vars::Vars;
 use std::alloc::Global;
@@ -44,17 +44,18 @@ pub fn test(
     text: &[u8],
     question: &Question,
     flags: Flags,
-    message: &Message,
+    mail: &mut Mail,
     vars: &Vars,
 ) -> Result<Outcome, Memory>
-    ensures { IfOk result (λ come. come
-        ≡ test_outcome (asking_of text.now question.now) (sight_of flags message.now vars.now)) }
+    ensures outcome { IfOk result (λ come. come
+        ≡ test_outcome (asking_of text.now question.now) (sight_of flags mail.old vars.now)) }
+    ensures same { mail.new ≡ mail.old }
 {
     let above = text.starts_with(b">");
     if !above && !text.starts_with(b"<") {
-        return search(alloc, text, question, flags, message, vars);
+        return search(alloc, text, question, flags, mail, vars);
     }
-    let size = length_of(alloc, &question.scope, flags, message, vars)?;
+    let size = length_of(alloc, &question.scope, flags, mail, vars)?;
     Ok(measured_outcome(question, above, size, number_in(&text[1..])))
 }
 

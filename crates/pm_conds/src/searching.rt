@@ -14,7 +14,7 @@ use crate::question::{Outcome, Question, Scope};
 use crate::sizes::outcome_if;
 use pm_bytes::{Blob, Memory};
 use pm_match::{Engine, Found};
-use pm_message::{Message, Part, area, whole};
+use pm_message::{Mail, Part};
 use pm_recipe::Flags;
 use pm_regex::{Expr, ReadRefused, read};
 use pm_vars::Vars;
@@ -142,25 +142,21 @@ fn search_area(
     }
 }
 
-/// Searches a part of the mail. The body is searched where it stands.
+/// Searches a part of the mail.
 fn search_part(
     alloc: Global,
     question: &Question,
     distinguish: bool,
     text: &[u8],
-    message: &Message,
+    mail: &mut Mail,
     part: Part,
 ) -> Result<Outcome, Memory>
-    ensures { let asked = question.now in IfOk result (λ come.
-        come ≡ sought_outcome asked.weight asked.inverted distinguish (area_of message.now part) (expression_of text.now)) }
+    ensures outcome { let asked = question.now in IfOk result (λ come.
+        come ≡ sought_outcome asked.weight asked.inverted distinguish (area_of mail.old part) (expression_of text.now)) }
+    ensures same { mail.new ≡ mail.old }
 {
-    match part {
-        Part::Body => search_area(alloc, question, distinguish, text, message.body.as_slice()),
-        Part::Head | Part::Both => {
-            let area = area(alloc, message, part)?;
-            search_area(alloc, question, distinguish, text, area.as_slice())
-        }
-    }
+    let area = mail.area(alloc, part)?;
+    search_area(alloc, question, distinguish, text, area.as_slice())
 }
 
 /// Searches what the question says for the expression that the text is.
@@ -169,11 +165,13 @@ pub fn search(
     text: &[u8],
     question: &Question,
     flags: Flags,
-    message: &Message,
+    mail: &mut Mail,
     vars: &Vars,
 ) -> Result<Outcome, Memory>
-    ensures { IfOk result (λ come. come ≡ sought_outcome question.now.weight question.now.inverted flags.distinguish
-        (area_in question.now.scope (sight_of flags message.now vars.now)) (expression_of text.now)) }
+    ensures outcome { IfOk result (λ come.
+        come ≡ sought_outcome question.now.weight question.now.inverted flags.distinguish
+        (area_in question.now.scope (sight_of flags mail.old vars.now)) (expression_of text.now)) }
+    ensures same { mail.new ≡ mail.old }
 {
     let distinguish = flags.distinguish;
     match &question.scope {
@@ -182,10 +180,10 @@ pub fn search(
             question,
             distinguish,
             text,
-            message,
+            mail,
             searched_part(flags),
         ),
-        Scope::Mail(part) => search_part(alloc, question, distinguish, text, message, *part),
+        Scope::Mail(part) => search_part(alloc, question, distinguish, text, mail, *part),
         Scope::Variable(name) => search_area(
             alloc,
             question,
@@ -197,13 +195,14 @@ pub fn search(
 }
 
 /// A part of the mail as it stands.
-fn part_bytes(alloc: Global, message: &Message, part: Part) -> Result<Blob, Memory>
-    ensures { IfOk result (λ bytes. bytes ≡ bytes_in message.now part) }
+fn part_bytes(alloc: Global, mail: &mut Mail, part: Part) -> Result<Blob, Memory>
+    ensures bytes { IfOk result (λ bytes. bytes ≡ bytes_in mail.old part) }
+    ensures same { mail.new ≡ mail.old }
 {
     match part {
-        Part::Head => message.head.copy(alloc),
-        Part::Body => message.body.copy(alloc),
-        Part::Both => whole(alloc, message),
+        Part::Head => mail.parts().head.copy(alloc),
+        Part::Body => mail.parts().body.copy(alloc),
+        Part::Both => mail.whole(alloc),
     }
 }
 
@@ -212,29 +211,26 @@ pub fn program_input(
     alloc: Global,
     scope: &Scope,
     flags: Flags,
-    message: &Message,
+    mail: &mut Mail,
     vars: &Vars,
 ) -> Result<Blob, Memory>
-    ensures { IfOk result (λ input. input ≡ input_in scope.now (sight_of flags message.now vars.now)) }
+    ensures input { IfOk result (λ input. input ≡ input_in scope.now (sight_of flags mail.old vars.now)) }
+    ensures same { mail.new ≡ mail.old }
 {
     match scope {
-        Scope::Flags => part_bytes(alloc, message, searched_part(flags)),
-        Scope::Mail(part) => part_bytes(alloc, message, *part),
+        Scope::Flags => part_bytes(alloc, mail, searched_part(flags)),
+        Scope::Mail(part) => part_bytes(alloc, mail, *part),
         Scope::Variable(name) => Blob::from_slice(alloc, value_in(vars, name.as_slice())),
     }
 }
 
 /// How many bytes a part of the mail has, as it is searched.
-fn part_length(alloc: Global, message: &Message, part: Part) -> Result<u64, Memory>
-    ensures { IfOk result (λ size. size ≡ length (area_of message.now part)) }
+fn part_length(alloc: Global, mail: &mut Mail, part: Part) -> Result<u64, Memory>
+    ensures size { IfOk result (λ size. size ≡ length (area_of mail.old part)) }
+    ensures same { mail.new ≡ mail.old }
 {
-    match part {
-        Part::Body => Ok(message.body.len() as u64),
-        Part::Head | Part::Both => {
-            let area = area(alloc, message, part)?;
-            Ok(area.len() as u64)
-        }
-    }
+    let area = mail.area(alloc, part)?;
+    Ok(area.len() as u64)
 }
 
 /// The length that `<` and `>` compare.
@@ -242,17 +238,19 @@ pub fn length_of(
     alloc: Global,
     scope: &Scope,
     flags: Flags,
-    message: &Message,
+    mail: &mut Mail,
     vars: &Vars,
 ) -> Result<u64, Memory>
-    ensures { IfOk result (λ size. size ≡ compared_length scope.now (sight_of flags message.now vars.now)) }
+    ensures size { IfOk result (λ size. size ≡ compared_length scope.now (sight_of flags mail.old vars.now)) }
+    ensures same { mail.new ≡ mail.old }
 {
     match scope {
         Scope::Flags => {
             let _ = flags;
-            Ok(message.head.as_slice().len() as u64 + message.body.as_slice().len() as u64)
+            let parts = mail.parts();
+            Ok(parts.head.as_slice().len() as u64 + parts.body.as_slice().len() as u64)
         }
-        Scope::Mail(part) => part_length(alloc, message, *part),
+        Scope::Mail(part) => part_length(alloc, mail, *part),
         Scope::Variable(name) => Ok(value_in(vars, name.as_slice()).len() as u64),
     }
 }

@@ -13,7 +13,6 @@ use crate::queue::Copy;
 use pm_bytes::Memory;
 use pm_journal::HeldLocks;
 use pm_meaning::{Chain, Process, Stored, new_chain};
-use pm_message::Message;
 use std::alloc::Global;
 use std::collections::VecDeque;
 
@@ -105,7 +104,7 @@ fn copy_process(alloc: Global, process: &Process) -> Result<Process, Memory>
     ensures mind { IfOk result (λ copy. mind_of copy ≡ begun_block (copied (mind_of process.now))) }
     ensures free { IfOk result (λ copy. copy.locks.names ≡ []) }
 {
-    let message = copy_message(alloc, &process.message)?;
+    let message = process.message.copy(alloc)?;
     let vars = process.vars.copy(alloc)?;
     let base = process.base.copy(alloc)?;
     let host_name = process.host_name.copy(alloc)?;
@@ -128,14 +127,6 @@ fn copy_process(alloc: Global, process: &Process) -> Result<Process, Memory>
         later: VecDeque::new(alloc),
         stored,
     })
-}
-
-fn copy_message(alloc: Global, message: &Message) -> Result<Message, Memory>
-    ensures { IfOk result (λ copy. copy ≡ message.now) }
-{
-    let head = message.head.copy(alloc)?;
-    let body = message.body.copy(alloc)?;
-    Ok(Message { head, body })
 }
 
 fn copy_stored(alloc: Global, stored: &Stored) -> Result<Stored, Memory>

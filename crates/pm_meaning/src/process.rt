@@ -3,7 +3,7 @@ use crate::Chain;
 use pm_bytes::{Blob, Name};
 use pm_host::Command;
 use pm_journal::{FolderKind, HeldLocks};
-use pm_message::Message;
+use pm_message::Mail;
 use pm_vars::Vars;
 use std::collections::VecDeque;
 
@@ -18,7 +18,7 @@ use std::collections::VecDeque;
 pub struct Process {
     pub filter: bool,
     pub fails_softly: bool,
-    pub message: Message,
+    pub message: Mail,
     pub vars: Vars,
     pub base: Name,
     pub host_name: Name,

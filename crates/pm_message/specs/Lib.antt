@@ -3,6 +3,7 @@ pub mod Calendar
 pub mod Date
 pub mod Field
 pub mod FromLine
+pub mod Kept
 pub mod Lines
 pub mod Piece
 pub mod Split

@@ -2,7 +2,7 @@
 ghost use Rattle.std.specs.Prelude.{◌≡◌, ◌++◌, ◌∷◌, ◌<◌, IfOk, IfSome, codes, false, length};
 ghost use Rattle.std.specs.List.{list_any};
 ghost use Rattle.pm_bytes.specs.Alphabet.{NEWLINE as LF};
-ghost use Rattle.pm_message.specs.Area.{area_of, ends_empty, head_area, unfolded};
+ghost use Rattle.pm_message.specs.Area.{area_of, ends_empty, head_area as area_of_head, unfolded};
 ghost use Rattle.pm_message.specs.Area.{without_empty_line as without_last};
 ghost use Rattle.pm_message.specs.FromLine.{is_newline};
 
@@ -78,19 +78,23 @@ fn without_empty_line(head: &[u8]) -> &[u8]
     }
 }
 
-/// The area of a part of the mail. In the head's each newline reads as one space together with the blank behind it, so
-/// that a folded field is one line; that of both is the head's, a newline, and the body.
-pub fn area(alloc: Global, message: &Message, part: Part) -> Result<Blob, Memory>
-    ensures { IfOk result (λ area. area ≡ area_of message.now part) }
+/// The area of the head, in which each newline reads as one space together with the blank behind it, so that a folded
+/// field is one line.
+pub fn head_area(alloc: Global, message: &Message) -> Result<Blob, Memory>
+    ensures { IfOk result (λ area. area ≡ area_of_head message.now) }
 {
-    match part {
-        Part::Body => message.body.copy(alloc),
-        Part::Head => unfold(alloc, without_empty_line(message.head.as_slice())),
-        Part::Both => {
-            let mut text = unfold(alloc, without_empty_line(message.head.as_slice()))?;
-            text.push_slice(b"\n")?;
-            text.push_slice(message.body.as_slice())?;
-            Ok(text)
-        }
-    }
+    unfold(alloc, without_empty_line(message.head.as_slice()))
+}
+
+/// The area of both parts: that of the head, a newline, and the body.
+pub fn both_areas(alloc: Global, head_area: &[u8], message: &Message) -> Result<Blob, Memory>
+    requires { head_area.now ≡ area_of_head message.now }
+    ensures { IfOk result (λ area. area ≡ area_of message.now Part.Both) }
+{
+    let body = message.body.as_slice();
+    let mut text = Vec::with_capacity(alloc, head_area.len() + 1 + body.len())?;
+    text.extend_from_slice(head_area)?;
+    text.extend_from_slice(b"\n")?;
+    text.extend_from_slice(body)?;
+    Ok(Blob::from_vec(text))
 }

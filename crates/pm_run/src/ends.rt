@@ -29,7 +29,6 @@ use pm_host::Command;
 use pm_journal::{Journal, unusable_name, value_too_long};
 use pm_machine::{Ending, Status, status_of};
 use pm_meaning::{End, Process, ProgramLine};
-use pm_message::whole;
 use std::alloc::Global;
 
 /// The process is over: the abstract of its delivery is logged, TRAP's program runs, and LOCKFILE's lock is given back.
@@ -209,7 +208,7 @@ fn run_trap<D: Outside>(
         journal.old journal.new (D.told outside.old) (D.told outside.new) }
     ensures keeping { Keeping journal.new process.new.locks.names }
 {
-    let input = whole(alloc, &process.message)?;
+    let input = process.message.whole(alloc)?;
     let end = run(
         alloc,
         &process.locks,

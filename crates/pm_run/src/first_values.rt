@@ -13,7 +13,7 @@ use pm_bytes::{Blob, Environ, Memory, Name, Names};
 use pm_journal::HeldLocks;
 use pm_machine::CommandLine;
 use pm_meaning::{Process, Stored, new_chain};
-use pm_message::Message;
+use pm_message::{Mail, Message};
 use pm_vars::Vars;
 use std::alloc::Global;
 use std::collections::VecDeque;
@@ -36,7 +36,7 @@ pub fn begin(
     Ok(Process {
         filter,
         fails_softly: line.fails_softly,
-        message,
+        message: Mail::new(message),
         vars,
         base,
         host_name,
