@@ -18,5 +18,5 @@ pub fn make_message(alloc: Global, number: u64) -> Result<Vec<u8>, Memory>
     message.push_slice(b"\n\n")?;
     let body = "line\n".repeat(alloc, (number % 4) as usize)?;
     message.push_slice(body.as_bytes())?;
-    message.into_vec(alloc)
+    Ok(message.into_vec(alloc)?)
 }
