@@ -23,7 +23,8 @@ run 'a lock file' ':0:\n| ls out.lock > seen; cat >> out\n' 0
 grep -q out.lock seen || fail 'there was no lock file'
 [ ! -e out.lock ] || fail 'a lock file is left'
 
-run 'the environment' 'A="b c"\n:0\n| /usr/bin/env > env.out\n' 0
+# It reads no input, and may have ended before it could.
+run 'the environment' 'A="b c"\n:0 i\n| /usr/bin/env > env.out\n' 0
 grep -q '^A=b c$' env.out || fail 'a variable is missing'
 
 run 'a program that is missing' ':0\n| no-such-program x\n:0\nmbox\n' 0
