@@ -1,5 +1,5 @@
 -- Destinations with all that is wanted for them.
-use Rattle.std.specs.Prelude.{◌≡◌, ℕ, false, List, [], ◌∷◌, Option, Some, None, IfSome, codes, if◌then◌else◌}
+use Rattle.std.specs.Prelude.{◌≡◌, ℕ, false, List, [], ◌∷◌, Option, Some, None, codes, if◌then◌else◌}
 use Rattle.pm_bytes.specs.Path.{full_name}
 use Rattle.pm_journal.specs.Held.{holds_name}
 use Rattle.pm_journal.specs.Plan.{Plan}
@@ -16,7 +16,6 @@ use Rattle.pm_vars.specs.Variables.{with_value}
 use Rattle.pm_actions.specs.declared.filing.Copy.{Copy}
 use Rattle.pm_actions.specs.declared.filing.Copy.TheVariants.{ToFile, ToFolder}
 use Rattle.pm_actions.specs.declared.filing.FileCopy.{FileCopy}
-use Rattle.pm_actions.specs.declared.filing.Pieces.{Pieces}
 use Rattle.pm_actions.specs.declared.kept.Kept.{Kept}
 use Rattle.pm_actions.specs.declared.placing.FolderCopy.{FolderCopy}
 
@@ -30,11 +29,6 @@ remembered word size vars = record {
 -- what a file of this name gets: to `/dev/null` nothing is written
 abbrev pub file_piece : List ℕ → Flags → Mind → List ℕ
 file_piece name flags p = if is_nothing name then [] else mailbox_piece flags p
-
--- the pieces that were made are those of this mail
-abbrev pub ArePieces : Flags → Mind → Pieces → Type 0
-ArePieces flags p pieces =
-    IfSome pieces.mailbox (λ piece. piece ≡ mailbox_piece flags p) × IfSome pieces.own (λ piece. piece ≡ folder_piece flags p)
 
 -- a file with its name, its piece, and what the process remembers once it has the mail
 abbrev pub file_copy_for : Flags → Mind → List ℕ → FileCopy

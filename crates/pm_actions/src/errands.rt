@@ -20,7 +20,6 @@ use pm_bytes::{Blob, Memory};
 use pm_host::Command;
 use pm_journal::Journal;
 use pm_meaning::{Outcome, Process};
-use pm_message::{Kind, piece};
 use pm_recipe::Flags;
 use std::alloc::Global;
 
@@ -98,13 +97,7 @@ pub fn write_errand(alloc: Global, flags: Flags, process: &Process) -> Result<Er
 fn fed_piece(alloc: Global, flags: Flags, process: &Process) -> Result<Blob, Memory>
     ensures { IfOk result (λ bytes. bytes ≡ piece_fed flags (mind_of process.now)) }
 {
-    piece(
-        alloc,
-        process.message.parts(),
-        fed_parts(flags),
-        Kind::Other,
-        flags.raw,
-    )
+    process.message.chosen(alloc, fed_parts(flags))
 }
 
 /// Does the errand. There is room for its entry.

@@ -1,18 +1,18 @@
 //! The mail goes to files and folders, one destination after the other. What each wants is taken before the first of them,
 //! so that no memory can be wanting between two deliveries to files or right behind one.
-ghost use Rattle.std.specs.Prelude.{◌≡◌, ◌+◌, ◌*◌, ◌≤◌, false, length, map, IfOk, IfSome, OnErr, List};
+ghost use Rattle.std.specs.Prelude.{◌≡◌, ◌+◌, ◌*◌, ◌≤◌, false, length, map, IfOk, OnErr, List};
 ghost use Rattle.std.specs.List.{list_any};
+ghost use Rattle.pm_bytes.specs.Path.{full_name};
 ghost use Rattle.pm_journal.specs.Appending.{append_reply};
 ghost use Rattle.pm_journal.specs.Executed.{Carries};
 ghost use Rattle.pm_journal.specs.Held.{Keeping};
-ghost use Rattle.pm_message.specs.Piece.{piece_of};
 ghost use Rattle.pm_meaning.specs.Delivering.{feed_of, folder_piece, file_size as size_of_file};
 ghost use Rattle.pm_meaning.specs.Delivering.{file_all, to_file, in_plain, is_stored as is_stored_by};
 ghost use Rattle.pm_meaning.specs.Locks.{is_nothing as is_null_device};
 ghost use Rattle.pm_meaning.specs.Minds.{mind_of};
 ghost use Rattle.pm_meaning.specs.declared.process.Destination.{Destination as Asked};
 ghost use Rattle.pm_actions.specs.Copies.{copy_for, file_copy_for, folder_copy_for, filing_of, with_kept};
-ghost use Rattle.pm_actions.specs.Copies.{file_copy as copy_filed, file_piece as piece_for, ArePieces, IsShown, AllShown};
+ghost use Rattle.pm_actions.specs.Copies.{file_copy as copy_filed, file_piece as piece_for, IsShown, AllShown};
 ghost use Rattle.pm_actions.specs.Filing.{is_folder_there, filed_by, mind_after, is_folder_copy, HasFound};
 
 use crate::kept::{Kept, keep, remembering};
@@ -23,7 +23,7 @@ use pm_append::AppendEnd;
 use pm_bytes::{Blob, Memory, Name, full};
 use pm_journal::{FolderKind, Journal};
 use pm_meaning::{Destination, Filed, Process};
-use pm_message::{Feed, Kind, piece};
+use pm_message::Feed;
 use pm_recipe::Flags;
 use std::alloc::Global;
 use std::collections::VecDeque;
@@ -45,29 +45,19 @@ pub enum Copy {
     ToFolder(FolderCopy),
 }
 
-/// The pieces of the mail that were made: the one for mailboxes, and the one for files of their own.
-#[derive(Drop)]
-pub(crate) struct Pieces {
-    mailbox: Option<Blob>,
-    own: Option<Blob>,
-}
-
-/// The destinations in order, each with all that is wanted for it. A piece is made once, and its copies share its memory.
+/// The destinations in order, each with all that is wanted for it. What mailboxes get is made once for the mail.
 pub fn copies_for(
     alloc: Global,
     flags: Flags,
     destinations: &[Destination],
-    process: &Process,
+    process: &mut Process,
 ) -> Result<VecDeque<Copy>, Memory>
-    ensures { IfOk result (λ copies. copies.items ≡ map (copy_for flags (mind_of process.now)) destinations.now) }
+    ensures copies { IfOk result (λ copies. copies.items ≡ map (copy_for flags (mind_of process.old)) destinations.now) }
+    ensures same { process.new ≡ process.old }
 {
-    let mut pieces = Pieces {
-        mailbox: None,
-        own: None,
-    };
     let mut copies = VecDeque::new(alloc);
     for destination in destinations {
-        let copy = make_copy(alloc, flags, destination, process, &mut pieces)?;
+        let copy = make_copy(alloc, flags, destination, process)?;
         copies.push_back(copy)?;
     }
     Ok(copies)
@@ -77,19 +67,15 @@ fn make_copy(
     alloc: Global,
     flags: Flags,
     destination: &Destination,
-    process: &Process,
-    pieces: &mut Pieces,
+    process: &mut Process,
 ) -> Result<Copy, Memory>
-    requires { ArePieces flags (mind_of process.now) pieces.old }
-    ensures copy { IfOk result (λ copy. copy ≡ copy_for flags (mind_of process.now) destination.now) }
-    ensures pieces { IfOk result (λ _. ArePieces flags (mind_of process.now) pieces.new) }
+    ensures copy { IfOk result (λ copy. copy ≡ copy_for flags (mind_of process.old) destination.now) }
+    ensures same { process.new ≡ process.old }
 {
     let word = &destination.name;
     match destination.kind {
-        None => Ok(Copy::ToFile(file_copy_of(alloc, flags, word, process, pieces)?)),
-        Some(kind) => Ok(Copy::ToFolder(folder_copy_of(
-            alloc, kind, flags, word, process, pieces,
-        )?)),
+        None => Ok(Copy::ToFile(file_copy_of(alloc, flags, word, process)?)),
+        Some(kind) => Ok(Copy::ToFolder(folder_copy_of(alloc, kind, flags, word, process)?)),
     }
 }
 
@@ -97,16 +83,29 @@ fn file_copy_of(
     alloc: Global,
     flags: Flags,
     word: &Name,
-    process: &Process,
-    pieces: &mut Pieces,
+    process: &mut Process,
 ) -> Result<FileCopy, Memory>
-    requires { ArePieces flags (mind_of process.now) pieces.old }
-    ensures copy { IfOk result (λ copy. copy ≡ file_copy_for flags (mind_of process.now) word.now) }
-    ensures pieces { IfOk result (λ _. ArePieces flags (mind_of process.now) pieces.new) }
+    ensures copy { IfOk result (λ copy. copy ≡ file_copy_for flags (mind_of process.old) word.now) }
+    ensures same { process.new ≡ process.old }
 {
     let name = full(alloc, &process.base, word)?;
+    let piece = file_piece(alloc, flags, &name, process)?;
+    file_copy_with(alloc, flags, word, name, piece, process)
+}
+
+fn file_copy_with(
+    alloc: Global,
+    flags: Flags,
+    word: &Name,
+    name: Name,
+    piece: Blob,
+    process: &Process,
+) -> Result<FileCopy, Memory>
+    requires name { name ≡ full_name process.now.base word.now }
+    requires piece { piece ≡ piece_for name flags (mind_of process.now) }
+    ensures { IfOk result (λ copy. copy ≡ file_copy_for flags (mind_of process.now) word.now) }
+{
     let shown = name.copy(alloc)?;
-    let piece = file_piece(alloc, flags, &name, process, pieces)?;
     let size = file_size(flags, &name, &piece, process);
     let kept = remembering(alloc, word.as_str().as_bytes(), size, &process.vars)?;
     Ok(FileCopy {
@@ -122,43 +121,18 @@ fn file_piece(
     alloc: Global,
     flags: Flags,
     name: &Name,
-    process: &Process,
-    pieces: &mut Pieces,
+    process: &mut Process,
 ) -> Result<Blob, Memory>
-    requires { ArePieces flags (mind_of process.now) pieces.old }
-    ensures piece { IfOk result (λ piece. piece ≡ piece_for name.now flags (mind_of process.now)) }
-    ensures pieces { IfOk result (λ _. ArePieces flags (mind_of process.now) pieces.new) }
+    ensures piece { IfOk result (λ piece. piece ≡ piece_for name.now flags (mind_of process.old)) }
+    ensures same { process.new ≡ process.old }
 {
     if is_nothing(name) {
         Ok(Blob::empty(alloc))
     } else {
-        let made = &mut pieces.mailbox;
-        shared_piece(alloc, flags, Kind::MailboxFile, process, made)
+        process
+            .message
+            .mailbox_piece(alloc, fed_parts(flags), flags.raw)
     }
-}
-
-// A copy of the piece of this kind, which is made where it isn't there.
-fn shared_piece(
-    alloc: Global,
-    flags: Flags,
-    kind: Kind,
-    process: &Process,
-    made: &mut Option<Blob>,
-) -> Result<Blob, Memory>
-    requires { IfSome made.old (λ piece. piece ≡ piece_of process.now.message (feed_of flags) kind flags.raw) }
-    ensures piece { IfOk result (λ piece. piece ≡ piece_of process.now.message (feed_of flags) kind flags.raw) }
-    ensures made { IfOk result (λ _. IfSome made.new
-        (λ piece. piece ≡ piece_of process.now.message (feed_of flags) kind flags.raw)) }
-{
-    if let Some(piece) = &*made {
-        return piece.copy(alloc);
-    }
-    let feed = fed_parts(flags);
-    let mut piece = piece(alloc, process.message.parts(), feed, kind, flags.raw)?;
-    piece.share()?;
-    let copy = piece.copy(alloc)?;
-    *made = Some(piece);
-    Ok(copy)
 }
 
 // How many bytes the file gets of which this is the piece: `/dev/null` gets those of no mailbox.
@@ -194,17 +168,13 @@ fn folder_copy_of(
     flags: Flags,
     word: &Name,
     process: &Process,
-    pieces: &mut Pieces,
 ) -> Result<FolderCopy, Memory>
-    requires { ArePieces flags (mind_of process.now) pieces.old }
-    ensures copy { IfOk result (λ copy. copy ≡ folder_copy_for kind flags (mind_of process.now) word.now) }
-    ensures pieces { IfOk result (λ _. ArePieces flags (mind_of process.now) pieces.new) }
+    ensures { IfOk result (λ copy. copy ≡ folder_copy_for kind flags (mind_of process.now) word.now) }
 {
     let folder = full(alloc, &process.base, word)?;
     let shown = folder.copy(alloc)?;
     let prefix = Name::from_text(String::new(alloc));
-    let made = &mut pieces.own;
-    let piece = shared_piece(alloc, flags, Kind::Other, process, made)?;
+    let piece = own_piece(alloc, flags, process)?;
     Ok(FolderCopy {
         kind,
         folder,
@@ -218,13 +188,7 @@ fn folder_copy_of(
 fn own_piece(alloc: Global, flags: Flags, process: &Process) -> Result<Blob, Memory>
     ensures { IfOk result (λ piece. piece ≡ folder_piece flags (mind_of process.now)) }
 {
-    piece(
-        alloc,
-        process.message.parts(),
-        fed_parts(flags),
-        Kind::Other,
-        flags.raw,
-    )
+    process.message.chosen(alloc, fed_parts(flags))
 }
 
 /// The parts of the mail that the flags h and b feed.

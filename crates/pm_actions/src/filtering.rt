@@ -4,7 +4,6 @@ ghost use Rattle.std.specs.Prelude.{◌≡◌, ◌++◌, ◌+◌, ℕ, List, [],
 ghost use Rattle.pm_journal.specs.Executed.{Carries};
 ghost use Rattle.pm_journal.specs.Held.{Keeping};
 ghost use Rattle.pm_journal.specs.Outcomes.{last_output as output_of_last};
-ghost use Rattle.pm_message.specs.Split.{split_of};
 ghost use Rattle.pm_meaning.specs.Changes.{overflowed};
 ghost use Rattle.pm_meaning.specs.Delivering.{feed_of};
 ghost use Rattle.pm_meaning.specs.Locks.{text_or};
@@ -22,7 +21,7 @@ use pm_bytes::{Blob, Memory};
 use pm_host::Command;
 use pm_journal::{Journal, RunEnd};
 use pm_meaning::{Outcome, Process};
-use pm_message::{Feed, Message, split};
+use pm_message::{Feed, Mail, Message};
 use pm_recipe::Flags;
 use pm_subst::without_newlines;
 use std::alloc::Global;
@@ -55,7 +54,7 @@ pub fn filter<D: Outside>(
     let end = run(alloc, locks, command, input, true, outside, journal)?;
     note_code(end, process);
     let fed = feed_outcome(flags, count, end);
-    take_mail(alloc, flags, fed, last_output(journal), process)
+    take_mail(alloc, flags, fed, journal, process)
 }
 
 /// Runs a program whose output is for the variable of this name.
@@ -99,17 +98,46 @@ fn last_output(journal: &Journal) -> &[u8]
     }
 }
 
-// Where the program did well, the output takes its place in the mail, unless that is too long then.
+// The same, in the memory of the entry.
+fn output_copy(alloc: Global, journal: &Journal) -> Result<Blob, Memory>
+    ensures { IfOk result (λ output. output ≡ text_or [] (output_of_last journal.now.entries)) }
+{
+    match journal.last_output() {
+        None => Ok(Blob::empty(alloc)),
+        Some(output) => output.copy(alloc),
+    }
+}
+
+// Where the program did well, its output takes its place in the mail, unless that is too long then.
 fn take_mail(
     alloc: Global,
     flags: Flags,
     fed: Outcome,
-    output: &[u8],
+    journal: &Journal,
     process: &mut Process,
 ) -> Result<Outcome, Memory>
-    ensures outcome { let mail = mail_refilled (feed_of flags) output.now process.old.message in
+    ensures outcome { let output = text_or [] (output_of_last journal.now.entries) in
+        let mail = mail_refilled (feed_of flags) output process.old.message in
         IfOk result (λ outcome. outcome ≡ unless_too_long fed (length mail)) }
-    ensures mind { let mail = mail_refilled (feed_of flags) output.now process.old.message in
+    ensures mind { let output = text_or [] (output_of_last journal.now.entries) in
+        let mail = mail_refilled (feed_of flags) output process.old.message in
+        IfOk result (λ outcome. mind_of process.new ≡ mail_if outcome mail (mind_of process.old)) }
+    ensures locks { process.new.locks ≡ process.old.locks }
+{
+    let output = output_copy(alloc, journal)?;
+    take_output(alloc, flags, fed, output, process)
+}
+
+fn take_output(
+    alloc: Global,
+    flags: Flags,
+    fed: Outcome,
+    output: Blob,
+    process: &mut Process,
+) -> Result<Outcome, Memory>
+    ensures outcome { let mail = mail_refilled (feed_of flags) output process.old.message in
+        IfOk result (λ outcome. outcome ≡ unless_too_long fed (length mail)) }
+    ensures mind { let mail = mail_refilled (feed_of flags) output process.old.message in
         IfOk result (λ outcome. mind_of process.new ≡ mail_if outcome mail (mind_of process.old)) }
     ensures locks { process.new.locks ≡ process.old.locks }
 {
@@ -118,16 +146,16 @@ fn take_mail(
     }
     let feed = fed_parts(flags);
     let parts = process.message.parts();
-    if is_too_long(feed, output, parts) {
+    if is_too_long(feed, &output, parts) {
         return Ok(Outcome::TooLong);
     }
-    let parts = refilled(alloc, feed, output, parts)?;
-    process.message.replace(parts);
-    Ok(Outcome::Done)
+    let bytes = refilled(alloc, feed, output, parts)?;
+    process.message = Mail::split(alloc, bytes)?;
+    Ok(fed)
 }
 
 // Whether the mail with the output in its place has too many bytes.
-fn is_too_long(feed: Feed, output: &[u8], message: &Message) -> bool
+fn is_too_long(feed: Feed, output: &Blob, message: &Message) -> bool
     ensures { result ≡ nat_lt 67108864 (length (mail_refilled feed output.now message.now)) }
 {
     output.len() > MOST_MAIL || kept_length(feed, message) > MOST_MAIL - output.len()
@@ -145,22 +173,21 @@ fn kept_length(feed: Feed, message: &Message) -> usize
 }
 
 // The mail with the output in the place of the parts that were fed.
-fn refilled(alloc: Global, feed: Feed, output: &[u8], message: &Message) -> Result<Message, Memory>
-    ensures { IfOk result (λ mail. mail ≡ split_of (mail_refilled feed output.now message.now)) }
+fn refilled(alloc: Global, feed: Feed, output: Blob, message: &Message) -> Result<Blob, Memory>
+    ensures { IfOk result (λ bytes. bytes ≡ mail_refilled feed output message.now) }
 {
     match feed {
-        Feed::Both => split(alloc, output),
-        Feed::Head => split_joined(alloc, output, message.body.as_slice()),
-        Feed::Body => split_joined(alloc, message.head.as_slice(), output),
+        Feed::Both => Ok(output),
+        Feed::Head => followed_by(output, message.body.as_slice()),
+        Feed::Body => followed_by(message.head.copy(alloc)?, output.as_slice()),
     }
 }
 
-fn split_joined(alloc: Global, front: &[u8], rest: &[u8]) -> Result<Message, Memory>
-    ensures { IfOk result (λ mail. mail ≡ split_of (front.now ++ rest.now)) }
+fn followed_by(mut front: Blob, rest: &[u8]) -> Result<Blob, Memory>
+    ensures { IfOk result (λ both. both ≡ front ++ rest.now) }
 {
-    let mut bytes = Blob::from_slice(alloc, front)?;
-    bytes.push_slice(rest)?;
-    split(alloc, bytes.as_slice())
+    front.push_slice(rest)?;
+    Ok(front)
 }
 
 // Where all went well, the variable gets the output without the newlines at its end, unless that is too long for it.

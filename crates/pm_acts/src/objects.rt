@@ -346,12 +346,20 @@ fn folder_end_of(reply: &Reply) -> FolderEnd
     }
 }
 
-// The reply of the run of a program, unless memory was wanting.
+// The reply of the run of a program, unless memory was wanting. Copies of the output get its memory; where there is none
+// for that, they will have their own.
 fn child_reply_of(end: ChildEnd) -> Result<Reply, Memory>
     ensures { AreReply (child_reply end) result }
 {
     match end {
-        ChildEnd::Ended { code, took, output } => Ok(Reply::Ended { code, took, output }),
+        ChildEnd::Ended {
+            code,
+            took,
+            mut output,
+        } => {
+            let _ = output.share();
+            Ok(Reply::Ended { code, took, output })
+        }
         ChildEnd::NotStarted => Ok(Reply::NotStarted),
         ChildEnd::Broken { took } => Ok(Reply::Broken { took }),
         ChildEnd::TooLong(count) => Ok(Reply::TooLong(count)),

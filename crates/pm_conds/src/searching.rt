@@ -195,9 +195,8 @@ pub fn search(
 }
 
 /// A part of the mail as it stands.
-fn part_bytes(alloc: Global, mail: &mut Mail, part: Part) -> Result<Blob, Memory>
-    ensures bytes { IfOk result (λ bytes. bytes ≡ bytes_in mail.old part) }
-    ensures same { mail.new ≡ mail.old }
+fn part_bytes(alloc: Global, mail: &Mail, part: Part) -> Result<Blob, Memory>
+    ensures { IfOk result (λ bytes. bytes ≡ bytes_in mail.now part) }
 {
     match part {
         Part::Head => mail.parts().head.copy(alloc),
@@ -211,11 +210,10 @@ pub fn program_input(
     alloc: Global,
     scope: &Scope,
     flags: Flags,
-    mail: &mut Mail,
+    mail: &Mail,
     vars: &Vars,
 ) -> Result<Blob, Memory>
-    ensures input { IfOk result (λ input. input ≡ input_in scope.now (sight_of flags mail.old vars.now)) }
-    ensures same { mail.new ≡ mail.old }
+    ensures { IfOk result (λ input. input ≡ input_in scope.now (sight_of flags mail.now vars.now)) }
 {
     match scope {
         Scope::Flags => part_bytes(alloc, mail, searched_part(flags)),

@@ -28,16 +28,7 @@ fn head_length(bytes: &[u8]) -> usize
     }
 }
 
-/// The head and the body of a mail. A mail without an empty line is all head.
-pub fn split(alloc: Global, bytes: &[u8]) -> Result<Message, Memory>
-    ensures parts { IfOk result (λ message. message ≡ split_of bytes.now) }
-    ensures shortest { IfOk result (λ message. IsSplit bytes.now message) }
-    ensures whole { IfOk result (λ message. whole_of message ≡ bytes.now) }
-{
-    divide(alloc, Blob::from_slice(alloc, bytes)?)
-}
-
-/// The head and the body of a mail, in the memory that the mail has.
+/// The head and the body of a mail, in the memory that the mail has. A mail without an empty line is all head.
 pub fn divide(alloc: Global, mut mail: Blob) -> Result<Message, Memory>
     ensures parts { IfOk result (λ message. message ≡ split_of mail) }
     ensures shortest { IfOk result (λ message. IsSplit mail message) }
@@ -48,13 +39,4 @@ pub fn divide(alloc: Global, mut mail: Blob) -> Result<Message, Memory>
     let head = mail.part(alloc, 0, length)?;
     let body = mail.part(alloc, length, mail.len())?;
     Ok(Message { head, body })
-}
-
-/// The mail in one piece again.
-pub fn whole(alloc: Global, message: &Message) -> Result<Blob, Memory>
-    ensures { IfOk result (λ bytes. bytes ≡ whole_of message.now) }
-{
-    let mut bytes = message.head.copy(alloc)?;
-    bytes.push_slice(message.body.as_slice())?;
-    Ok(bytes)
 }

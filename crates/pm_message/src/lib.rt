@@ -11,7 +11,7 @@ mod renewal;
 
 pub use areas::Part;
 pub use date::from_line;
-pub use head::{Message, divide, split, whole};
+pub use head::{Message, divide};
 pub use head_fields::{Field, FieldKind, Key, field_texts, fields, read_key};
 pub use mail::Mail;
 pub use pieces::{Feed, Kind, piece};

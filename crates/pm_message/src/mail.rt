@@ -1,22 +1,32 @@
-//! A mail that keeps what conditions search and what programs get, so that each is made once for it.
-ghost use Rattle.std.specs.Prelude.{◌≡◌, Some, IfOk, OnErr};
+//! A mail that keeps what conditions search and mailboxes get, so that each is made once for it.
+ghost use Rattle.std.specs.Prelude.{◌≡◌, Some, IfOk, IfSome, OnErr};
 ghost use Rattle.pm_message.specs.Area.{area_of, head_area as area_of_head};
-ghost use Rattle.pm_message.specs.Split.{whole_of};
+ghost use Rattle.pm_message.specs.Piece.{piece_of, chosen as chosen_of};
+ghost use Rattle.pm_message.specs.Split.{split_of, whole_of};
 
 use crate::areas::{both_areas, head_area};
-use crate::{Message, Part, whole};
+use crate::{Feed, Kind, Message, Part, divide, piece};
 use pm_bytes::{Blob, Memory};
 use std::alloc::Global;
 use std::marker::Model;
 
-/// A mail with what was made of it so far: the area of its head, that of its head and body, and the mail in one piece.
-/// Contracts see its two parts.
+/// A mail in one piece and in its two parts, which have the same memory, with what was made of it so far: the area of its
+/// head, that of its head and body, and what a mailbox gets. Contracts see its two parts.
 #[derive(Drop)]
 pub struct Mail {
     parts: Message,
+    whole: Blob,
     head_area: Option<Blob>,
     both_areas: Option<Blob>,
-    whole: Option<Blob>,
+    mailbox: Option<MailboxPiece>,
+}
+
+/// What a mailbox gets of a mail, with what was asked for.
+#[derive(Drop)]
+pub(crate) struct MailboxPiece {
+    feed: Feed,
+    raw: bool,
+    piece: Blob,
 }
 
 impl Model for Mail {
@@ -32,29 +42,26 @@ impl Model for Mail {
 }
 
 impl Mail {
-    /// Nothing is made of it yet.
-    pub fn new(parts: Message) -> Mail
-        ensures { result ≡ parts }
+    /// The mail of these bytes, in their memory. Nothing is made of it yet.
+    pub fn split(alloc: Global, mut bytes: Blob) -> Result<Mail, Memory>
+        ensures { IfOk result (λ mail. mail ≡ split_of bytes) }
     {
-        Mail {
+        bytes.share()?;
+        let whole = bytes.copy(alloc)?;
+        let parts = divide(alloc, bytes)?;
+        Ok(Mail {
             parts,
+            whole,
             head_area: None,
             both_areas: None,
-            whole: None,
-        }
+            mailbox: None,
+        })
     }
 
     pub fn parts(&self) -> &Message
         ensures { result.now ≡ self.now }
     {
         &self.parts
-    }
-
-    /// Another mail takes its place. What was made of the one before goes.
-    pub fn replace(&mut self, parts: Message)
-        ensures { self.new ≡ parts }
-    {
-        *self = Mail::new(parts);
     }
 
     /// The area of a part of the mail, which is made once; later ones have the same memory.
@@ -92,16 +99,53 @@ impl Mail {
         keep(alloc, area, &mut self.both_areas)
     }
 
-    /// The mail in one piece, which is made once; later ones have the same memory.
-    pub fn whole(&mut self, alloc: Global) -> Result<Blob, Memory>
-        ensures whole { IfOk result (λ bytes. bytes ≡ whole_of self.old) }
+    /// The mail in one piece, in the mail's own memory.
+    pub fn whole(&self, alloc: Global) -> Result<Blob, Memory>
+        ensures { IfOk result (λ bytes. bytes ≡ whole_of self.now) }
+    {
+        self.whole.copy(alloc)
+    }
+
+    /// The wanted parts as they are, in the mail's own memory.
+    pub fn chosen(&self, alloc: Global, feed: Feed) -> Result<Blob, Memory>
+        ensures { IfOk result (λ bytes. bytes ≡ chosen_of self.now feed) }
+    {
+        match feed {
+            Feed::Both => self.whole.copy(alloc),
+            Feed::Head => self.parts.head.copy(alloc),
+            Feed::Body => self.parts.body.copy(alloc),
+        }
+    }
+
+    /// What a mailbox gets of the mail. The last one that was made is kept; one like it has the same memory.
+    pub fn mailbox_piece(&mut self, alloc: Global, feed: Feed, raw: bool) -> Result<Blob, Memory>
+        ensures piece { IfOk result (λ piece. piece ≡ piece_of self.old feed Kind.MailboxFile raw) }
         ensures same { self.new ≡ self.old }
     {
-        if let Some(bytes) = &self.whole {
-            return bytes.copy(alloc);
+        if let Some(piece) = self.kept_piece(feed, raw) {
+            return piece.copy(alloc);
         }
-        let bytes = whole(alloc, &self.parts)?;
-        keep(alloc, bytes, &mut self.whole)
+        let mut piece = piece(alloc, &self.parts, feed, Kind::MailboxFile, raw)?;
+        piece.share()?;
+        let copy = piece.copy(alloc)?;
+        self.mailbox = Some(MailboxPiece { feed, raw, piece });
+        Ok(copy)
+    }
+
+    // What a mailbox gets that was asked for so before.
+    fn kept_piece(&self, feed: Feed, raw: bool) -> Option<&Blob>
+        ensures { IfSome result (λ piece. piece.now ≡ piece_of self.now feed Kind.MailboxFile raw) }
+    {
+        match &self.mailbox {
+            None => None,
+            Some(kept) => {
+                if kept.feed == feed && kept.raw == raw {
+                    Some(&kept.piece)
+                } else {
+                    None
+                }
+            }
+        }
     }
 
     /// The same mail, with what was made of it.
@@ -110,14 +154,12 @@ impl Mail {
     {
         let head = self.parts.head.copy(alloc)?;
         let body = self.parts.body.copy(alloc)?;
-        let head_area = copy_kept(alloc, &self.head_area)?;
-        let both_areas = copy_kept(alloc, &self.both_areas)?;
-        let whole = copy_kept(alloc, &self.whole)?;
         Ok(Mail {
             parts: Message { head, body },
-            head_area,
-            both_areas,
-            whole,
+            whole: self.whole.copy(alloc)?,
+            head_area: copy_kept(alloc, &self.head_area)?,
+            both_areas: copy_kept(alloc, &self.both_areas)?,
+            mailbox: copy_piece(alloc, &self.mailbox)?,
         })
     }
 }
@@ -141,5 +183,18 @@ fn copy_kept(alloc: Global, kept: &Option<Blob>) -> Result<Option<Blob>, Memory>
     match kept {
         None => Ok(None),
         Some(made) => Ok(Some(made.copy(alloc)?)),
+    }
+}
+
+fn copy_piece(alloc: Global, kept: &Option<MailboxPiece>) -> Result<Option<MailboxPiece>, Memory>
+    ensures { IfOk result (λ copy. copy ≡ kept.now) }
+{
+    match kept {
+        None => Ok(None),
+        Some(MailboxPiece { feed, raw, piece }) => Ok(Some(MailboxPiece {
+            feed: *feed,
+            raw: *raw,
+            piece: piece.copy(alloc)?,
+        })),
     }
 }

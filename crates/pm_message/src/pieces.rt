@@ -8,7 +8,7 @@ use pm_bytes::{Blob, Memory};
 use std::alloc::Global;
 
 /// Which parts of the mail are wanted.
-#[derive(Clone, Copy)]
+#[derive(Clone, Copy, PartialEq, Eq)]
 pub enum Feed {
     Both,
     Head,

@@ -4,7 +4,7 @@ ghost use Rattle.std.specs.List.{before_first};
 ghost use Rattle.pm_message.specs.FromLine.{has_from_line, makes_line, is_newline, without_line, is_no_blank, ends_word, behind_blanks, sender_of, who_of, prepared_of};
 ghost use Rattle.pm_message.specs.Split.{split_of};
 
-use crate::{Message, divide, from_line, split};
+use crate::{Mail, from_line};
 use pm_bytes::{Blob, Memory, is_blank};
 use std::alloc::Global;
 
@@ -106,25 +106,23 @@ fn new_sender<'a>(bytes: &'a [u8], renew: &'a Renew, logname: &'a [u8]) -> &'a [
     }
 }
 
-/// The head and the body of a mail with its line `From ` as it is asked for (procmail(1), option
-/// -f). A line that is made for want of another sender is from `logname`. `moment` is in seconds
-/// since 1970, in UTC. `Memory` is the only error.
+/// The mail with its line `From ` as it is asked for (procmail(1), option -f). A line that is made for want of another sender
+/// is from `logname`. `moment` is in seconds since 1970, in UTC. `Memory` is the only error.
 pub fn prepare(
     alloc: Global,
-    bytes: &[u8],
+    bytes: Blob,
     renew: &Renew,
     logname: &[u8],
     moment: i64,
-) -> Result<Message, Memory>
-    ensures prepared { IfOk result
-        (λ message. message ≡ prepared_of bytes.now renew.now logname.now moment) }
-    ensures kept { makes_line bytes.now renew.now ≡ false
-        → IfOk result (λ message. message ≡ split_of bytes.now) }
+) -> Result<Mail, Memory>
+    ensures prepared { IfOk result (λ mail. mail ≡ prepared_of bytes renew.now logname.now moment) }
+    ensures kept { makes_line bytes renew.now ≡ false → IfOk result (λ mail. mail ≡ split_of bytes) }
 {
-    if !needs_line(bytes, renew) {
-        return split(alloc, bytes);
+    if !needs_line(bytes.as_slice(), renew) {
+        return Mail::split(alloc, bytes);
     }
-    let mut mail = from_line(alloc, new_sender(bytes, renew, logname), moment)?;
-    mail.push_slice(behind_line(bytes))?;
-    divide(alloc, mail)
+    let who = new_sender(bytes.as_slice(), renew, logname);
+    let mut renewed = from_line(alloc, who, moment)?;
+    renewed.push_slice(behind_line(bytes.as_slice()))?;
+    Mail::split(alloc, renewed)
 }

@@ -1,16 +1,14 @@
 //! Rows of mails: their parts, what of them goes to a mailbox, and their From line.
 use case_file::{Refused, Words, one_word, only_word, text_of};
 use pm_bytes::{Blob, Memory};
-use pm_message::{Feed, Kind, Renew, from_line, needs_line, piece, prepare, split, whole};
+use pm_message::{Feed, Kind, Mail, Renew, from_line, needs_line, piece, prepare};
 use std::alloc::Global;
 
 /// The head and the body of a mail, and behind them the whole of both where that isn't the mail.
 pub fn parts(alloc: Global, mail: &[u8]) -> Result<Words, Memory> {
     let message = split(alloc, mail)?;
-    let joined = whole(alloc, &message)?;
-    let mut words = Vec::new(alloc);
-    words.push(message.head.into_vec(alloc)?)?;
-    words.push(message.body.into_vec(alloc)?)?;
+    let joined = message.whole(alloc)?;
+    let mut words = parts_of(alloc, &message)?;
     if joined.as_slice() != mail {
         words.push(joined.into_vec(alloc)?)?;
     }
@@ -27,7 +25,7 @@ pub fn piece_of(
 ) -> Result<Words, Refused> {
     let message = split(alloc, mail)?;
     let raw = raw_of(raw)?;
-    let text = piece(alloc, &message, feed_of(feed)?, kind_of(kind)?, raw)?;
+    let text = piece(alloc, message.parts(), feed_of(feed)?, kind_of(kind)?, raw)?;
     Ok(only_word(alloc, text.into_vec(alloc)?)?)
 }
 
@@ -56,10 +54,21 @@ pub fn prepared(
     mail: &[u8],
 ) -> Result<Words, Refused> {
     let renew = renew_of(alloc, renew)?;
-    let message = prepare(alloc, mail, &renew, logname, moment)?;
+    let bytes = Blob::from_slice(alloc, mail)?;
+    let message = prepare(alloc, bytes, &renew, logname, moment)?;
+    Ok(parts_of(alloc, &message)?)
+}
+
+fn split(alloc: Global, mail: &[u8]) -> Result<Mail, Memory> {
+    Mail::split(alloc, Blob::from_slice(alloc, mail)?)
+}
+
+// The head and the body.
+fn parts_of(alloc: Global, mail: &Mail) -> Result<Words, Memory> {
+    let parts = mail.parts();
     let mut words = Vec::new(alloc);
-    words.push(message.head.into_vec(alloc)?)?;
-    words.push(message.body.into_vec(alloc)?)?;
+    words.push(parts.head.as_slice().to_vec(alloc)?)?;
+    words.push(parts.body.as_slice().to_vec(alloc)?)?;
     Ok(words)
 }
 
@@ -72,8 +81,9 @@ pub fn prepared_whole(
     mail: &[u8],
 ) -> Result<Words, Refused> {
     let renew = renew_of(alloc, renew)?;
-    let message = prepare(alloc, mail, &renew, logname, moment)?;
-    Ok(only_word(alloc, whole(alloc, &message)?.into_vec(alloc)?)?)
+    let bytes = Blob::from_slice(alloc, mail)?;
+    let message = prepare(alloc, bytes, &renew, logname, moment)?;
+    Ok(only_word(alloc, message.whole(alloc)?.into_vec(alloc)?)?)
 }
 
 fn feed_of(word: &[u8]) -> Result<Feed, Refused> {

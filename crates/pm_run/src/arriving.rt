@@ -25,7 +25,7 @@ use pm_bytes::{Blob, Environ, Memory, Name, Names, Pair};
 use pm_journal::{HeldLocks, Journal};
 use pm_machine::CommandLine;
 use pm_meaning::Process;
-use pm_message::{needs_line, prepare, split};
+use pm_message::{Mail, needs_line, prepare};
 use std::alloc::Global;
 use std::collections::VecDeque;
 
@@ -34,20 +34,20 @@ pub fn arrive<D: Outside>(
     alloc: Global,
     line: &CommandLine,
     env: &Environ,
-    bytes: &[u8],
+    bytes: Blob,
     outside: &mut D,
     journal: &mut Journal,
 ) -> Result<Process, Memory>
     requires keeping { Keeping journal.old [] }
     ensures carries { let home = home_behind line.now.values (home_folder env.now) in
-        Carries (step (Arrived line.now env.now bytes.now))
+        Carries (step (Arrived line.now env.now bytes))
         (λ process. Go (Setting line.now.values line.now home (mind_of process)))
         result journal.old journal.new (D.told outside.old) (D.told outside.new) }
     ensures locks { IfOk result (λ process. process.locks.names ≡ []) }
     ensures keeping { Keeping journal.new [] }
 {
-    if !needs_line(bytes, &line.renew) {
-        let message = split(alloc, bytes)?;
+    if !needs_line(bytes.as_slice(), &line.renew) {
+        let message = Mail::split(alloc, bytes)?;
         return begin(alloc, line, env, message);
     }
     let moment = ask_moment(&HeldLocks::new(alloc), outside, journal)?;

@@ -211,7 +211,7 @@ fn ask_program<D: Outside>(
     ensures keeping { Keeping journal.new process.new.locks.names }
 {
     let scope = &question.scope;
-    let input = program_input(alloc, scope, flags, &mut process.message, &process.vars)?;
+    let input = program_input(alloc, scope, flags, &process.message, &process.vars)?;
     let end = run(
         alloc,
         &process.locks,

@@ -13,7 +13,7 @@ use pm_bytes::{Blob, Environ, Memory, Name, Names};
 use pm_journal::HeldLocks;
 use pm_machine::CommandLine;
 use pm_meaning::{Process, Stored, new_chain};
-use pm_message::{Mail, Message};
+use pm_message::Mail;
 use pm_vars::Vars;
 use std::alloc::Global;
 use std::collections::VecDeque;
@@ -23,7 +23,7 @@ pub fn begin(
     alloc: Global,
     line: &CommandLine,
     env: &Environ,
-    message: Message,
+    message: Mail,
 ) -> Result<Process, Memory>
     ensures mind { IfOk result (λ process. mind_of process
         ≡ first_process line.now.filter line.now.fails_softly line.now.arguments env.now message) }
@@ -36,7 +36,7 @@ pub fn begin(
     Ok(Process {
         filter,
         fails_softly: line.fails_softly,
-        message: Mail::new(message),
+        message,
         vars,
         base,
         host_name,

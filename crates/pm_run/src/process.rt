@@ -50,8 +50,7 @@ pub fn run_processes<D: Outside>(
         journal.old journal.new (D.told outside.old) (D.told outside.new)) }
     ensures keeping { Keeping journal.new [] }
 {
-    let mut process = arrive(alloc, &line, env, bytes.as_slice(), outside, journal)?;
-    drop(bytes);
+    let mut process = arrive(alloc, &line, env, bytes, outside, journal)?;
     let mut queue = new_queue(alloc);
     let ended = run_first(
         alloc,

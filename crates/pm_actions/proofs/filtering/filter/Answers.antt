@@ -1,6 +1,7 @@
-use Rattle.std.proofs.Common.{rules}
+use Rattle.std.proofs.Common.{[], refl, rules}
 use Rattle.pm_journal.specs.Outcomes.{last_output}
 use Rattle.pm_journal.proofs.WantsMemory.{on_err}
+use Rattle.pm_meaning.specs.Locks.{text_or}
 use Rattle.pm_meaning.specs.Minds.{mind_of}
 use Rattle.pm_actions.proofs.FilterLemmas.{filter_unrun, was_filtered}
 use Rattle.pm_actions.proofs.filtering.filter.Goals as goal
@@ -14,5 +15,5 @@ returns-clause-carries g c =
     let p = mind_of c.args.process.now in
     let q = mind_of c.note_code.new.process in
     let ran = c.in_ok-end.ensures.ok in
-    was_filtered c.args.flags c.args.command c.args.input p _ _ _ _ ran.reply _ c.in_ok-end.end _ (last_output c.run.new.journal.entries) c.last_output.result.now q (mind_of c.take_mail.new.process) c.take_mail.result
-    (record { end_is = ran.end_is; output_is = ran.output; mind_is = c.note_code.ensures.mind }) c.len-count.ensures c.feed_outcome-fed.ensures c.last_output.ensures ran.executes c.take_mail.ensures.outcome c.take_mail.ensures.mind
+    was_filtered c.args.flags c.args.command c.args.input p _ _ _ _ ran.reply _ c.in_ok-end.end _ (last_output c.run.new.journal.entries) (text_or [] (last_output c.run.new.journal.entries)) q (mind_of c.take_mail.new.process) c.take_mail.result
+    (record { end_is = ran.end_is; output_is = ran.output; mind_is = c.note_code.ensures.mind }) c.len-count.ensures c.feed_outcome-fed.ensures refl ran.executes c.take_mail.ensures.outcome c.take_mail.ensures.mind

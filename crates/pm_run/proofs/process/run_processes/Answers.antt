@@ -18,14 +18,14 @@ pub returns-in_err-process-clause-memory : goal.returns-in_err-process-clause-me
 returns-in_err-process-clause-memory g c =
     let start = Arrived c.args.line c.args.env.now c.args.bytes in
     on_err _ _ (abandoned_by advance (now_at alone start) _ _ _ _ _ _ _
-    (interrupted_in_run alone start _ _ _ _ (interrupted_at_once step start _ _ _ _ (rw c.as_slice.ensures at c.in_err-process.ensures.carries.1))) (gives_none _ _) c.requires.keeping c.arrive.ensures.keeping)
+    (interrupted_in_run alone start _ _ _ _ (interrupted_at_once step start _ _ _ _ c.in_err-process.ensures.carries.1)) (gives_none _ _) c.requires.keeping c.arrive.ensures.keeping)
 
 pub returns-in_err-first-clause-memory : goal.returns-in_err-first-clause-memory
 returns-in_err-first-clause-memory g c =
     let line = c.args.line in
     let start = Arrived line c.args.env.now c.args.bytes in
     let setting = Setting line.values line (home_by line.values (home_folder c.args.env.now)) (mind_of c.in_ok-process.process) in
-    let began = rw c.as_slice.ensures at c.in_ok-process.ensures.carries.0 in
+    let began = c.in_ok-process.ensures.carries.0 in
     on_err _ _ (first_wants c.new_queue-queue.result c.run_first-ended.new.queue start setting _ _ _ _ _ _ c.new_queue-queue.ensures.empty c.new_queue-queue.ensures.none began
     _ _ _ (λ first. (c.in_err-first.ensures.proceeds first).1) c.give_all.ensures.gives c.requires.keeping c.run_first-ended.ensures.keeping)
 
@@ -34,7 +34,7 @@ returns-clause-ok g c =
     let line = c.args.line in
     let start = Arrived line c.args.env.now c.args.bytes in
     let setting = Setting line.values line (home_by line.values (home_folder c.args.env.now)) (mind_of c.in_ok-process.process) in
-    let began = rw c.as_slice.ensures at c.in_ok-process.ensures.carries.0 in
+    let began = c.in_ok-process.ensures.carries.0 in
     ok_map c.run_copies.result _ _ (λ end h. all_ran c.new_queue-queue.result c.run_first-ended.new.queue start setting c.args.journal.now c.arrive.new.journal c.run_first-ended.new.journal _ _ _ c.new_queue-queue.ensures.empty c.new_queue-queue.ensures.none began
     c.in_ok-first.first (mind_of c.run_first-ended.new.process) c.counts_of-counts.result c.give_all.new.journal c.run_copies.new.journal _ _ (λ first. (c.in_ok-first.ensures.proceeds first).0) c.counts_of-counts.ensures.placed c.counts_of-counts.ensures.openings c.give_all.ensures.gives end h) c.run_copies.ensures.ok
 
@@ -43,6 +43,6 @@ returns-clause-memory g c =
     let line = c.args.line in
     let start = Arrived line c.args.env.now c.args.bytes in
     let setting = Setting line.values line (home_by line.values (home_folder c.args.env.now)) (mind_of c.in_ok-process.process) in
-    let began = rw c.as_slice.ensures at c.in_ok-process.ensures.carries.0 in
+    let began = c.in_ok-process.ensures.carries.0 in
     err_map c.run_copies.result _ _ (λ h. others_want c.new_queue-queue.result c.run_first-ended.new.queue start setting c.args.journal.now c.arrive.new.journal c.run_first-ended.new.journal _ _ _ c.new_queue-queue.ensures.empty c.new_queue-queue.ensures.none began
     c.in_ok-first.first (mind_of c.run_first-ended.new.process) c.counts_of-counts.result c.give_all.new.journal c.run_copies.new.journal _ _ (λ first. (c.in_ok-first.ensures.proceeds first).0) c.counts_of-counts.ensures.placed c.counts_of-counts.ensures.openings c.give_all.ensures.gives c.requires.keeping c.give_all.ensures.keeping h) c.run_copies.ensures.memory
