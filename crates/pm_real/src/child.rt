@@ -1,5 +1,6 @@
 //! A child of this process. Its input goes through a pipe and its output to a file, so that feeding it never waits for
-//! reading.
+//! reading. The pipe is made here, since a write to one of `Stdio::piped()` holds SIGPIPE back by three more system
+//! calls: a program of this language ignores that signal from its start on.
 ghost use Rattle.std.specs.Prelude.{◌≡◌, ◌≤◌, ◌<◌, length, IfSome};
 ghost use Rattle.pm_host.specs.World.{FedAtMost};
 
@@ -8,18 +9,19 @@ use pm_again::MOST_TRIES;
 use pm_host::{Command, Fed, Finished};
 use std::alloc::Global;
 use std::fs::OpenOptions;
-use std::io::{ErrorKind, Write};
+use std::io::{ErrorKind, PipeWriter, Write};
 use std::os::unix::fs::{FileExt, OpenOptionsExt};
 use std::os::unix::process::ExitStatusExt;
 use std::process::{Child, ExitStatus, OpenProcess, Processes, Stdio};
 use std::rt::Files;
 use std::{fs, io, process};
 
-/// A child that was started, with the file that its output goes to where that is kept, and how many bytes of it were
-/// taken.
+/// A child that was started, with the other end of the pipe that it reads, until that is closed, the file that its
+/// output goes to where that is kept, and how many bytes of it were taken.
 #[derive(Drop)]
 pub struct Running<P: OpenProcess + Drop, F: FileExt + Drop> {
     process: Child<P>,
+    input: Option<PipeWriter>,
     output: Option<F>,
     taken: u64,
 }
@@ -48,7 +50,7 @@ pub fn open_output<R: Files>(rt: &R, alloc: Global, pid: u32) -> io::Result<R::F
 
 /// Starts the program with its own words, its environment and nothing else, from its folder. Its output goes to
 /// `stdout`, of which `output` is another handle.
-pub fn start<R: Processes, F: FileExt + Drop>(
+pub fn start<R: Files + Processes, F: FileExt + Drop>(
     rt: &R,
     alloc: Global,
     command: &Command,
@@ -64,10 +66,12 @@ pub fn start<R: Processes, F: FileExt + Drop>(
         how.env(pair.name.as_str(), pair.value.as_str())?;
     }
     how.current_dir(command.folder.as_str())?;
-    how.stdin(Stdio::piped());
+    let (reader, writer) = io::pipe(rt)?;
+    how.stdin(reader);
     how.stdout(stdout);
     Ok(Running {
         process: how.spawn(rt)?,
+        input: Some(writer),
         output,
         taken: 0,
     })
@@ -78,7 +82,7 @@ impl<P: OpenProcess + Drop, F: FileExt + Drop> Running<P, F> {
     pub fn feed(&mut self, piece: &[u8]) -> Fed
         ensures { FedAtMost (length piece.now) result }
     {
-        let Some(input) = self.process.stdin.as_mut() else {
+        let Some(input) = &mut self.input else {
             return Fed::Failed;
         };
         for _ in 0..MOST_TRIES {
@@ -98,6 +102,7 @@ impl<P: OpenProcess + Drop, F: FileExt + Drop> Running<P, F> {
     pub fn take(&mut self, room: &mut [u8]) -> Option<usize>
         ensures { IfSome result (λ count. count ≤ length room.new) }
     {
+        self.input = None;
         let Ok(_) = self.process.wait() else {
             return None;
         };
@@ -111,6 +116,7 @@ impl<P: OpenProcess + Drop, F: FileExt + Drop> Running<P, F> {
 
     /// Waits for its end.
     pub fn finish(&mut self) -> Finished {
+        self.input = None;
         match self.process.wait() {
             Ok(status) => how_it_ended(status),
             Err(_) => Finished::Failed,
