@@ -5,14 +5,13 @@ use Rattle.pm_host.specs.Told.{HostView, Rose}
 use Rattle.pm_host.specs.declared.calls.Answer.TheVariants.{Remove as AnswerRemove}
 use Rattle.pm_host.specs.declared.answers.Removed.{Removed}
 use Rattle.pm_host.specs.declared.answers.Removed.TheVariants.{Removed as RemovedDone, Absent, Failed as RemoveFailed}
-use Rattle.pm_journal.specs.declared.acts.Reply.TheVariants.{Faulted}
 use Rattle.pm_journal.specs.declared.appending.AppendEnd.{AppendEnd}
 use Rattle.pm_journal.specs.declared.appending.AppendEnd.TheVariants.{Done as EndDone, Undone as EndUndone, Torn as EndTorn, IsFolder as EndFolder, Raced as EndRaced}
 use Rattle.pm_journal.specs.Appending.{IsFaultEnd}
 use Rattle.pm_journal.proofs.AppendCause.{append_cause}
 use Rattle.pm_journal.proofs.LockEffect.{lock_cause}
-use Rattle.pm_journal.proofs.ReadJoin.{read_cause}
 use Rattle.formail_extra.specs.Cache.{marks_of}
+use Rattle.formail_cache.proofs.ReadLemmas.{read_cause}
 use Rattle.formail_cache.specs.Changing.{written_of, change_of, Adds, BeginsAnew, uncut, cut, Changes}
 use Rattle.formail_cache.specs.Stepping.{cache_rule, end_of, given_back, Remembers, Uses, came, absent, too_long, folder, unread, Steps, busy, unlocked, locked}
 use Rattle.formail_cache.specs.declared.changing.Change.{Change}
@@ -65,11 +64,9 @@ remembers_rose cache long old ids a b remembers =
 uses_rose : (cache : Cache) (ids : List (Option (List ℕ))) (a b : HostView) → Uses cache ids Failed a b → Rose a.faults b.faults
 uses_rose cache ids a b (came bytes middle reads remembers) = rose_behind a.faults middle.faults b.faults reads.reads.ran.later (remembers_rose cache false bytes ids middle b remembers)
 uses_rose cache ids a b (absent middle reads remembers) = rose_behind a.faults middle.faults b.faults reads.reads.ran.later (remembers_rose cache false [] ids middle b remembers)
-uses_rose cache ids a b (too_long count middle reads remembers) = rose_behind a.faults middle.faults b.faults reads.reads.ran.later (remembers_rose cache true [] ids middle b remembers)
+uses_rose cache ids a b (too_long bytes middle reads remembers) = rose_behind a.faults middle.faults b.faults reads.reads.ran.later (remembers_rose cache true bytes ids middle b remembers)
 uses_rose cache ids a b (folder is reads) = absurd (cc)
-uses_rose cache ids a b (unread is file) =
-    let reads = file.reads in
-    reads.ran.failed (read_cause cache.name Faulted reads.calls (record { at = file.at; prefix = reads.prefix; done = file.done }) tt)
+uses_rose cache ids a b (unread is file) = file.reads.ran.failed (read_cause cache.name a b file)
 
 -- what was used failed, or the removal of the lock file
 under_rose : (cache : Cache) (ids : List (Option (List ℕ))) (used : CacheEnd) (removed : Removed) (a m b : HostView) → Failed ≡ given_back removed used → Uses cache ids used a m
@@ -94,7 +91,7 @@ remembers_later cache long old ids end a b remembers =
 uses_later : (cache : Cache) (ids : List (Option (List ℕ))) (end : CacheEnd) (a b : HostView) → Uses cache ids end a b → a.faults ≤ b.faults
 uses_later cache ids end a b (came bytes middle reads remembers) = le_trans reads.reads.ran.later (remembers_later cache false bytes ids end middle b remembers)
 uses_later cache ids end a b (absent middle reads remembers) = le_trans reads.reads.ran.later (remembers_later cache false [] ids end middle b remembers)
-uses_later cache ids end a b (too_long count middle reads remembers) = le_trans reads.reads.ran.later (remembers_later cache true [] ids end middle b remembers)
+uses_later cache ids end a b (too_long bytes middle reads remembers) = le_trans reads.reads.ran.later (remembers_later cache true bytes ids end middle b remembers)
 uses_later cache ids end a b (folder is reads) = reads.reads.ran.later
 uses_later cache ids end a b (unread is reads) = reads.reads.ran.later
 

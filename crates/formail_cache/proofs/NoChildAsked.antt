@@ -9,7 +9,7 @@ use Rattle.pm_host.specs.declared.calls.Answer.{Answer}
 use Rattle.pm_host.specs.declared.calls.Logged.{Logged}
 use Rattle.pm_journal.specs.Appending.{Appends, taken_step, StepAsks, AppendAsks, append_heard}
 use Rattle.pm_journal.specs.Locking.{TakesLock, no_tally, LockAsks, lock_heard}
-use Rattle.pm_journal.specs.Reading.{ReadState, ReadLooking, ReadOn, ReadEnded, ReadAsks, read_heard, ReadsTo}
+use Rattle.formail_cache.specs.Reading.{CacheState, CacheLooking, CacheOn, CacheEnded, CacheAsks, cache_heard, ReadsTo}
 use Rattle.pm_journal.specs.declared.appending.AppendEnd.{AppendEnd}
 use Rattle.pm_journal.specs.declared.appending.AppendState.{AppendState}
 use Rattle.pm_journal.specs.declared.appending.AppendState.TheVariants.{Looking, Creating, Writing, Cutting, Removing, Ended}
@@ -50,10 +50,10 @@ lock_child name (LockRemoving t) call answer k asks = ap (λ c. after_child c an
 lock_child name (Pausing seconds t) call answer k asks = ap (λ c. after_child c answer k) asks
 lock_child name (LockEnded end) call answer k asks = absurd asks
 
-read_child : (name : List ℕ) (at : ReadState) (call : Call) (answer : Answer) (k : Child) → ReadAsks name at call → after_child call answer k ≡ k
-read_child name ReadLooking call answer k asks = ap (λ c. after_child c answer k) asks
-read_child name (ReadOn so_far) call answer k asks = ap (λ c. after_child c answer k) asks.is
-read_child name (ReadEnded reply) call answer k asks = absurd asks
+read_child : (name : List ℕ) (at : CacheState) (call : Call) (answer : Answer) (k : Child) → CacheAsks name at call → after_child call answer k ≡ k
+read_child name CacheLooking call answer k asks = ap (λ c. after_child c answer k) asks
+read_child name (CacheOn so_far) call answer k asks = ap (λ c. after_child c answer k) asks.is
+read_child name (CacheEnded end) call answer k asks = absurd asks
 
 -- behind a taking of a lock runs what ran before it
 pub takes_child : (rule : LockRule) (name : List ℕ) (end : LockEnd) (before after : HostView) → TakesLock rule name end before after → after.child ≡ before.child
@@ -66,6 +66,6 @@ appends_child name piece sync end before after a =
     a.ran.child ∙ machine_child (AppendAsks name piece sync) append_heard (append_child name piece sync) a.calls Looking a.group.last before.child a.group.walk
 
 -- and behind a reading
-pub reads_child : (name : List ℕ) (at : ReadState) (before after : HostView) → ReadsTo name at before after → after.child ≡ before.child
+pub reads_child : (name : List ℕ) (at : CacheState) (before after : HostView) → ReadsTo name at before after → after.child ≡ before.child
 reads_child name at before after r =
-    r.ran.child ∙ machine_child (ReadAsks name) read_heard (read_child name) r.calls ReadLooking at before.child r.prefix
+    r.ran.child ∙ machine_child (CacheAsks name) cache_heard (read_child name) r.calls CacheLooking at before.child r.walk

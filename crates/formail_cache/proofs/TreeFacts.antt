@@ -18,20 +18,18 @@ use Rattle.pm_host.specs.declared.calls.Call.TheVariants.{Look, Read, Create, Ap
 use Rattle.pm_host.specs.declared.calls.Answer.{Answer}
 use Rattle.pm_host.specs.declared.calls.Answer.TheVariants.{Look as AnswerLook, Read as AnswerRead, Create as AnswerCreate, Append as AnswerAppend, Cut as AnswerCut, Remove as AnswerRemove, Failed as AnswerFailed}
 use Rattle.pm_host.specs.declared.calls.Logged.{Logged}
-use Rattle.pm_journal.specs.Reading.{ReadState, ReadLooking, ReadOn, ReadEnded, ReadAsks, heard_first, heard_read, read_heard, ReadDone, ReadsTo}
 use Rattle.pm_journal.specs.Appending.{StepAsks, AppendAsks, taken_step, append_step, heard_look, heard_create, heard_append, heard_cut, heard_remove, to_undo, append_heard, AppendGroup, Appends}
 use Rattle.pm_journal.specs.Deliveries.{bytes_at}
-use Rattle.pm_journal.proofs.AccountsJoin.{reading_same}
 use Rattle.pm_journal.proofs.AppendEffect.{Stands, stands_step, append_effect}
-use Rattle.pm_journal.specs.declared.acts.Reply.TheVariants.{Content, Missing, NotPlain, Faulted}
 use Rattle.pm_journal.specs.declared.appending.AppendEnd.{AppendEnd}
 use Rattle.pm_journal.specs.declared.appending.AppendEnd.TheVariants.{Done as EndDone, Undone as EndUndone, Torn as EndTorn, IsFolder as EndFolder, Raced as EndRaced}
 use Rattle.pm_journal.specs.declared.appending.AppendState.{AppendState}
 use Rattle.pm_journal.specs.declared.appending.AppendState.TheVariants.{Looking, Creating, Writing, Cutting, Removing, Ended}
 use Rattle.pm_journal.specs.declared.appending.AppendStep.TheVariants.{Append as StepAppend, Finish}
-use Rattle.pm_append.specs.ReadsFile.{ReadsFile, read_reply}
-use Rattle.pm_append.specs.declared.read.ReadEnd.{ReadEnd}
-use Rattle.pm_append.specs.declared.read.ReadEnd.TheVariants.{Content as CameWhole, Missing as IsMissing, NotPlain as IsNotPlain, TooLong as IsTooLong, Faulted as HasFaulted}
+use Rattle.formail_cache.specs.Reading.{CacheState, CacheLooking, CacheOn, CacheEnded, CacheAsks, heard_first, heard_read, cache_heard, CacheDone, ReadsTo, ReadsCache}
+use Rattle.formail_cache.specs.declared.reading.CacheRead.{CacheRead}
+use Rattle.formail_cache.specs.declared.reading.CacheRead.TheVariants.{Whole, Front, Missing, Folder, Failed as ReadFailed}
+use Rattle.formail_cache.proofs.ReadLemmas.{reading_same}
 use Rattle.formail_cache.specs.Changing.{written_of, Adds, BeginsAnew, uncut, cut, Changes}
 use Rattle.formail_cache.specs.declared.changing.Change.{Change}
 use Rattle.formail_cache.specs.declared.changing.Change.TheVariants.{None as NoChange, Add, Anew}
@@ -58,15 +56,19 @@ nothing_there : (x : Option Node) → LooksRight x Nothing → x ≡ None
 nothing_there (Some n) right = absurd right
 nothing_there None right = refl
 
--- what a reading that stands so has found in this world
-abbrev Found : List ℕ → World → ReadState → Type 0
-Found name w ReadLooking = Unit {0}
-Found name w (ReadOn so_far) = (f : File) × (w.nodes name ≡ Some (AFile f)) × (so_far ≡ take (length so_far) f.bytes)
-Found name w (ReadEnded (Content bytes)) = (f : File) × (w.nodes name ≡ Some (AFile f)) × (bytes ≡ f.bytes) × (length bytes ≤ 1048576)
-Found name w (ReadEnded Missing) = w.nodes name ≡ None
-Found name w (ReadEnded NotPlain) = w.nodes name ≡ Some AFolder
-Found name w (ReadEnded Faulted) = Unit {0}
-Found name w (ReadEnded other) = ⊥
+-- what a whole reading has found in this world
+abbrev pub FoundWhole : List ℕ → World → CacheRead → Type 0
+FoundWhole name w (Whole bytes) = (f : File) × (w.nodes name ≡ Some (AFile f)) × (bytes ≡ f.bytes) × (length bytes ≤ 2097152)
+FoundWhole name w (Front bytes) = (f : File) × (w.nodes name ≡ Some (AFile f)) × (bytes ≡ take 2097152 f.bytes)
+FoundWhole name w Missing = w.nodes name ≡ None
+FoundWhole name w Folder = w.nodes name ≡ Some AFolder
+FoundWhole name w ReadFailed = Unit {0}
+
+-- what a reading that stands so has found
+abbrev Found : List ℕ → World → CacheState → Type 0
+Found name w CacheLooking = Unit {0}
+Found name w (CacheOn so_far) = (f : File) × (w.nodes name ≡ Some (AFile f)) × (so_far ≡ take (length so_far) f.bytes)
+Found name w (CacheEnded end) = FoundWhole name w end
 
 look_found : (name : List ℕ) (w : World) (answer : Answer) → IsAnswerTo (Look name) answer → IsRight (Look name) answer w → Found name w (heard_first answer)
 look_found name w (AnswerLook (LookedFile len)) fits right = let there = file_there (w.nodes name) len right in (there.0, there.1, refl)
@@ -84,8 +86,8 @@ longer_front so_far part whole front behind =
     ∙ sym (take-add (length so_far) (length part) whole)
     ∙ ap (λ n. take n whole) (sym (length-append so_far part))
 
-read_found : (name so_far : List ℕ) (room : ℕ) (w : World) (answer : Answer) → 1 ≤ room → length so_far + room ≤ 1048577 → IsAnswerTo (Read name (length so_far) room) answer
-    → IsRight (Read name (length so_far) room) answer w → Found name w (ReadOn so_far) → Found name w (heard_read so_far answer)
+read_found : (name so_far : List ℕ) (room : ℕ) (w : World) (answer : Answer) → 1 ≤ room → length so_far + room ≤ 2097152 → IsAnswerTo (Read name (length so_far) room) answer
+    → IsRight (Read name (length so_far) room) answer w → Found name w (CacheOn so_far) → Found name w (heard_read so_far answer)
 read_found name so_far room w (AnswerRead []) some bounded fits right found =
     let ended : length found.0.bytes ≤ length so_far = (subst (λ x. ReadsRight x (length so_far) []) found.1 right).1 refl in
     (found.0, found.1, found.2 ∙ take_all (length so_far) found.0.bytes ended, omega arith)
@@ -94,57 +96,39 @@ read_found name so_far room w (AnswerRead (b ∷ more)) some bounded fits right 
 read_found name so_far room w AnswerFailed some bounded fits right found = tt
 read_found name so_far room w other some bounded fits right found = absurd fits
 
-found_step : (name : List ℕ) (at : ReadState) (call : Call) (answer : Answer) (w : World) → ReadAsks name at call → IsAnswerTo call answer → IsRight call answer w → Found name w at
-    → Found name w (read_heard at answer)
-found_step name ReadLooking call answer w asks fits right found =
+found_step : (name : List ℕ) (at : CacheState) (call : Call) (answer : Answer) (w : World) → CacheAsks name at call → IsAnswerTo call answer → IsRight call answer w → Found name w at
+    → Found name w (cache_heard at answer)
+found_step name CacheLooking call answer w asks fits right found =
     look_found name w answer (subst (λ c. IsAnswerTo c answer) asks fits) (subst (λ c. IsRight c answer w) asks right)
-found_step name (ReadOn so_far) call answer w asks fits right found =
+found_step name (CacheOn so_far) call answer w asks fits right found =
     read_found name so_far asks.room w answer asks.some asks.bounded (subst (λ c. IsAnswerTo c answer) asks.is fits) (subst (λ c. IsRight c answer w) asks.is right) found
-found_step name (ReadEnded reply) call answer w asks fits right found = absurd asks
+found_step name (CacheEnded end) call answer w asks fits right found = absurd asks
 
-found_all : (name : List ℕ) (calls : List Logged) (at last : ReadState) (w : World) → Transitions (ReadAsks name) read_heard at calls last → AllRight calls w → Found name w at → Found name w last
+found_all : (name : List ℕ) (calls : List Logged) (at last : CacheState) (w : World) → Transitions (CacheAsks name) cache_heard at calls last → AllRight calls w → Found name w at → Found name w last
 found_all name [] at last w walk right found = subst (Found name w) (sym walk) found
 found_all name (c ∷ cs) at last w walk right found =
-    let same : after_call c.call c.answer w ≡ w = reading_same name (c ∷ []) at (read_heard at c.answer) w (walk.0, walk.1, refl) in
-    found_all name cs (read_heard at c.answer) last w walk.2 (subst (AllRight cs) same right.1) (found_step name at c.call c.answer w walk.0 walk.1 right.0 found)
+    let same : after_call c.call c.answer w ≡ w = reading_same name (c ∷ []) at (cache_heard at c.answer) w (walk.0, walk.1, refl) in
+    found_all name cs (cache_heard at c.answer) last w walk.2 (subst (AllRight cs) same right.1) (found_step name at c.call c.answer w walk.0 walk.1 right.0 found)
 
--- what a whole reading has found
-abbrev pub FoundWhole : List ℕ → World → ReadEnd → Type 0
-FoundWhole name w (CameWhole bytes) = (f : File) × (w.nodes name ≡ Some (AFile f)) × (bytes ≡ f.bytes) × (length bytes ≤ 1048576)
-FoundWhole name w IsMissing = w.nodes name ≡ None
-FoundWhole name w IsNotPlain = w.nodes name ≡ Some AFolder
-FoundWhole name w (IsTooLong count) = (f : File) × (w.nodes name ≡ Some (AFile f)) × (1048576 < length f.bytes)
-FoundWhole name w HasFaulted = Unit {0}
-
-long_front : (so_far whole : List ℕ) → so_far ≡ take (length so_far) whole → 1048576 < length so_far → 1048576 < length whole
-long_front so_far whole front long = let e = ap length front in omega (arith, length-take (length so_far) whole, e)
-
-read_whole : (name : List ℕ) (w : World) (at : ReadState) (end : ReadEnd) → ReadDone at (read_reply end) → Found name w at → FoundWhole name w end
-read_whole name w ReadLooking end done found = absurd done
-read_whole name w (ReadOn so_far) (IsTooLong count) done found = (found.0, found.1, long_front so_far found.0.bytes found.2 done.0)
-read_whole name w (ReadOn so_far) (CameWhole bytes) done found = let e = done.1 in absurd (cc)
-read_whole name w (ReadOn so_far) IsMissing done found = let e = done.1 in absurd (cc)
-read_whole name w (ReadOn so_far) IsNotPlain done found = let e = done.1 in absurd (cc)
-read_whole name w (ReadOn so_far) HasFaulted done found = tt
-read_whole name w (ReadEnded reply) (CameWhole bytes) done found = subst (λ r. Found name w (ReadEnded r)) (sym done) found
-read_whole name w (ReadEnded reply) IsMissing done found = subst (λ r. Found name w (ReadEnded r)) (sym done) found
-read_whole name w (ReadEnded reply) IsNotPlain done found = subst (λ r. Found name w (ReadEnded r)) (sym done) found
-read_whole name w (ReadEnded reply) (IsTooLong count) done found = absurd (subst (λ r. Found name w (ReadEnded r)) (sym done) found)
-read_whole name w (ReadEnded reply) HasFaulted done found = tt
+read_whole : (name : List ℕ) (w : World) (at : CacheState) (end : CacheRead) → CacheDone at end → Found name w at → FoundWhole name w end
+read_whole name w CacheLooking end done found = absurd done
+read_whole name w (CacheOn so_far) end done found =
+    subst (FoundWhole name w) (sym done.1) (found.0, found.1, found.2 ∙ ap (λ n. take n found.0.bytes) done.0)
+read_whole name w (CacheEnded e) end done found = subst (FoundWhole name w) (sym done) found
 
 -- a reading changes nothing
-pub reads_same : (name : List ℕ) (at : ReadState) (a b : HostView) → ReadsTo name at a b → Tells (λ w v. v ≡ w) a.world b.world
+pub reads_same : (name : List ℕ) (at : CacheState) (a b : HostView) → ReadsTo name at a b → Tells (λ w v. v ≡ w) a.world b.world
 reads_same name at a b reads =
-    tells_map (Steps reads.calls) (λ w v. v ≡ w) (λ w v s. s.made ∙ reading_same name reads.calls ReadLooking at w reads.prefix) a.world b.world reads.ran.world
+    tells_map (Steps reads.calls) (λ w v. v ≡ w) (λ w v s. s.made ∙ reading_same name reads.calls CacheLooking at w reads.walk) a.world b.world reads.ran.world
 
 -- a whole reading changes nothing, and its bytes are the file's
-pub reads_found : (name : List ℕ) (end : ReadEnd) (a b : HostView) → ReadsFile name end a b → Tells (λ w v. (v ≡ w) × FoundWhole name w end) a.world b.world
+pub reads_found : (name : List ℕ) (end : CacheRead) (a b : HostView) → ReadsCache name end a b → Tells (λ w v. (v ≡ w) × FoundWhole name w end) a.world b.world
 reads_found name end a b file =
     let reads = file.reads in
     tells_map (Steps reads.calls) (λ w v. (v ≡ w) × FoundWhole name w end)
     (λ w v s. (
-      s.made ∙ reading_same name reads.calls ReadLooking file.at w reads.prefix,
-      read_whole name w file.at end file.done (found_all name reads.calls ReadLooking file.at w reads.prefix s.right tt),
+      s.made ∙ reading_same name reads.calls CacheLooking file.at w reads.walk,
+      read_whole name w file.at end file.done (found_all name reads.calls CacheLooking file.at w reads.walk s.right tt),
     )) a.world b.world reads.ran.world
 
 -- an append that ended at a folder found one, and none ended where others made the file

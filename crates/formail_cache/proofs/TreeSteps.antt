@@ -1,5 +1,5 @@
 -- What a step with a cache makes of the tree.
-use Rattle.std.proofs.Common.{◌≡◌, ◌≤◌, ◌<◌, ℕ, Bool, true, false, not, ◌||◌, List, [], ◌++◌, length, drop, Option, Some, None, refl, sym, ap, ◌∙◌, subst, inl, inr, arith, nat_eq, nat_le, take_all, bytes_eq, if◌then◌else◌}
+use Rattle.std.proofs.Common.{◌≡◌, ◌≤◌, ℕ, Bool, true, false, not, ◌||◌, List, [], ◌++◌, length, drop, Option, Some, None, refl, sym, ap, ◌∙◌, subst, inl, inr, arith, nat_eq, take, take_all, bytes_eq, if◌then◌else◌}
 use Rattle.std.specs.List.{starts_with}
 use Rattle.std.proofs.lemmas.Bool.Decides.{Decides-eqb, nat_tests}
 use Rattle.std.proofs.lemmas.Slice.Eq.{bytes_eq-Decides, starts_is}
@@ -20,7 +20,7 @@ use Rattle.pm_journal.specs.Locking.{TakesLock, lock_reply}
 use Rattle.pm_journal.specs.declared.locking.LockEnd.{LockEnd}
 use Rattle.pm_journal.specs.declared.locking.LockEnd.TheVariants.{Held, Busy as LockBusy, Failed as LockFailed}
 use Rattle.pm_journal.proofs.LockLeaves.{lock_leaves}
-use Rattle.pm_append.specs.declared.read.ReadEnd.TheVariants.{Content as CameWhole, Missing as IsMissing, NotPlain as IsNotPlain, TooLong as IsTooLong, Faulted as HasFaulted}
+use Rattle.formail_cache.specs.declared.reading.CacheRead.TheVariants.{Whole, Front, Missing, Folder, Failed as ReadFailed}
 use Rattle.formail_extra.specs.Cache.{marks_of}
 use Rattle.formail_cache.proofs.TreeFacts.{IsNoFolder, FoundWhole, reads_same, reads_found, ChangedAt, ChangedBy, changes_made}
 use Rattle.formail_cache.specs.Changing.{change_of}
@@ -106,34 +106,18 @@ remembered cache long old ids end how w v fits is changed =
           (ends cache ids old how there changed.0 fits.read (said long old new (change_of long old new) how there changed.0 fits (chosen long old new) changed.2)),
     )
 
-le_true : (a b : ℕ) → a ≤ b → nat_le a b ≡ true
-le_true a b h = grind (arith, nat_tests)
-
-le_false : (a b : ℕ) → b < a → nat_le a b ≡ false
-le_false a b h = grind (arith, nat_tests)
-
-short_read : (l : List ℕ) → length l ≤ 1048576 → (if nat_le (length l) 1048576 then l else []) ≡ l
-short_read l short = ap (λ b. if b then l else []) (le_true (length l) 1048576 short)
-
-long_read : (l : List ℕ) → 1048576 < length l → (if nat_le (length l) 1048576 then l else []) ≡ []
-long_read l long = ap (λ b. if b then l else []) (le_false (length l) 1048576 long)
-
-came_fits : (bytes : List ℕ) (there : Option Node) (f : File) → there ≡ Some (AFile f) → bytes ≡ f.bytes → length bytes ≤ 1048576 → Fits false bytes there
+came_fits : (bytes : List ℕ) (there : Option Node) (f : File) → there ≡ Some (AFile f) → bytes ≡ f.bytes → length bytes ≤ 2097152 → Fits false bytes there
 came_fits bytes there f is all short = subst (Fits false bytes) (sym is) (record {
-  read = all ∙ sym (short_read f.bytes (subst (λ l. length l ≤ 1048576) all short));
+  read = all ∙ sym (take_all 2097152 f.bytes (subst (λ l. length l ≤ 2097152) all short));
   whole = λ _. all;
   plain = tt;
 })
 
+long_fits : (bytes : List ℕ) (there : Option Node) (f : File) → there ≡ Some (AFile f) → bytes ≡ take 2097152 f.bytes → Fits true bytes there
+long_fits bytes there f is front = subst (Fits true bytes) (sym is) (record { read = front; whole = λ t. absurd (cc); plain = tt })
+
 absent_fits : (there : Option Node) → there ≡ None → Fits false [] there
 absent_fits there is = subst (Fits false []) (sym is) (record { read = refl; whole = λ _. refl; plain = tt })
-
-long_fits : (there : Option Node) (f : File) → there ≡ Some (AFile f) → 1048576 < length f.bytes → Fits true [] there
-long_fits there f is long = subst (Fits true []) (sym is) (record {
-  read = sym (long_read f.bytes long);
-  whole = λ t. absurd (cc);
-  plain = tt;
-})
 
 -- a reading, and then what was made of its bytes
 joined : (cache : Cache) (ids : List (Option (List ℕ))) (end : CacheEnd) (long : Bool) (old : List ℕ) (F : World → Type 0) → ((w : World) → F w → Fits long old (w.nodes cache.name))
@@ -151,22 +135,22 @@ stays cache ids end w v e says = (w.nodes cache.name, e ∙ sym (put_same w cach
 
 uses_right : (cache : Cache) (ids : List (Option (List ℕ))) (end : CacheEnd) (a b : HostView) → Uses cache ids end a b → Tells (UsedRight cache ids end) a.world b.world
 uses_right cache ids end a b (came bytes middle reads remembers) =
-    joined cache ids end false bytes (λ w. FoundWhole cache.name w (CameWhole bytes)) (λ w found. came_fits bytes (w.nodes cache.name) found.0 found.1 found.2 found.3)
-    a middle b (reads_found cache.name (CameWhole bytes) a middle reads) remembers
+    joined cache ids end false bytes (λ w. FoundWhole cache.name w (Whole bytes)) (λ w found. came_fits bytes (w.nodes cache.name) found.0 found.1 found.2 found.3)
+    a middle b (reads_found cache.name (Whole bytes) a middle reads) remembers
 uses_right cache ids end a b (absent middle reads remembers) =
-    joined cache ids end false [] (λ w. FoundWhole cache.name w IsMissing) (λ w found. absent_fits (w.nodes cache.name) found)
-    a middle b (reads_found cache.name IsMissing a middle reads) remembers
-uses_right cache ids end a b (too_long count middle reads remembers) =
-    joined cache ids end true [] (λ w. FoundWhole cache.name w (IsTooLong count)) (λ w found. long_fits (w.nodes cache.name) found.0 found.1 found.2)
-    a middle b (reads_found cache.name (IsTooLong count) a middle reads) remembers
+    joined cache ids end false [] (λ w. FoundWhole cache.name w Missing) (λ w found. absent_fits (w.nodes cache.name) found)
+    a middle b (reads_found cache.name Missing a middle reads) remembers
+uses_right cache ids end a b (too_long bytes middle reads remembers) =
+    joined cache ids end true bytes (λ w. FoundWhole cache.name w (Front bytes)) (λ w found. long_fits bytes (w.nodes cache.name) found.0 found.1 found.2)
+    a middle b (reads_found cache.name (Front bytes) a middle reads) remembers
 uses_right cache ids end a b (folder is reads) =
-    tells_map (λ w v. (v ≡ w) × FoundWhole cache.name w IsNotPlain) (UsedRight cache ids end)
+    tells_map (λ w v. (v ≡ w) × FoundWhole cache.name w Folder) (UsedRight cache ids end)
     (λ w v r. stays cache ids end w v r.0 (subst (λ e. EndsRight cache ids e (w.nodes cache.name) (w.nodes cache.name)) (sym is) (r.1, refl)))
-    a.world b.world (reads_found cache.name IsNotPlain a b reads)
+    a.world b.world (reads_found cache.name Folder a b reads)
 uses_right cache ids end a b (unread is reads) =
-    tells_map (λ w v. (v ≡ w) × FoundWhole cache.name w HasFaulted) (UsedRight cache ids end)
+    tells_map (λ w v. (v ≡ w) × FoundWhole cache.name w ReadFailed) (UsedRight cache ids end)
     (λ w v r. stays cache ids end w v r.0 (subst (λ e. EndsRight cache ids e (w.nodes cache.name) (w.nodes cache.name)) (sym is) (nothing refl)))
-    a.world b.world (reads_found cache.name HasFaulted a b reads)
+    a.world b.world (reads_found cache.name ReadFailed a b reads)
 
 -- whatever became of the cache, what stands there was brought there in part
 in_part : (cache : Cache) (ids : List (Option (List ℕ))) (end : CacheEnd) (there here : Option Node) → EndsRight cache ids end there here → BroughtInPart (marks_at cache ids there).cache there here

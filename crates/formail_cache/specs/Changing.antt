@@ -14,7 +14,7 @@ use Rattle.formail_cache.specs.declared.changing.Written.{Written}
 use Rattle.formail_cache.specs.declared.changing.Written.TheVariants.{Done, Unusable, Failed}
 
 -- what makes the old bytes the new ones: nothing where they are the same, an addition where the new ones begin with the
--- old ones, and else (or where the file was too long to be read) a cache that begins anew
+-- old ones, and else (or where the file was too long to be read whole) a cache that begins anew
 abbrev pub change_of : Bool → List ℕ → List ℕ → Change
 change_of too_long old new =
     if bytes_eq new old then None

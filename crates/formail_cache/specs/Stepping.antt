@@ -8,10 +8,10 @@ use Rattle.pm_host.specs.declared.calls.Answer.TheVariants.{Remove as AnswerRemo
 use Rattle.pm_journal.specs.Locking.{TakesLock}
 use Rattle.pm_journal.specs.declared.locking.LockRule.{LockRule}
 use Rattle.pm_journal.specs.declared.locking.LockEnd.TheVariants.{Held, Busy as LockBusy, Failed as LockFailed}
-use Rattle.pm_append.specs.ReadsFile.{ReadsFile, LeavesReading}
-use Rattle.pm_append.specs.declared.read.ReadEnd.TheVariants.{Content, Missing, NotPlain, TooLong, Faulted}
 use Rattle.formail_extra.specs.Cache.{marks_of}
 use Rattle.formail_cache.specs.Changing.{change_of, Changes}
+use Rattle.formail_cache.specs.Reading.{ReadsCache, LeavesReading}
+use Rattle.formail_cache.specs.declared.reading.CacheRead.TheVariants.{Whole, Front, Missing, Folder, Failed as ReadFailed}
 use Rattle.formail_cache.specs.declared.changing.Written.{Written}
 use Rattle.formail_cache.specs.declared.changing.Written.TheVariants.{Done, Unusable, Failed}
 use Rattle.formail_cache.specs.declared.stepping.Cache.{Cache}
@@ -34,16 +34,17 @@ pub record Remembers (cache : Cache) (too_long : Bool) (old : List ℕ) (ids : L
   pub changes : Changes cache.name (change_of too_long old (marks_of cache.most old ids).cache) old (marks_of cache.most old ids).cache written before after
   pub is : end ≡ end_of written (marks_of cache.most old ids).kept
 
--- the cache was read, and what is new was added to it; one that is absent or too long to be read has no identifiers
+-- the first bytes of the cache were read, and what is new was added to it, or it began anew where others may stand behind
+-- these bytes; a cache that is absent has no identifiers
 pub data Uses (cache : Cache) (ids : List (Option (List ℕ))) (end : CacheEnd) (before after : HostView) : Type 0 where
-  came : (bytes : List ℕ) (middle : HostView) → ReadsFile cache.name (Content bytes) before middle
+  came : (bytes : List ℕ) (middle : HostView) → ReadsCache cache.name (Whole bytes) before middle
       → Remembers cache false bytes ids end middle after → Uses cache ids end before after
-  absent : (middle : HostView) → ReadsFile cache.name Missing before middle
+  too_long : (bytes : List ℕ) (middle : HostView) → ReadsCache cache.name (Front bytes) before middle
+      → Remembers cache true bytes ids end middle after → Uses cache ids end before after
+  absent : (middle : HostView) → ReadsCache cache.name Missing before middle
       → Remembers cache false [] ids end middle after → Uses cache ids end before after
-  too_long : (count : ℕ) (middle : HostView) → ReadsFile cache.name (TooLong count) before middle
-      → Remembers cache true [] ids end middle after → Uses cache ids end before after
-  folder : end ≡ EndUnusable → ReadsFile cache.name NotPlain before after → Uses cache ids end before after
-  unread : end ≡ EndFailed → ReadsFile cache.name Faulted before after → Uses cache ids end before after
+  folder : end ≡ EndUnusable → ReadsCache cache.name Folder before after → Uses cache ids end before after
+  unread : end ≡ EndFailed → ReadsCache cache.name ReadFailed before after → Uses cache ids end before after
 
 -- the end, once the lock file was removed
 abbrev pub given_back : Removed → CacheEnd → CacheEnd

@@ -1,5 +1,5 @@
 -- What a step with a cache makes of the tree of files.
-use Rattle.std.specs.Prelude.{◌≡◌, ℕ, nat_le, Option, Some, None, List, [], ◌++◌, length, take, if◌then◌else◌}
+use Rattle.std.specs.Prelude.{◌≡◌, ℕ, Option, Some, None, List, ◌++◌, take}
 use Rattle.pm_host.specs.World.{World, world_with}
 use Rattle.pm_host.specs.declared.nodes.Node.{Node}
 use Rattle.pm_host.specs.declared.nodes.Node.TheVariants.{Folder as AFolder}
@@ -11,9 +11,9 @@ use Rattle.formail_cache.specs.declared.stepping.Cache.{Cache}
 use Rattle.formail_cache.specs.declared.stepping.CacheEnd.{CacheEnd}
 use Rattle.formail_cache.specs.declared.stepping.CacheEnd.TheVariants.{Kept, Busy, Unusable, Failed}
 
--- the bytes of a cache that are read; one of more than 1,048,576 bytes counts as full, and isn't read
+-- the bytes of a cache that are looked through
 abbrev pub read_of : Option Node → List ℕ
-read_of there = if nat_le (length (bytes_at there)) 1_048_576 then bytes_at there else []
+read_of there = take 2_097_152 (bytes_at there)
 
 -- the marks of some mails by what stands at the cache's name, and the cache behind them
 abbrev pub marks_at : Cache → List (Option (List ℕ)) → Option Node → Marks

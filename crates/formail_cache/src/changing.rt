@@ -27,7 +27,7 @@ pub enum Written {
     Failed,
 }
 
-/// What makes these old bytes the new ones; a cache that is too long to be read was given no old ones.
+/// What makes these old bytes the new ones; of a cache that is too long to be read whole they are its front.
 pub fn choose(too_long: bool, old: &[u8], new: &[u8]) -> Change
     ensures { result ≡ change_of too_long old.now new.now }
 {

@@ -2,7 +2,11 @@
 #![tactic(auto)]
 
 mod changing;
+mod laws;
+mod reading;
 mod stepping;
 
 pub use changing::{Change, Written};
+pub use laws::marks_by_front;
+pub use reading::CacheRead;
 pub use stepping::{Cache, CacheEnd, cache_step};

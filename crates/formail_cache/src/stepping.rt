@@ -1,15 +1,15 @@
 //! A cache is used under its lock.
 ghost use Rattle.std.specs.Prelude.{◌≡◌, IfOk, OnErr};
-ghost use Rattle.pm_append.specs.ReadsFile.{ReadsFile, LeavesReading};
 ghost use Rattle.pm_journal.specs.Locking.{TakesLock};
 ghost use Rattle.pm_host.specs.Told.{Tells, Rose};
+ghost use Rattle.formail_cache.specs.Reading.{ReadsCache, LeavesReading};
 ghost use Rattle.formail_cache.specs.Tree.{StepsRight, GivesUpRight};
 ghost use Rattle.formail_cache.specs.Stepping.{cache_rule, end_of, given_back, Remembers, Uses, UnderLock, LetGo, Steps, GivesUp};
 
 use crate::changing::{Change, Written, choose, make};
+use crate::reading::{CacheRead, read_front};
 use formail_edit::Listed;
 use formail_extra::{Marks, mark};
-use pm_append::{ReadEnd, read_file};
 use pm_bytes::{Blob, Memory, Name};
 use pm_host::{Host, Removed};
 use pm_journal::{LockEnd, LockRule};
@@ -80,12 +80,12 @@ fn remember<H: Host>(
     Ok(ended(written, marks.kept))
 }
 
-fn read_cache<H: Host>(alloc: Global, host: &mut H, name: &Name) -> Result<ReadEnd, Memory>
-    ensures ok { IfOk result (λ end. ReadsFile name.now end (H.told host.old) (H.told host.new)) }
+fn read_cache<H: Host>(alloc: Global, host: &mut H, name: &Name) -> Result<CacheRead, Memory>
+    ensures ok { IfOk result (λ end. ReadsCache name.now end (H.told host.old) (H.told host.new)) }
     ensures err { OnErr result (LeavesReading name.now (H.told host.old) (H.told host.new)) }
     ensures child { (H.told host.new).child ≡ (H.told host.old).child }
 {
-    let end = read_file(alloc, host, name)?;
+    let end = read_front(alloc, host, name)?;
     Ok(end)
 }
 
@@ -101,20 +101,20 @@ fn use_cache<H: Host>(
     ensures child { (H.told host.new).child ≡ (H.told host.old).child }
 {
     match read_cache(alloc, host, &cache.name)? {
-        ReadEnd::Content(bytes) => {
+        CacheRead::Whole(bytes) => {
             let end = remember(alloc, host, cache, false, bytes.as_slice(), ids)?;
             Ok(end)
         }
-        ReadEnd::Missing => {
+        CacheRead::Front(bytes) => {
+            let end = remember(alloc, host, cache, true, bytes.as_slice(), ids)?;
+            Ok(end)
+        }
+        CacheRead::Missing => {
             let end = remember(alloc, host, cache, false, b"", ids)?;
             Ok(end)
         }
-        ReadEnd::TooLong(_) => {
-            let end = remember(alloc, host, cache, true, b"", ids)?;
-            Ok(end)
-        }
-        ReadEnd::NotPlain => Ok(CacheEnd::Unusable),
-        ReadEnd::Faulted => Ok(CacheEnd::Failed),
+        CacheRead::Folder => Ok(CacheEnd::Unusable),
+        CacheRead::Failed => Ok(CacheEnd::Failed),
     }
 }
 
