@@ -30,7 +30,7 @@ for number in $(seq 10000); do
     echo "$(< text)"
     echo
 done > mailbox
-{ head_of 1; body 53; } | head -c 4096 > mail
+{ head_of 1; body 54; } | head -c 4096 > mail
 
 # The least of five runs: the processor's milliseconds, for the user and for the system.
 milliseconds() {

@@ -260,9 +260,9 @@ fn run<S: Source, H: Host, O: Sink>(
 /// Reads the source to its end, does what the words ask for, and gives the status that the program ends with
 /// (formail(1)). Without a program: 0 where all was written, 74 where a read or a write failed. With one: 0 where each
 /// child took its mail whole and ended with code 0, 1 where one didn't, 74 where a read failed, a child wasn't started,
-/// or a call failed while it ran. With `-D` and without `-s`: 0 where the mail was seen before, 1 where it wasn't; and with
-/// `-D` 73 where the cache's lock stays taken or the cache can't be used, 74 where a call failed. 64 says that the words aren't read, 65 that the input has more than 67,108,864 bytes,
-/// 71 that memory is wanting.
+/// or a call failed while it ran. With `-D` and without `-s`: 0 where the mail was seen before, 1 where it wasn't; and
+/// with `-D` 73 where the cache's lock stays taken or the cache can't be used, 74 where a call failed. 64 says that the
+/// words aren't read, 65 that the input has more than 67,108,864 bytes, 71 that memory is wanting.
 pub fn formail<S: Source, H: Host, O: Sink, E: Sink>(
     alloc: Global,
     words: &[String],

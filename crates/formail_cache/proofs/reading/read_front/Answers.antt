@@ -1,5 +1,5 @@
 use Rattle.std.proofs.Common.{rules, ◌≤◌, ◌+◌, arith, length, take, drop, length-take, length-drop, length-append, refl}
-use Rattle.formail_cache.specs.Reading.{LeavesReading}
+use Rattle.formail_cache.specs.Reading.{CacheOn, LeavesReading}
 use Rattle.formail_cache.proofs.ReadLemmas.{looked_at, read_at, goes_on, still_bounded, comes_to_end, comes_to_fault}
 use Rattle.formail_cache.proofs.reading.read_front.Goals as goal
 
@@ -41,3 +41,10 @@ returns-in-Failed-2-clause-ok g c =
     let fits : length c.loop-room.bytes + length (take c.min-most.result c.loop-room.room) ≤ 2097152 = omega (arith, c.min-most.ensures, c.len-in-loop-room.ensures, c.len.ensures, length-take c.min-most.result c.loop-room.room) in
     let r = read_at _ _ _ _ _ _ _ _ _ c.as_str-in-loop-room.ensures.same c.loop-room.invariant.reads c.in_ok-read_more.ensures some fits in
     comes_to_fault _ _ _ _ _ _ r (rw c.in-Failed-2.is at c.in_ok-read_more.ensures.brings)
+
+pub returns-clause-ok : goal.returns-clause-ok
+returns-clause-ok g c = record {
+  at = CacheOn c.loop-room.bytes;
+  reads = c.loop-room.invariant.reads;
+  done = (omega (arith, c.loop-room-test.false, c.len.ensures, c.loop-room.invariant.bounded), refl);
+}
