@@ -1,5 +1,5 @@
 //! The whole message from a source.
-ghost use Rattle.std.specs.Prelude.{◌<◌, ◌≤◌, ◌+◌, length, IfOk};
+ghost use Rattle.std.specs.Prelude.{◌<◌, ◌≤◌, length, IfOk, OnOk};
 ghost use Rattle.pm_streams.specs.Reading.{PartCame, Drains};
 
 use pm_bytes::{Blob, Memory};
@@ -31,9 +31,11 @@ pub fn read_mail<S: Source>(alloc: Global, source: &mut S) -> Result<Mail, Memor
     ensures { IfOk result (λ mail. Drains mail (S.told source.old) (S.told source.new)) }
 {
     let mut bytes = Blob::empty(alloc);
+    let mut room = Vec::new(alloc);
     while bytes.len() <= LIMIT {
-        let most = room_behind(bytes.len());
-        match read_part(source, &mut bytes, most)? {
+        widen(&mut room, bytes.len())?;
+        let most = (LIMIT + 1 - bytes.len()).min(room.len());
+        match read_part(source, &mut bytes, &mut room[..most])? {
             Part::More => {}
             Part::End => return Ok(Mail::Bytes(bytes)),
             Part::Failed => return Ok(Mail::Failed),
@@ -42,50 +44,19 @@ pub fn read_mail<S: Source>(alloc: Global, source: &mut S) -> Result<Mail, Memor
     Ok(Mail::TooMany)
 }
 
-// The room for the next read behind so many bytes. To clear a large one costs more than a short mail does else.
-fn room_behind(len: usize) -> usize
-    requires { len ≤ 67108864 }
-    ensures some { 1 ≤ result }
-    ensures small { result ≤ 65536 }
-    ensures within { len + result ≤ 67108865 }
+// Makes the room that the next read wants behind so many bytes. To clear a large one costs more than a short mail does
+// else, and it is cleared once.
+fn widen(room: &mut Vec<u8>, len: usize) -> Result<(), Memory>
+    ensures { OnOk result (1 ≤ length room.new.items) }
 {
-    if len < 16_384 {
-        return 1_024;
+    let wanted = if len < 16_384 { 1_024 } else { 65_536 };
+    if room.len() < wanted {
+        room.resize(wanted, 0)?;
     }
-    (LIMIT + 1 - len).min(65_536)
+    Ok(())
 }
 
-fn read_part<S: Source>(source: &mut S, bytes: &mut Blob, most: usize) -> Result<Part, Memory>
-    requires some { 1 ≤ most }
-    requires small { most ≤ 65536 }
-    ensures { IfOk result (λ part. PartCame part most bytes.old bytes.new (S.told source.old) (S.told source.new)) }
-{
-    if most <= 1_024 {
-        read_little(source, bytes, most)
-    } else {
-        read_much(source, bytes, most)
-    }
-}
-
-fn read_little<S: Source>(source: &mut S, bytes: &mut Blob, most: usize) -> Result<Part, Memory>
-    requires some { 1 ≤ most }
-    requires small { most ≤ 1024 }
-    ensures { IfOk result (λ part. PartCame part most bytes.old bytes.new (S.told source.old) (S.told source.new)) }
-{
-    let mut room = [0u8; 1_024];
-    read_into(source, bytes, &mut room[..most])
-}
-
-fn read_much<S: Source>(source: &mut S, bytes: &mut Blob, most: usize) -> Result<Part, Memory>
-    requires some { 1 ≤ most }
-    requires small { most ≤ 65536 }
-    ensures { IfOk result (λ part. PartCame part most bytes.old bytes.new (S.told source.old) (S.told source.new)) }
-{
-    let mut room = [0u8; 65_536];
-    read_into(source, bytes, &mut room[..most])
-}
-
-fn read_into<S: Source>(source: &mut S, bytes: &mut Blob, room: &mut [u8]) -> Result<Part, Memory>
+fn read_part<S: Source>(source: &mut S, bytes: &mut Blob, room: &mut [u8]) -> Result<Part, Memory>
     requires { 0 < length room.old }
     ensures { IfOk result (λ part. PartCame part (length room.old) bytes.old bytes.new
         (S.told source.old) (S.told source.new)) }
