@@ -1,5 +1,5 @@
 -- Mails are marked by the front of a cache as by the whole.
-use Rattle.std.proofs.Common.{◌≡◌, ◌≤◌, ◌<◌, ◌⊎◌, ℕ, Bool, true, false, not, nat_le, Option, Some, None, List, [], ◌∷◌, ◌++◌, take, length, codes, refl, sym, ap, ◌∙◌, subst, inl, inr, arith, le_refl, take_all, take-take, length-take, if◌then◌else◌}
+use Rattle.std.proofs.Common.{◌≡◌, ◌≤◌, ◌<◌, ℕ, Bool, true, false, not, nat_le, Option, Some, None, List, [], ◌∷◌, ◌++◌, take, length, codes, refl, sym, ap, ◌∙◌, subst, inl, inr, arith, le_refl, take_all, take-take, length-take, if◌then◌else◌}
 use Rattle.std.proofs.lemmas.Bool.Decides.{nat_tests}
 use Rattle.formail_extra.specs.Cache.{is_seen, with_line_ended, stays_of, next_of, mark_before, marks_of}
 use Rattle.formail_extra.specs.declared.cache.Marks.{Marks}

@@ -1,5 +1,5 @@
 -- The reading of a cache, call by call.
-use Rattle.std.proofs.Common.{◌≡◌, ◌≤◌, ◌⊎◌, ℕ, ◌+◌, List, [], ◌∷◌, ◌++◌, length, Result, Ok, refl, sym, ap, ◌∙◌, subst, inl, inr, arith, length-append}
+use Rattle.std.proofs.Common.{◌≡◌, ◌≤◌, ◌⊎◌, ℕ, ◌+◌, List, [], ◌∷◌, ◌++◌, length, refl, sym, ap, ◌∙◌, subst, inl, inr, arith, length-append}
 use Rattle.pm_host.specs.Told.{HostView, Makes}
 use Rattle.pm_host.specs.World.{World, IsAnswerTo, IsFailed, after_call}
 use Rattle.pm_host.specs.Runs.{logged, after_calls, Transitions, SomeFailed}
@@ -11,7 +11,6 @@ use Rattle.pm_host.specs.declared.calls.Call.TheVariants.{Look, Read}
 use Rattle.pm_host.specs.declared.calls.Answer.{Answer}
 use Rattle.pm_host.specs.declared.calls.Answer.TheVariants.{Look as AnswerLook, Read as AnswerRead, Failed as AnswerFailed}
 use Rattle.pm_host.specs.declared.calls.Logged.{Logged}
-use Rattle.pm_bytes.specs.declared.error.Memory.{Memory}
 use Rattle.formail_cache.specs.Reading.{CacheState, CacheLooking, CacheOn, CacheEnded, CacheAsks, more_came, heard_first, heard_read, cache_heard, CacheDone, ReadsTo, ReadsCache, MakesRead, Brings}
 use Rattle.formail_cache.specs.declared.reading.CacheRead.TheVariants.{Whole, Failed as ReadFailed}
 use Rattle.formail_cache.specs.declared.reading.Came.{Came}
@@ -34,7 +33,7 @@ looked_at name text looked a b e makes =
     reads_then name CacheLooking (Look name) (AnswerLook looked) a a b (reads_none name a) refl (subst (λ t. Makes (Look t) (AnswerLook looked) a b) e makes)
 
 -- a call more
-pub read_at : (name text bytes : List ℕ) (room : ℕ) (came : Result Came Memory) (new : List ℕ) (s a b : HostView) → text ≡ name
+pub read_at : (name text bytes : List ℕ) (room : ℕ) (came : Came) (new : List ℕ) (s a b : HostView) → text ≡ name
     → ReadsTo name (CacheOn bytes) s a → (m : MakesRead text room bytes came new a b) → 1 ≤ room → length bytes + room ≤ 2097152 → ReadsTo name (heard_read bytes m.answer) s b
 read_at name text bytes room came new s a b e r m some fits =
     reads_then name (CacheOn bytes) (Read name (length bytes) room) m.answer s a b r (record { room = room; is = refl; some = some; bounded = fits })
@@ -44,12 +43,12 @@ more_read : (so_far part : List ℕ) → 1 ≤ length part → more_came so_far 
 more_read so_far [] h = absurd (omega arith)
 more_read so_far (b ∷ part) h = refl
 
-pub goes_on : (name bytes : List ℕ) (new : List ℕ) (answer : Answer) (s b : HostView) → ReadsTo name (heard_read bytes answer) s b → Brings (Ok More) answer bytes new → ReadsTo name (CacheOn new) s b
+pub goes_on : (name bytes : List ℕ) (new : List ℕ) (answer : Answer) (s b : HostView) → ReadsTo name (heard_read bytes answer) s b → Brings More answer bytes new → ReadsTo name (CacheOn new) s b
 goes_on name bytes new answer s b r m =
     let at : heard_read bytes answer ≡ CacheOn new = ap (heard_read bytes) m.1 ∙ more_read bytes m.0 m.2 ∙ ap CacheOn (sym m.3) in
     subst (λ x. ReadsTo name x s b) at r
 
-pub comes_to_end : (name bytes : List ℕ) (new : List ℕ) (answer : Answer) (s b : HostView) → ReadsTo name (heard_read bytes answer) s b → Brings (Ok End) answer bytes new
+pub comes_to_end : (name bytes : List ℕ) (new : List ℕ) (answer : Answer) (s b : HostView) → ReadsTo name (heard_read bytes answer) s b → Brings End answer bytes new
     → ReadsCache name (Whole new) s b
 comes_to_end name bytes new answer s b r m = record {
   at = CacheEnded (Whole bytes);
@@ -57,7 +56,7 @@ comes_to_end name bytes new answer s b r m = record {
   done = ap Whole m.1;
 }
 
-pub comes_to_fault : (name bytes : List ℕ) (new : List ℕ) (answer : Answer) (s b : HostView) → ReadsTo name (heard_read bytes answer) s b → Brings (Ok Failed) answer bytes new
+pub comes_to_fault : (name bytes : List ℕ) (new : List ℕ) (answer : Answer) (s b : HostView) → ReadsTo name (heard_read bytes answer) s b → Brings Failed answer bytes new
     → ReadsCache name ReadFailed s b
 comes_to_fault name bytes new answer s b r m = record {
   at = heard_read bytes AnswerFailed;
@@ -66,7 +65,7 @@ comes_to_fault name bytes new answer s b r m = record {
 }
 
 -- no more came than there was room for
-pub still_bounded : (text bytes : List ℕ) (room : ℕ) (new : List ℕ) (answer : Answer) (a b : HostView) → Makes (Read text (length bytes) room) answer a b → Brings (Ok More) answer bytes new
+pub still_bounded : (text bytes : List ℕ) (room : ℕ) (new : List ℕ) (answer : Answer) (a b : HostView) → Makes (Read text (length bytes) room) answer a b → Brings More answer bytes new
     → length bytes + room ≤ 2097152 → length new ≤ 2097152
 still_bounded text bytes room new answer a b makes m fits =
     let part : length m.0 ≤ room = subst (IsAnswerTo (Read text (length bytes) room)) m.1 makes.fits in

@@ -1,5 +1,5 @@
 -- What the calls on a cache make of the tree: the bytes that are read are the file's, and the file then has the new ones.
-use Rattle.std.proofs.Common.{◌≡◌, ◌≤◌, ◌<◌, ◌⊎◌, ℕ, ◌+◌, Bool, true, false, cond, ℤ, List, [], ◌∷◌, ◌++◌, length, take, drop, Option, Some, None, refl, sym, ap, ◌∙◌, subst, inl, inr, arith, nat_eq, take-add, take_all, length-take, length-append}
+use Rattle.std.proofs.Common.{◌≡◌, ◌≤◌, ◌⊎◌, ℕ, ◌+◌, Bool, true, false, cond, ℤ, List, [], ◌∷◌, ◌++◌, length, take, drop, Option, Some, None, refl, sym, ap, ◌∙◌, subst, inl, inr, arith, nat_eq, take-add, take_all, length-append}
 use Rattle.pm_host.specs.World.{World, LooksRight, MakesRight, ReadsRight, IsFile, IsRight, after_call, IsAnswerTo, Step, world_with, kept, longer}
 use Rattle.pm_host.specs.Told.{HostView, Tells}
 use Rattle.pm_host.specs.Runs.{AllRight, Steps, Transitions}

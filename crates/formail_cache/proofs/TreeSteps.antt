@@ -1,7 +1,7 @@
 -- What a step with a cache makes of the tree.
 use Rattle.std.proofs.Common.{◌≡◌, ◌≤◌, ℕ, Bool, true, false, not, ◌||◌, List, [], ◌++◌, length, drop, Option, Some, None, refl, sym, ap, ◌∙◌, subst, inl, inr, arith, nat_eq, take, take_all, bytes_eq, if◌then◌else◌}
 use Rattle.std.specs.List.{starts_with}
-use Rattle.std.proofs.lemmas.Bool.Decides.{Decides-eqb, nat_tests}
+use Rattle.std.proofs.lemmas.Bool.Decides.{Decides-eqb}
 use Rattle.std.proofs.lemmas.Slice.Eq.{bytes_eq-Decides, starts_is}
 use Rattle.pm_host.specs.World.{World, RemovesRight, Step, world_with}
 use Rattle.pm_host.specs.Told.{HostView, Tells}
@@ -22,10 +22,10 @@ use Rattle.pm_journal.specs.declared.locking.LockEnd.TheVariants.{Held, Busy as 
 use Rattle.pm_journal.proofs.LockLeaves.{lock_leaves}
 use Rattle.formail_cache.specs.declared.reading.CacheRead.TheVariants.{Whole, Front, Missing, Folder, Failed as ReadFailed}
 use Rattle.formail_extra.specs.Cache.{marks_of}
-use Rattle.formail_cache.proofs.TreeFacts.{IsNoFolder, FoundWhole, reads_same, reads_found, ChangedAt, ChangedBy, changes_made}
+use Rattle.formail_cache.proofs.TreeFacts.{IsNoFolder, FoundWhole, reads_found, ChangedAt, ChangedBy, changes_made}
 use Rattle.formail_cache.specs.Changing.{change_of}
-use Rattle.formail_cache.specs.Stepping.{cache_rule, end_of, given_back, Remembers, Uses, came, absent, too_long, folder, unread, UnderLock, Steps, busy, unlocked, locked, GivesUp}
-use Rattle.formail_cache.specs.Tree.{read_of, marks_at, Brought, same, brought, BroughtInPart, nothing, added, anew, EndsRight, LockedRight, let_go, kept_on, StepsRight, was_busy, was_unlocked, was_locked, GivesUpRight, gave_back, held_on}
+use Rattle.formail_cache.specs.Stepping.{cache_rule, end_of, given_back, Remembers, Uses, came, absent, too_long, folder, unread, UnderLock, Steps, busy, unlocked, locked}
+use Rattle.formail_cache.specs.Tree.{read_of, marks_at, Brought, same, brought, BroughtInPart, nothing, added, anew, EndsRight, LockedRight, let_go, kept_on, StepsRight, was_busy, was_unlocked, was_locked}
 use Rattle.formail_cache.specs.declared.changing.Change.{Change}
 use Rattle.formail_cache.specs.declared.changing.Change.TheVariants.{None as NoChange, Add, Anew}
 use Rattle.formail_cache.specs.declared.changing.Written.{Written}
@@ -199,23 +199,3 @@ steps_right cache ids end a b (unlocked is takes) =
 steps_right cache ids end a b (locked sleeps forced middle takes under) =
     tells_then (TakesRight cache.lock (lock_reply (Held sleeps forced))) (LockedRight cache ids end) (StepsRight cache ids end) (λ w m v r s. was_locked sleeps forced m r s)
     a.world middle.world b.world (takes_right cache.lock (Held sleeps forced) a middle takes) (under_right cache ids end middle b under)
-
--- the lock was given back, and nothing else was changed
-let_go_join : (cache : Cache) (sleeps forced : ℕ) (removed : Removed) (w g m v : World) → TakesRight cache.lock (lock_reply (Held sleeps forced)) w g → m ≡ g
-    → Step (Remove cache.lock) (AnswerRemove removed) m v → GivesUpRight cache w v
-let_go_join cache sleeps forced RemovedDone w g m v takes e step = gave_back sleeps forced g takes (step.made ∙ ap (λ x. world_with x cache.lock None) e)
-let_go_join cache sleeps forced Absent w g m v takes e step =
-    gave_back sleeps forced g takes (step.made ∙ sym (put_same m cache.lock None (absent_same (m.nodes cache.lock) step.right)) ∙ ap (λ x. world_with x cache.lock None) e)
-let_go_join cache sleeps forced RemoveFailed w g m v takes e step = held_on sleeps forced (subst (TakesRight cache.lock (lock_reply (Held sleeps forced)) w) (sym (step.made ∙ e)) takes)
-
--- what it makes of the tree where memory was wanting
-pub gives_up_right : (cache : Cache) (a b : HostView) → GivesUp cache a b → Tells (GivesUpRight cache) a.world b.world
-gives_up_right cache a b gives =
-    let go = gives.lets_go in
-    let T = TakesRight cache.lock (lock_reply (Held gives.sleeps gives.forced)) in
-    tells_then (λ w m. (g : World) × T w g × (m ≡ g)) (Step (Remove cache.lock) (AnswerRemove go.removed)) (GivesUpRight cache)
-    (λ w m v r step. let_go_join cache gives.sleeps gives.forced go.removed w r.0 m v r.1 r.2 step)
-    a.world go.middle.world b.world
-    (tells_then T (λ g m. m ≡ g) (λ w m. (g : World) × T w g × (m ≡ g)) (λ w g m r e. (g, r, e)) a.world gives.middle.world go.middle.world
-    (takes_right cache.lock (Held gives.sleeps gives.forced) a gives.middle gives.takes) (reads_same cache.name go.left.at gives.middle go.middle go.left.reads))
-    go.gives.world

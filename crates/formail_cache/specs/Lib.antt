@@ -1,5 +1,6 @@
 pub mod Changing
 pub mod Laws
 pub mod Reading
+pub mod Space
 pub mod Stepping
 pub mod Tree

@@ -1,5 +1,5 @@
 -- Which calls read the first 2,097,152 bytes of a cache.
-use Rattle.std.specs.Prelude.{◌≡◌, ◌≤◌, ℕ, ◌+◌, ◌++◌, List, [], ◌∷◌, length, Result, Ok, Err}
+use Rattle.std.specs.Prelude.{◌≡◌, ◌≤◌, ℕ, ◌+◌, ◌++◌, List, [], ◌∷◌, length}
 use Rattle.pm_host.specs.Runs.{Ran, Transitions}
 use Rattle.pm_host.specs.Told.{HostView, Makes}
 use Rattle.pm_host.specs.declared.answers.Looked.TheVariants.{File as LookedFile, Folder as LookedFolder, Nothing}
@@ -8,7 +8,6 @@ use Rattle.pm_host.specs.declared.calls.Call.TheVariants.{Look, Read}
 use Rattle.pm_host.specs.declared.calls.Answer.{Answer}
 use Rattle.pm_host.specs.declared.calls.Answer.TheVariants.{Look as AnswerLook, Read as AnswerRead, Failed as AnswerFailed}
 use Rattle.pm_host.specs.declared.calls.Logged.{Logged}
-use Rattle.pm_bytes.specs.declared.error.Memory.{Memory}
 use Rattle.formail_cache.specs.declared.reading.CacheRead.{CacheRead}
 use Rattle.formail_cache.specs.declared.reading.CacheRead.TheVariants.{Whole, Front, Missing, Folder, Failed}
 use Rattle.formail_cache.specs.declared.reading.Came.{Came}
@@ -75,20 +74,20 @@ pub record ReadsCache (name : List ℕ) (end : CacheRead) (before after : HostVi
   pub reads : ReadsTo name at before after
   pub done : CacheDone at end
 
--- the reading was left off
-pub record LeavesReading (name : List ℕ) (before after : HostView) : Type 0 where
-  pub at : CacheState
-  pub reads : ReadsTo name at before after
+-- no more bytes came than are looked through
+abbrev pub IsFew : CacheRead → Type 0
+IsFew (Whole bytes) = length bytes ≤ 2097152
+IsFew (Front bytes) = length bytes ≤ 2097152
+IsFew other = Unit {0}
 
 -- what the answer brought
-abbrev pub Brings : Result Came Memory → Answer → List ℕ → List ℕ → Type 0
-Brings (Ok More) answer old new = (part : List ℕ) × (answer ≡ AnswerRead part) × (1 ≤ length part) × (new ≡ old ++ part)
-Brings (Ok End) answer old new = (answer ≡ AnswerRead []) × (new ≡ old)
-Brings (Ok CameFailed) answer old new = (answer ≡ AnswerFailed) × (new ≡ old)
-Brings (Err e) answer old new = Unit {0}
+abbrev pub Brings : Came → Answer → List ℕ → List ℕ → Type 0
+Brings More answer old new = (part : List ℕ) × (answer ≡ AnswerRead part) × (1 ≤ length part) × (new ≡ old ++ part)
+Brings End answer old new = (answer ≡ AnswerRead []) × (new ≡ old)
+Brings CameFailed answer old new = (answer ≡ AnswerFailed) × (new ≡ old)
 
 -- one `read` from where the bytes so far end: what the host answered, and what it brought
-pub record MakesRead (name : List ℕ) (room : ℕ) (old : List ℕ) (came : Result Came Memory) (new : List ℕ) (before after : HostView) : Type 0 where
+pub record MakesRead (name : List ℕ) (room : ℕ) (old : List ℕ) (came : Came) (new : List ℕ) (before after : HostView) : Type 0 where
   pub answer : Answer
   pub makes : Makes (Read name (length old) room) answer before after
   pub brings : Brings came answer old new

@@ -10,7 +10,7 @@ use Rattle.pm_journal.specs.declared.locking.LockRule.{LockRule}
 use Rattle.pm_journal.specs.declared.locking.LockEnd.TheVariants.{Held, Busy as LockBusy, Failed as LockFailed}
 use Rattle.formail_extra.specs.Cache.{marks_of}
 use Rattle.formail_cache.specs.Changing.{change_of, Changes}
-use Rattle.formail_cache.specs.Reading.{ReadsCache, LeavesReading}
+use Rattle.formail_cache.specs.Reading.{ReadsCache}
 use Rattle.formail_cache.specs.declared.reading.CacheRead.TheVariants.{Whole, Front, Missing, Folder, Failed as ReadFailed}
 use Rattle.formail_cache.specs.declared.changing.Written.{Written}
 use Rattle.formail_cache.specs.declared.changing.Written.TheVariants.{Done, Unusable, Failed}
@@ -60,24 +60,9 @@ pub record UnderLock (cache : Cache) (ids : List (Option (List ℕ))) (end : Cac
   pub gives : Makes (Remove cache.lock) (AnswerRemove removed) middle after
   pub is : end ≡ given_back removed used
 
--- with the lock held the reading was left off, or nothing was asked behind it, and then the lock file was removed
-pub record LetGo (cache : Cache) (before after : HostView) : Type 0 where
-  pub middle : HostView
-  pub left : LeavesReading cache.name before middle
-  pub removed : Removed
-  pub gives : Makes (Remove cache.lock) (AnswerRemove removed) middle after
-
 -- the cache was used under its lock, or the lock couldn't be taken
 pub data Steps (cache : Cache) (ids : List (Option (List ℕ))) (end : CacheEnd) (before after : HostView) : Type 0 where
   busy : end ≡ Busy → TakesLock cache_rule cache.lock LockBusy before after → Steps cache ids end before after
   unlocked : end ≡ EndFailed → TakesLock cache_rule cache.lock LockFailed before after → Steps cache ids end before after
   locked : (sleeps forced : ℕ) (middle : HostView) → TakesLock cache_rule cache.lock (Held sleeps forced) before middle
       → UnderLock cache ids end middle after → Steps cache ids end before after
-
--- memory was wanting, and the lock was given back
-pub record GivesUp (cache : Cache) (before after : HostView) : Type 0 where
-  pub sleeps : ℕ
-  pub forced : ℕ
-  pub middle : HostView
-  pub takes : TakesLock cache_rule cache.lock (Held sleeps forced) before middle
-  pub lets_go : LetGo cache middle after

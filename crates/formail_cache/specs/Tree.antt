@@ -56,9 +56,3 @@ pub data StepsRight (cache : Cache) (ids : List (Option (List ℕ))) (end : Cach
   was_unlocked : end ≡ Failed → TakesRight cache.lock Faulted old new → StepsRight cache ids end old new
   was_locked : (sleeps forced : ℕ) (got : World) → TakesRight cache.lock (ReplyHeld sleeps forced) old got
       → LockedRight cache ids end got new → StepsRight cache ids end old new
-
--- memory was wanting: the tree is that of the moment when the lock was got, without the lock file unless its removal failed
-pub data GivesUpRight (cache : Cache) (old new : World) : Type 0 where
-  gave_back : (sleeps forced : ℕ) (got : World) → TakesRight cache.lock (ReplyHeld sleeps forced) old got
-      → new ≡ world_with got cache.lock None → GivesUpRight cache old new
-  held_on : (sleeps forced : ℕ) → TakesRight cache.lock (ReplyHeld sleeps forced) old new → GivesUpRight cache old new

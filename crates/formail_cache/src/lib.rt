@@ -4,6 +4,7 @@
 mod changing;
 mod laws;
 mod reading;
+mod space;
 mod stepping;
 
 pub use changing::{Change, Written};

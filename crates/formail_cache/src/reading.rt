@@ -1,10 +1,9 @@
 //! What is looked through of a cache: its first 2,097,152 bytes.
-ghost use Rattle.std.specs.Prelude.{◌≡◌, ◌<◌, ◌≤◌, ◌+◌, length, IfOk, OnErr};
-ghost use Rattle.formail_cache.specs.Reading.{ReadsCache, LeavesReading, MakesRead};
+ghost use Rattle.std.specs.Prelude.{◌≡◌, ◌<◌, ◌≤◌, ◌+◌, [], length, vec_capacity};
+ghost use Rattle.formail_cache.specs.Reading.{ReadsCache, MakesRead, IsFew};
 
-use pm_bytes::{Blob, Memory, Name};
+use pm_bytes::{Blob, Name};
 use pm_host::{Got, Host, Looked};
-use std::alloc::Global;
 
 /// How the reading of a cache ended.
 #[derive(Drop)]
@@ -26,50 +25,49 @@ enum Came {
     Failed,
 }
 
-const MOST: usize = 2_097_152;
+/// How many bytes of a cache are looked through.
+pub const MOST: usize = 2_097_152;
 
-/// Reads the first 2,097,152 bytes of a file, in parts of at most 4,096.
-pub fn read_front<H: Host>(alloc: Global, host: &mut H, name: &Name) -> Result<CacheRead, Memory>
-    ensures ok { IfOk result (λ end. ReadsCache name.now end (H.told host.old) (H.told host.new)) }
-    ensures err { OnErr result (LeavesReading name.now (H.told host.old) (H.told host.new)) }
+/// Reads the first 2,097,152 bytes of a file, in parts of at most 4,096, into this room. It takes no memory but that.
+pub fn read_front<H: Host>(host: &mut H, name: &Name, mut bytes: Vec<u8>) -> CacheRead
+    requires empty { bytes.items ≡ [] }
+    requires space { 2097152 ≤ vec_capacity bytes }
+    ensures reads { ReadsCache name.now result (H.told host.old) (H.told host.new) }
+    ensures few { IsFew result }
 {
     match host.look(name.as_str()) {
         Looked::File(_) => {}
-        Looked::Folder => return Ok(CacheRead::Folder),
-        Looked::Nothing => return Ok(CacheRead::Missing),
-        Looked::Failed => return Ok(CacheRead::Failed),
+        Looked::Folder => return CacheRead::Folder,
+        Looked::Nothing => return CacheRead::Missing,
+        Looked::Failed => return CacheRead::Failed,
     }
-    let mut bytes = Blob::empty(alloc);
     let mut room = [0u8; 4096];
     while bytes.len() < MOST {
         let most = (MOST - bytes.len()).min(4096);
-        match read_more(host, name.as_str(), &mut bytes, &mut room[..most])? {
+        match read_more(host, name.as_str(), &mut bytes, &mut room[..most]) {
             Came::More => {}
-            Came::End => return Ok(CacheRead::Whole(bytes)),
-            Came::Failed => return Ok(CacheRead::Failed),
+            Came::End => return CacheRead::Whole(Blob::from_vec(bytes)),
+            Came::Failed => return CacheRead::Failed,
         }
     }
-    Ok(CacheRead::Front(bytes))
+    CacheRead::Front(Blob::from_vec(bytes))
 }
 
 // One `read`, whose bytes go to the end.
-fn read_more<H: Host>(
-    host: &mut H,
-    name: &str,
-    bytes: &mut Blob,
-    room: &mut [u8],
-) -> Result<Came, Memory>
-    requires { 0 < length room.old }
-    ensures { MakesRead name.now (length room.old) bytes.old result bytes.new
+fn read_more<H: Host>(host: &mut H, name: &str, bytes: &mut Vec<u8>, room: &mut [u8]) -> Came
+    requires some { 0 < length room.old }
+    requires space { length bytes.old.items + length room.old ≤ vec_capacity bytes.old }
+    ensures makes { MakesRead name.now (length room.old) bytes.old.items result bytes.new.items
         (H.told host.old) (H.told host.new) }
+    ensures space { vec_capacity bytes.old ≤ vec_capacity bytes.new }
 {
     let at = bytes.len() as u64;
     match host.read(name, at, room) {
-        Got::Failed => Ok(Came::Failed),
-        Got::Got(0) => Ok(Came::End),
+        Got::Failed => Came::Failed,
+        Got::Got(0) => Came::End,
         Got::Got(n) => {
-            bytes.push_slice(&room[..n])?;
-            Ok(Came::More)
+            let _ = bytes.extend_from_slice(&room[..n]);
+            Came::More
         }
     }
 }

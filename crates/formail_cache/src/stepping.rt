@@ -1,15 +1,17 @@
 //! A cache is used under its lock.
-ghost use Rattle.std.specs.Prelude.{◌≡◌, IfOk, OnErr};
+ghost use Rattle.std.specs.Prelude.{◌≡◌, ◌≤◌, [], IfOk, OnErr, length, vec_capacity};
 ghost use Rattle.pm_journal.specs.Locking.{TakesLock};
 ghost use Rattle.pm_host.specs.Told.{Tells, Rose};
-ghost use Rattle.formail_cache.specs.Reading.{ReadsCache, LeavesReading};
-ghost use Rattle.formail_cache.specs.Tree.{StepsRight, GivesUpRight};
-ghost use Rattle.formail_cache.specs.Stepping.{cache_rule, end_of, given_back, Remembers, Uses, UnderLock, LetGo, Steps, GivesUp};
+ghost use Rattle.formail_extra.specs.Room.{HasRoom};
+ghost use Rattle.formail_cache.specs.Space.{IsReserved};
+ghost use Rattle.formail_cache.specs.Reading.{ReadsCache, IsFew};
+ghost use Rattle.formail_cache.specs.Tree.{StepsRight};
+ghost use Rattle.formail_cache.specs.Stepping.{cache_rule, end_of, given_back, Remembers, Uses, UnderLock, Steps};
 
 use crate::changing::{Change, Written, choose, make};
 use crate::reading::{CacheRead, read_front};
-use formail_edit::Listed;
-use formail_extra::{Marks, mark};
+use crate::space::{Space, reserve};
+use formail_extra::{Kept, Room, mark};
 use pm_bytes::{Blob, Memory, Name};
 use pm_host::{Host, Removed};
 use pm_journal::{LockEnd, LockRule};
@@ -30,7 +32,7 @@ pub struct Cache {
 #[derive(Drop)]
 pub enum CacheEnd {
     /// Of each mail, whether it is kept; what is new was added.
-    Kept(Listed<bool>),
+    Kept(Kept),
     /// The lock was held by others all the time.
     Busy,
     /// A folder stands at the cache's name, or something came there meanwhile.
@@ -50,7 +52,7 @@ fn rule() -> LockRule
     }
 }
 
-fn ended(written: Written, kept: Listed<bool>) -> CacheEnd
+fn ended(written: Written, kept: Kept) -> CacheEnd
     ensures { result ≡ end_of written kept }
 {
     match written {
@@ -62,59 +64,47 @@ fn ended(written: Written, kept: Listed<bool>) -> CacheEnd
 
 // The marks of the mails, and the cache as they leave it.
 fn remember<H: Host>(
-    alloc: Global,
     host: &mut H,
     cache: &Cache,
     too_long: bool,
     old: &[u8],
     ids: &[Option<Blob>],
-) -> Result<CacheEnd, Memory>
-    ensures ok { IfOk result
-        (λ end. Remembers cache.now too_long old.now ids.now end (H.told host.old) (H.told host.new)) }
-    ensures err { OnErr result (H.told host.new ≡ H.told host.old) }
+    room: Room,
+) -> CacheEnd
+    requires few { length old.now ≤ 2097152 }
+    requires room { HasRoom 2097152 ids.now room }
+    ensures remembers { Remembers cache.now too_long old.now ids.now result (H.told host.old) (H.told host.new) }
     ensures child { (H.told host.new).child ≡ (H.told host.old).child }
 {
-    let marks = mark(alloc, old, cache.most, ids)?;
+    let marks = mark(room, old, cache.most, ids);
     let new = marks.cache.as_slice();
     let written = make(host, &cache.name, choose(too_long, old, new), old, new);
-    Ok(ended(written, marks.kept))
+    ended(written, marks.kept)
 }
 
-fn read_cache<H: Host>(alloc: Global, host: &mut H, name: &Name) -> Result<CacheRead, Memory>
-    ensures ok { IfOk result (λ end. ReadsCache name.now end (H.told host.old) (H.told host.new)) }
-    ensures err { OnErr result (LeavesReading name.now (H.told host.old) (H.told host.new)) }
+fn read_cache<H: Host>(host: &mut H, name: &Name, bytes: Vec<u8>) -> CacheRead
+    requires empty { bytes.items ≡ [] }
+    requires space { 2097152 ≤ vec_capacity bytes }
+    ensures reads { ReadsCache name.now result (H.told host.old) (H.told host.new) }
+    ensures few { IsFew result }
     ensures child { (H.told host.new).child ≡ (H.told host.old).child }
 {
-    let end = read_front(alloc, host, name)?;
-    Ok(end)
+    read_front(host, name, bytes)
 }
 
 // The cache is read, and written where something is new.
-fn use_cache<H: Host>(
-    alloc: Global,
-    host: &mut H,
-    cache: &Cache,
-    ids: &[Option<Blob>],
-) -> Result<CacheEnd, Memory>
-    ensures ok { IfOk result (λ end. Uses cache.now ids.now end (H.told host.old) (H.told host.new)) }
-    ensures err { OnErr result (LeavesReading cache.now.name (H.told host.old) (H.told host.new)) }
+fn use_cache<H: Host>(host: &mut H, cache: &Cache, ids: &[Option<Blob>], space: Space) -> CacheEnd
+    requires { IsReserved ids.now space }
+    ensures uses { Uses cache.now ids.now result (H.told host.old) (H.told host.new) }
     ensures child { (H.told host.new).child ≡ (H.told host.old).child }
 {
-    match read_cache(alloc, host, &cache.name)? {
-        CacheRead::Whole(bytes) => {
-            let end = remember(alloc, host, cache, false, bytes.as_slice(), ids)?;
-            Ok(end)
-        }
-        CacheRead::Front(bytes) => {
-            let end = remember(alloc, host, cache, true, bytes.as_slice(), ids)?;
-            Ok(end)
-        }
-        CacheRead::Missing => {
-            let end = remember(alloc, host, cache, false, b"", ids)?;
-            Ok(end)
-        }
-        CacheRead::Folder => Ok(CacheEnd::Unusable),
-        CacheRead::Failed => Ok(CacheEnd::Failed),
+    let Space { read, marking } = space;
+    match read_cache(host, &cache.name, read) {
+        CacheRead::Whole(bytes) => remember(host, cache, false, bytes.as_slice(), ids, marking),
+        CacheRead::Front(bytes) => remember(host, cache, true, bytes.as_slice(), ids, marking),
+        CacheRead::Missing => remember(host, cache, false, b"", ids, marking),
+        CacheRead::Folder => CacheEnd::Unusable,
+        CacheRead::Failed => CacheEnd::Failed,
     }
 }
 
@@ -129,20 +119,14 @@ fn after_giving(removed: Removed, end: CacheEnd) -> CacheEnd
 }
 
 // The lock, which is held, is given back whatever comes of the cache.
-fn under_lock<H: Host>(
-    alloc: Global,
-    host: &mut H,
-    cache: &Cache,
-    ids: &[Option<Blob>],
-) -> Result<CacheEnd, Memory>
-    ensures ok { IfOk result (λ end. UnderLock cache.now ids.now end (H.told host.old) (H.told host.new)) }
-    ensures err { OnErr result (LetGo cache.now (H.told host.old) (H.told host.new)) }
+fn under_lock<H: Host>(host: &mut H, cache: &Cache, ids: &[Option<Blob>], space: Space) -> CacheEnd
+    requires { IsReserved ids.now space }
+    ensures under { UnderLock cache.now ids.now result (H.told host.old) (H.told host.new) }
     ensures child { (H.told host.new).child ≡ (H.told host.old).child }
 {
-    let used = use_cache(alloc, host, cache, ids);
+    let used = use_cache(host, cache, ids, space);
     let removed = host.remove(cache.lock.as_str());
-    let end = used?;
-    Ok(after_giving(removed, end))
+    after_giving(removed, used)
 }
 
 fn take<H: Host>(host: &mut H, lock: &Name) -> LockEnd
@@ -153,28 +137,20 @@ fn take<H: Host>(host: &mut H, lock: &Name) -> LockEnd
 }
 
 // The lock is taken, and the cache is used under it.
-fn step<H: Host>(
-    alloc: Global,
-    host: &mut H,
-    cache: &Cache,
-    ids: &[Option<Blob>],
-) -> Result<CacheEnd, Memory>
-    ensures ok { IfOk result (λ end. Steps cache.now ids.now end (H.told host.old) (H.told host.new)) }
-    ensures err { OnErr result (GivesUp cache.now (H.told host.old) (H.told host.new)) }
+fn step<H: Host>(host: &mut H, cache: &Cache, ids: &[Option<Blob>], space: Space) -> CacheEnd
+    requires { IsReserved ids.now space }
+    ensures steps { Steps cache.now ids.now result (H.told host.old) (H.told host.new) }
     ensures child { (H.told host.new).child ≡ (H.told host.old).child }
 {
     match take(host, &cache.lock) {
-        LockEnd::Held { .. } => {
-            let end = under_lock(alloc, host, cache, ids)?;
-            Ok(end)
-        }
-        LockEnd::Busy => Ok(CacheEnd::Busy),
-        LockEnd::Failed => Ok(CacheEnd::Failed),
+        LockEnd::Held { .. } => under_lock(host, cache, ids, space),
+        LockEnd::Busy => CacheEnd::Busy,
+        LockEnd::Failed => CacheEnd::Failed,
     }
 }
 
 /// Takes the cache's lock, holds the identifiers of some mails against the cache, adds those that are new, and gives
-/// the lock back (formail(1), option -D).
+/// the lock back (formail(1), option -D). All memory is taken before the lock.
 pub fn cache_step<H: Host>(
     alloc: Global,
     host: &mut H,
@@ -186,10 +162,10 @@ pub fn cache_step<H: Host>(
         (λ end. Tells (StepsRight cache.now ids.now end) (H.told host.old).world (H.told host.new).world) }
     ensures failed { IfOk result
         (λ end. end ≡ CacheEnd.Failed → Rose (H.told host.old).faults (H.told host.new).faults) }
-    ensures err { OnErr result (GivesUp cache.now (H.told host.old) (H.told host.new)) }
-    ensures left { OnErr result (Tells (GivesUpRight cache.now) (H.told host.old).world (H.told host.new).world) }
+    ensures err { OnErr result (H.told host.new ≡ H.told host.old) }
     ensures child { (H.told host.new).child ≡ (H.told host.old).child }
 {
-    let end = step(alloc, host, cache, ids)?;
+    let space = reserve(alloc, ids)?;
+    let end = step(host, cache, ids, space);
     Ok(end)
 }

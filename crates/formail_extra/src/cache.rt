@@ -1,20 +1,50 @@
 //! The cache of the identifiers that were seen (formail(1), option -D).
-ghost use Rattle.std.specs.Prelude.{◌≡◌, ◌∷◌, ◌++◌, [], IfOk, OnOk, take};
+ghost use Rattle.std.specs.Prelude.{◌≡◌, ◌≤◌, ◌∷◌, ◌++◌, ◌+◌, [], IfOk, IfSome, length, take, sum_by, vec_capacity};
 ghost use Rattle.std.specs.List.{list_any};
 ghost use Rattle.bstr.specs.Text.{lines_of};
 ghost use Rattle.formail_extra.specs.Cache.{is_line_of, is_seen, with_line_ended, stays_of, next_of, is_kept, cache_behind, marks_of};
+ghost use Rattle.formail_extra.specs.Room.{space_for, HasRoom};
 
+use crate::room::Room;
 use crate::seen::unended;
 use bstr::ByteSlice;
-use formail_edit::Listed;
-use pm_bytes::{Blob, Memory};
-use std::alloc::Global;
+use pm_bytes::Blob;
+use std::marker::Model;
+
+/// Of some mails in their order, whether each is kept.
+#[derive(Drop)]
+pub struct Kept {
+    items: Vec<bool>,
+}
+
+impl Model for Kept {
+    ghost use Rattle.std.specs.Prelude.{List, Bool};
+
+    ghost Value = { List Bool };
+
+    ghost view = { λ k. k.items.items };
+}
+
+impl Kept {
+    /// The same truth values, from a `Vec`. It takes no memory.
+    pub fn from_vec(items: Vec<bool>) -> Kept
+        ensures { result ≡ items.items }
+    {
+        Kept { items }
+    }
+
+    pub fn as_slice(&self) -> &[bool]
+        ensures { result.now ≡ self.now }
+    {
+        self.items.as_slice()
+    }
+}
 
 /// What became of some mails whose identifiers were held against a cache.
 #[derive(Drop)]
 pub struct Marks {
     /// Of each mail, whether it is kept.
-    pub kept: Listed<bool>,
+    pub kept: Kept,
     /// The bytes of the cache behind them all.
     pub cache: Blob,
 }
@@ -45,33 +75,50 @@ fn was_seen(bytes: &[u8], id: &[u8]) -> bool
     has_line(front(bytes, 2_097_152), id)
 }
 
-fn end_line(cache: &mut Blob) -> Result<(), Memory>
-    ensures { OnOk result (cache.new ≡ with_line_ended cache.old) }
+// Adds bytes for which there is room.
+fn put(bytes: &mut Vec<u8>, more: &[u8])
+    requires { length bytes.old.items + length more.now ≤ vec_capacity bytes.old }
+    ensures items { bytes.new.items ≡ bytes.old.items ++ more.now }
+    ensures space { vec_capacity bytes.old ≤ vec_capacity bytes.new }
 {
-    if cache.len() == 0 || cache.as_slice().ends_with(b"\n") {
-        return Ok(());
+    let _ = bytes.extend_from_slice(more);
+}
+
+fn end_line(cache: &mut Vec<u8>)
+    requires { length cache.old.items + 1 ≤ vec_capacity cache.old }
+    ensures items { cache.new.items ≡ with_line_ended cache.old.items }
+    ensures few { length cache.new.items ≤ length cache.old.items + 1 }
+    ensures space { vec_capacity cache.old ≤ vec_capacity cache.new }
+{
+    if cache.is_empty() || cache.ends_with(b"\n") {
+        return;
     }
-    cache.push_slice(b"\n")
+    put(cache, b"\n");
 }
 
 // What stays of the cache before one identifier more.
-fn make_room(alloc: Global, mut cache: Blob, most: u64) -> Result<Blob, Memory>
-    ensures { IfOk result (λ stays. stays ≡ stays_of most cache) }
+fn make_room(cache: &mut Vec<u8>, most: u64)
+    requires { length cache.old.items + 1 ≤ vec_capacity cache.old }
+    ensures items { cache.new.items ≡ stays_of most cache.old.items }
+    ensures few { length cache.new.items ≤ length cache.old.items + 1 }
+    ensures space { vec_capacity cache.old ≤ vec_capacity cache.new }
 {
     if most <= cache.len() as u64 {
-        return Ok(Blob::empty(alloc));
+        cache.clear();
+        return;
     }
-    end_line(&mut cache)?;
-    Ok(cache)
+    end_line(cache);
 }
 
-fn add(alloc: Global, cache: Blob, most: u64, id: &[u8]) -> Result<Blob, Memory>
-    ensures { IfOk result (λ next. next ≡ next_of most cache id.now) }
+fn add(cache: &mut Vec<u8>, most: u64, id: &[u8])
+    requires { length cache.old.items + (length id.now + 2) ≤ vec_capacity cache.old }
+    ensures items { cache.new.items ≡ next_of most cache.old.items id.now }
+    ensures few { length cache.new.items ≤ length cache.old.items + (length id.now + 2) }
+    ensures space { vec_capacity cache.old ≤ vec_capacity cache.new }
 {
-    let mut next = make_room(alloc, cache, most)?;
-    next.push_slice(id)?;
-    next.push_slice(b"\n")?;
-    Ok(next)
+    make_room(cache, most);
+    put(cache, id);
+    put(cache, b"\n");
 }
 
 // Whether a mail is kept.
@@ -85,28 +132,39 @@ fn keeps(cache: &[u8], id: &Option<Blob>) -> bool
 }
 
 // The cache behind a mail.
-fn go_on(alloc: Global, cache: Blob, most: u64, id: &Option<Blob>) -> Result<Blob, Memory>
-    ensures { IfOk result (λ next. next ≡ cache_behind most cache id.now) }
+fn go_on(cache: &mut Vec<u8>, most: u64, id: &Option<Blob>)
+    requires { length cache.old.items + space_for id.now ≤ vec_capacity cache.old }
+    ensures items { cache.new.items ≡ cache_behind most cache.old.items id.now }
+    ensures few { length cache.new.items ≤ length cache.old.items + space_for id.now }
+    ensures space { vec_capacity cache.old ≤ vec_capacity cache.new }
 {
     let Some(id) = id else {
-        return Ok(cache);
+        return;
     };
     if was_seen(cache.as_slice(), id.as_slice()) {
-        return Ok(cache);
+        return;
     }
-    add(alloc, cache, most, id.as_slice())
+    add(cache, most, id.as_slice());
 }
 
 /// Holds the identifiers of some mails against the bytes of a cache, each against those before it too, and adds those
-/// that weren't seen (formail(1), option -D). A cache of at least `most` bytes begins anew with the next one.
-pub fn mark(alloc: Global, cache: &[u8], most: u64, ids: &[Option<Blob>]) -> Result<Marks, Memory>
-    ensures { IfOk result (λ marks. marks ≡ marks_of most cache.now ids.now) }
+/// that weren't seen (formail(1), option -D). A cache of at least `most` bytes begins anew with the next one. It takes no
+/// memory but this room.
+pub fn mark(room: Room, cache: &[u8], most: u64, ids: &[Option<Blob>]) -> Marks
+    requires { HasRoom (length cache.now) ids.now room }
+    ensures { result ≡ marks_of most cache.now ids.now }
 {
-    let mut kept = Listed::empty(alloc);
-    let mut cache = Blob::from_slice(alloc, cache)?;
+    let Room {
+        cache: mut bytes,
+        mut kept,
+    } = room;
+    put(&mut bytes, cache);
     for id in ids {
-        kept.push(keeps(cache.as_slice(), id))?;
-        cache = go_on(alloc, cache, most, id)?;
+        kept.push_reserved(keeps(bytes.as_slice(), id));
+        go_on(&mut bytes, most, id);
     }
-    Ok(Marks { kept, cache })
+    Marks {
+        kept: Kept::from_vec(kept),
+        cache: Blob::from_vec(bytes),
+    }
 }

@@ -14,7 +14,7 @@ use Rattle.pm_host.specs.declared.command.Command.{Command}
 use Rattle.formail_split.specs.Feeding.{FeedsEach}
 use Rattle.formail_split.specs.declared.feeding.Outcome.{Outcome}
 use Rattle.formail_split.specs.declared.feeding.Outcome.TheVariants.{Fine, Amiss, Failed}
-use Rattle.formail_cache.specs.Stepping.{Steps, GivesUp}
+use Rattle.formail_cache.specs.Stepping.{Steps}
 use Rattle.formail_cache.specs.Tree.{StepsRight}
 use Rattle.formail_cache.specs.declared.stepping.Cache.{Cache}
 use Rattle.formail_cache.specs.declared.stepping.CacheEnd.{CacheEnd}
@@ -135,11 +135,10 @@ Treats None request vars mails status host host' out out' =
 Treats (Some cache) request vars mails status host host' out out' =
     Remembers cache request vars mails status host host' out out'
 
--- where memory was wanting beside a cache: nothing was asked; or the cache's lock was given back before anything was
--- written; or the cache was used whole, and then the moment was asked for at most
+-- where memory was wanting beside a cache: nothing was asked; or the cache was used whole, and then the moment was asked
+-- for at most
 pub data LeavesCache (cache : Cache) (before after : HostView) : Type 0 where
   untouched : after ≡ before → LeavesCache cache before after
-  gave_up : GivesUp cache before after → LeavesCache cache before after
   used : (ids : List (Option (List ℕ))) (end : CacheEnd) (middle : HostView) → Steps cache ids end before middle
       → AsksAtMost middle after → LeavesCache cache before after
 
