@@ -15,7 +15,7 @@ pub enum Mail {
     Failed,
 }
 
-/// What one `read` brought.
+// What one `read` brought.
 #[derive(Clone, Copy)]
 enum Part {
     More,
@@ -44,12 +44,12 @@ pub fn read_mail<S: Source>(alloc: Global, source: &mut S) -> Result<Mail, Memor
     Ok(Mail::TooMany)
 }
 
-// Makes the room that the next read wants behind so many bytes. To clear a large one costs more than a short mail does
+// Makes the room that the next read wants behind so many bytes. To clear a large one costs more than a short message does
 // else, and it is cleared once.
 fn widen(room: &mut Vec<u8>, len: usize) -> Result<(), Memory>
     ensures { OnOk result (1 ≤ length room.new.items) }
 {
-    let wanted = if len < 16_384 { 1_024 } else { 65_536 };
+    let wanted = if len < 16_384 { 4_096 } else { 65_536 };
     if room.len() < wanted {
         room.resize(wanted, 0)?;
     }

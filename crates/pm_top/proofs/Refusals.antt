@@ -3,7 +3,7 @@ use Rattle.std.proofs.Common.{◌≡◌, ◌<◌, ◌⊎◌, inl, inr, ℕ, List
 use Rattle.pm_host.specs.Told.{Tells}
 use Rattle.pm_words.specs.Words.{command_line}
 use Rattle.pm_machine.specs.declared.command_line.CommandLine.{CommandLine}
-use Rattle.pm_top.specs.Drain.{IsDrained, Drained, NoFault}
+use Rattle.pm_streams.specs.Reading.{IsDrained, Drained, NoFault}
 use Rattle.pm_host.specs.Streams.{StreamView}
 use Rattle.pm_top.specs.Run.{Run}
 use Rattle.pm_top.specs.Outcome.{BadWords, ReadFault, TooLong, NotBegun, HasMeaning, Outcome, bad_words, read_fault, too_long, not_begun, left_off, meant}

@@ -13,7 +13,7 @@ use Rattle.pm_machine.specs.declared.command_line.CommandLine.{CommandLine}
 use Rattle.pm_machine.specs.declared.ending.Ending.{Ending}
 use Rattle.pm_machine.specs.declared.status.Status.{Status}
 use Rattle.pm_machine.specs.declared.status.Status.TheVariants.{Usage, DataError, SystemError, InputOutput}
-use Rattle.pm_top.specs.Drain.{Drained, ReadPast, StopsFailed}
+use Rattle.pm_streams.specs.Reading.{Drained, ReadPast, StopsFailed}
 use Rattle.pm_top.specs.Run.{Run}
 use Rattle.pm_top.specs.Outcome.{SaysLine, LastLine, status_line, Refused, BadWords, ReadFault, TooLong, NotBegun, HasMeaning, LeftOff, Outcome, bad_words, read_fault, too_long, not_begun, left_off, meant}
 use Rattle.pm_top.specs.Account.{SaysLast, Account}

@@ -1,4 +1,3 @@
-pub mod Drain
 pub mod Run
 pub mod Outcome
 pub mod Account

@@ -16,7 +16,7 @@ use Rattle.pm_meaning.specs.declared.process.End.TheVariants.{NoRc}
 use Rattle.pm_machine.specs.declared.ending.Ending.{Ending}
 use Rattle.pm_machine.specs.declared.status.Status.{Status}
 use Rattle.pm_machine.specs.declared.status.Status.TheVariants.{Usage, DataError, NoInput, SystemError, InputOutput}
-use Rattle.pm_top.specs.Drain.{Drained, ReadPast, StopsFailed}
+use Rattle.pm_streams.specs.Reading.{Drained, ReadPast, StopsFailed}
 use Rattle.pm_top.specs.Run.{Run}
 
 -- the line that is said before these statuses

@@ -2,8 +2,6 @@
 //! through the host and the sinks that are handed in, and every act is noted.
 #![tactic(auto)]
 
-pub mod drain;
 pub mod top;
 
-pub use drain::{Mail, read_mail};
 pub use top::{procmail, refuse};

@@ -10,7 +10,6 @@ ghost use Rattle.pm_top.specs.Outcome.{SaysLine, LastLine, status_line};
 ghost use Rattle.pm_top.specs.Promise.{Promise};
 ghost use Rattle.pm_top.specs.Traced.{RunsLine, RunsMail};
 
-use crate::{Mail, read_mail};
 use pm_acts::{Objects, lend};
 use pm_append::write_text;
 use pm_bytes::{Blob, Environ, Memory};
@@ -19,6 +18,7 @@ use pm_journal::Journal;
 use pm_machine::{CommandLine, Ending, Status};
 use pm_meaning::End;
 use pm_run::run_processes;
+use pm_streams::{Mail, read_mail};
 use pm_words::read_words;
 use std::alloc::Global;
 

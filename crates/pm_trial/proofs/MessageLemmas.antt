@@ -7,7 +7,7 @@ use Rattle.pm_host.specs.Told.{Tells}
 use Rattle.pm_host.specs.Streams.{StreamView}
 use Rattle.pm_words.specs.Words.{all_bytes, asked, no_words}
 use Rattle.pm_words.specs.declared.place.Next.TheVariants.{Any}
-use Rattle.pm_top.specs.Drain.{IsDrained, IsTooMuch}
+use Rattle.pm_streams.specs.Reading.{IsDrained, IsTooMuch}
 use Rattle.pm_top.specs.Run.{Run}
 use Rattle.pm_top.specs.Outcome.{BadWords, ReadFault, TooLong, HasMeaning}
 use Rattle.pm_top.specs.Promise.{IsRefused, IsStarved, Promise}
