@@ -1,7 +1,7 @@
 #!/usr/bin/env bash
 # Want of memory at each place where the program asks for some, in a run under a lock file, in one that ends in the default
 # mailbox, in one with LOCKFILE, and in one with a filter and a capture: no lock file is left, the status is 71 or 0, and the
-# mailbox has all of the mail or none of it.
+# mailbox has all of the mail or none of it. And in a run of formail with a cache, which has what is new or is as it was.
 set -eu
 . "$(dirname "$0")/common.bash"
 # The allocations of a program with the C library as a shared one can be made to fail.
@@ -114,4 +114,37 @@ each "LOCKFILE" -m global
 # The programs themselves get all memory.
 printf 'LD_PRELOAD=\n:0 fw:filter.lock\n| /bin/cat\n:0 w:capture.lock\nN=| /bin/echo 1\n:0:\nmbox\n' > programs
 each "a filter and a capture under lock files" -m programs
+
+# Runs formail with a cache, once for each allocation: with status 1 what is new was added, and with 71 nothing was. A call
+# of the system for which memory is wanting is one that fails: 74.
+printf 'A: b\nMessage-ID: <b@x>\n\nhi\n' > mail
+printf '<a@x>\n' > seen
+printf '<a@x>\n<b@x>\n' > added
+program=${programs%/bin}/crates/formail_cli/out/formail_cli
+for later in '' yes; do
+    number=0
+    failed=0
+    while :; do
+        number=$((number + 1))
+        rm -f mark
+        cp seen cache
+        status=0
+        env -i FAIL_MARK="$FAIL_MARK" FAIL_AT=$number ${later:+FAIL_LATER=yes} LD_PRELOAD="$folder/failing.so" \
+            "$program" -D 8192 cache < mail > said 2>&1 || status=$?
+        [ ! -e cache.lock ] || fail "a cache: allocation $number: the lock file is left"
+        [ ! -s said ] || fail "a cache: allocation $number: something was written"
+        case $status in
+            1) cmp -s cache added || fail "a cache: allocation $number: status 1, and the cache hasn't what is new" ;;
+            71) cmp -s cache seen || fail "a cache: allocation $number: status 71, and the cache isn't as it was" ;;
+            74) cmp -s cache seen || cmp -s cache added || fail "a cache: allocation $number: status 74, and the cache is torn" ;;
+            *) fail "a cache: allocation $number: status $status" ;;
+        esac
+        [ "$status" -eq 1 ] || failed=$((failed + 1))
+        [ -e mark ] || break
+        [ "$number" -lt 20000 ] || fail "a cache: no end of allocations"
+    done
+    [ "$status" -eq 1 ] || fail "a cache: status $status where none failed"
+    [ "$failed" -gt 5 ] || fail "a cache: only $failed of $number allocations mattered"
+    echo "memory: a cache of formail: each of $((number - 1)) allocations${later:+ and all behind it}: no lock file is left, and the cache is whole"
+done
 echo "memory: passed"
