@@ -1,12 +1,12 @@
 -- A body that can stay as it is.
-use Rattle.std.proofs.Common.{◌≡◌, ◌≤◌, ◌⊎◌, inl, inr, ℕ, ◌+◌, ◌-◌, Bool, true, false, Option, take, List, [], ◌∷◌, ◌++◌, length, nat_eq, codes, refl, sym, ap, subst, ◌∙◌, ⊎_elim, arith, length-append, append_assoc, if◌then◌else◌}
+use Rattle.std.proofs.Common.{◌≡◌, ◌≤◌, inl, inr, ℕ, ◌+◌, ◌-◌, Bool, true, false, Option, take, List, [], ◌∷◌, ◌++◌, length, nat_eq, codes, refl, sym, ap, ◌∙◌, ⊎_elim, arith, length-append, append_assoc, if◌then◌else◌}
 use Rattle.std.proofs.lemmas.Bool.{cases_Bool}
 use Rattle.std.proofs.lemmas.Bool.Decides.{Decides-eqb}
 use Rattle.std.proofs.lemmas.Slice.Eq.{ends_is}
 use Rattle.std.specs.List.{flat_map, concat, starts_with, ends_with}
 use Rattle.memchr.specs.Find.{OccursAt, Nowhere}
 use Rattle.pm_message.specs.Lines.{lines}
-use Rattle.pm_message.specs.Piece.{escaped_line, escaped, with_newline, ended}
+use Rattle.pm_message.specs.Piece.{escaped_line, escaped, ended}
 use Rattle.pm_message.proofs.EscapeLemmas.{sign, needle, escaped_end, escaped_begun_plain}
 use Rattle.pm_message.proofs.LineLemmas.{concat-lines}
 use Rattle.formail_edit.specs.Output.{prefixed_line, body_for, Stays, front_of, mail_of}
@@ -40,7 +40,7 @@ plain_body body other none prefix =
     none_begins prefix (lines body) (ap length (sym same ∙ sym (concat-lines body))) ∙ concat-lines body
 
 -- a text ends as the one behind it does
-ends_behind : (front text tail : List ℕ) → ends_with nat_eq text tail ≡ true → (whole : List ℕ) → whole ≡ front ++ text → ends_with nat_eq whole tail ≡ true
+pub ends_behind : (front text tail : List ℕ) → ends_with nat_eq text tail ≡ true → (whole : List ℕ) → whole ≡ front ++ text → ends_with nat_eq whole tail ≡ true
 ends_behind front text tail ends whole is =
     let cut = (ends_is Decides-eqb text tail (ends_with nat_eq text tail) refl).0 ends in
     (ends_is Decides-eqb whole tail (ends_with nat_eq whole tail) refl).1 (front ++ take (length text - length tail) text)

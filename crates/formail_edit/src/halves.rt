@@ -47,6 +47,9 @@ impl Edited {
         ensures { IfOk result (λ text. text ≡ self) }
     {
         let mut text = self.front;
+        if self.rest.as_slice().is_empty() {
+            return Ok(text);
+        }
         text.push_slice(self.rest.as_slice())?;
         Ok(text)
     }

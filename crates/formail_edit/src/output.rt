@@ -5,6 +5,7 @@ ghost use Rattle.bstr.specs.Text.{lines_of};
 ghost use Rattle.pm_bytes.specs.Letter.{is_space_byte};
 ghost use Rattle.pm_message.specs.Lines.{lines};
 ghost use Rattle.pm_message.specs.Piece.{ended};
+ghost use Rattle.pm_message.specs.Split.{split_of};
 ghost use Rattle.formail_edit.specs.Keyed.{keyed, keyed_as};
 ghost use Rattle.formail_edit.specs.Sender.{line_at};
 ghost use Rattle.formail_edit.specs.Output.{prefixed_line, body_for, Stays, trimmed, content_for, extraction, taken_from, taken, front_of, mail_of, edited};
@@ -12,11 +13,12 @@ ghost use Rattle.formail_edit.specs.Output.{prefixed_line, body_for, Stays, trim
 use crate::application::edit_fields;
 use crate::meaning::is_meant;
 use crate::sender::line_before;
+use crate::unchanged::is_unchanged;
 use crate::{Edited, Edits, Take};
 use bstr::ByteSlice;
 use memchr::memmem;
 use pm_bytes::{Blob, Memory, is_space};
-use pm_message::{Message, field_texts, read_key};
+use pm_message::{Message, divide, field_texts, read_key};
 use std::alloc::Global;
 
 // The text with the lines behind it, each that would begin a mail in a mailbox with the prefix.
@@ -98,8 +100,8 @@ fn has_from_line(text: &[u8]) -> bool
     }
 }
 
-// Whether the body can stay as it is, behind any head.
-fn stays(body: &[u8], edits: &Edits) -> bool
+/// Whether the body can stay as it is, behind any head.
+pub fn stays(body: &[u8], edits: &Edits) -> bool
     ensures { result ≡ true → Stays edits.now body.now }
 {
     if !edits.keep_from && !body.ends_with(b"\n\n") {
@@ -216,8 +218,13 @@ fn take_all(alloc: Global, fields: &[Blob], body: &[u8], edits: &Edits) -> Resul
     Ok(text)
 }
 
-/// What formail writes of a mail at a moment, in seconds since 1970, in UTC. `Memory` is the only error.
-pub fn edit(alloc: Global, message: &Message, edits: &Edits, moment: i64) -> Result<Edited, Memory>
+// What formail writes of a mail in two parts.
+fn edit_message(
+    alloc: Global,
+    message: &Message,
+    edits: &Edits,
+    moment: i64,
+) -> Result<Edited, Memory>
     ensures { IfOk result (λ text. text ≡ edited message.now edits.now (line_at moment message.now edits.now)) }
 {
     let texts = field_texts(alloc, message)?;
@@ -229,4 +236,15 @@ pub fn edit(alloc: Global, message: &Message, edits: &Edits, moment: i64) -> Res
     }
     let line = line_before(alloc, message, fields, edits, moment)?;
     mail(alloc, fields, &message.body, edits, &line)
+}
+
+/// What formail writes of a mail at a moment, in seconds since 1970, in UTC. `Memory` is the only error.
+pub fn edit(alloc: Global, mail: &Blob, edits: &Edits, moment: i64) -> Result<Edited, Memory>
+    ensures { IfOk result (λ text. text ≡ edited (split_of mail.now) edits.now (line_at moment (split_of mail.now) edits.now)) }
+{
+    if is_unchanged(alloc, mail, edits)? {
+        return Ok(Edited::whole(alloc, mail.copy(alloc)?));
+    }
+    let message = divide(alloc, mail.copy(alloc)?)?;
+    edit_message(alloc, &message, edits, moment)
 }

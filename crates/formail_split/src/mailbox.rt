@@ -7,8 +7,8 @@ use memchr::memmem;
 use pm_bytes::{Blob, Memory};
 use std::alloc::Global;
 
-/// How many bytes the first mail has.
-fn first_length(bytes: &[u8]) -> usize
+/// How many bytes the first mail of a mailbox has.
+pub fn first_length(bytes: &[u8]) -> usize
     requires { 0 < length bytes.now }
     ensures more { 0 < result }
     ensures within { result ≤ length bytes.now }

@@ -53,7 +53,7 @@ feeds_rose law command request mails a b feeds =
 
 puts_rose : FailuresHaveCalls → (program : Option (List ℕ)) (request : Request) (vars : List Pair) (mails : List (List ℕ)) (a b : HostView) (x y : StreamView)
     → Puts program request vars mails 74 a b x y → EitherRose a b x y
-puts_rose law None request vars mails a b x y writes = inr (writes.written.failed (is_short writes.end writes.status_is))
+puts_rose law None request vars mails a b x y writes = inr (writes.written.written.failed (is_short writes.written.end writes.written.status_is))
 puts_rose law (Some program) request vars mails a b x y feeds = inl (feeds_rose law (command_for vars program request.arguments) request mails a b feeds.0)
 
 marked_small : (some : Bool) (status : ℕ) → status ≡ (if some then 1 else 0) → status ≤ 1

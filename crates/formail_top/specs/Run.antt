@@ -61,13 +61,17 @@ abbrev pub IsWriteStatus : ℕ → WriteEnd → Type 0
 IsWriteStatus status Wrote = status ≡ 0
 IsWriteStatus status (Short n) = status ≡ 74
 
+-- the text was written, or a front of it
+pub record WritesAll (text : List ℕ) (status : ℕ) (before after : StreamView) : Type 0 where
+  pub end : WriteEnd
+  pub written : WritesText text end before after
+  pub status_is : IsWriteStatus status end
+
 -- the output for some mails was written, or a front of it
 pub record Writes (request : Request) (mails : List (List ℕ)) (status : ℕ) (host host' : HostView) (out out' : StreamView) : Type 0 where
   pub text : List ℕ
   pub output : IsOutput request mails text host host'
-  pub end : WriteEnd
-  pub written : WritesText text end out out'
-  pub status_is : IsWriteStatus status end
+  pub written : WritesAll text status out out'
 
 -- the program behind `-s` with its words, the environment of the run, and its folder
 abbrev pub command_for : List Pair → List ℕ → List (List ℕ) → Command

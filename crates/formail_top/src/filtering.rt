@@ -1,11 +1,13 @@
 //! A run of formail.
-ghost use Rattle.std.specs.Prelude.{◌≡◌, ◌⊎◌, IfOk, OnErr, map, string_bytes};
-ghost use Rattle.formail_top.specs.Run.{IsOutput, AsksAtMost, Writes, Puts, kept_status, PutsKept, AfterStep, Remembers, Treats, LeavesCache, Leaves, LeavesOff, Ended};
+ghost use Rattle.std.specs.Prelude.{◌≡◌, ◌⊎◌, ℕ, List, false, IfOk, OnErr, map, string_bytes};
+ghost use Rattle.formail_split.specs.Parts.{parts_of};
+ghost use Rattle.formail_top.specs.Run.{IsOutput, AsksAtMost, WritesAll, Writes, Puts, kept_status, PutsKept, AfterStep, Remembers, Treats, LeavesCache, Leaves, LeavesOff, Ended};
 ghost use Rattle.formail_top.specs.Outputs.{mails_of};
 ghost use Rattle.std.specs.List.{list_any, concat};
 
 use crate::Request;
 use crate::feeding::{command, feed, moment_for};
+use crate::fronts::{unchanged_front, writes_mailbox};
 use crate::outputs::{ids, kept_mails, mails, outputs};
 use crate::request::read_request;
 use formail_cache::{Cache, CacheEnd, cache_step};
@@ -40,6 +42,19 @@ fn room_for(texts: &[Blob]) -> usize {
     room.min(65_536)
 }
 
+// Texts are written one behind the other, and the status says whether all of them were.
+fn write_all<O: Sink>(alloc: Global, texts: &[Blob], out: &mut O) -> Result<u8, Memory>
+    ensures ok { IfOk result (λ status. WritesAll (concat texts.now) status (O.told out.old) (O.told out.new)) }
+    ensures unwritten { OnErr result (O.told out.new ≡ O.told out.old) }
+{
+    let mut room = vec![in alloc; 0u8; room_for(texts)]?;
+    if write_texts(out, texts, room.as_mut_slice()) {
+        Ok(0)
+    } else {
+        Ok(74)
+    }
+}
+
 // The output is written, and the status says whether all of it was.
 fn write<H: Host, O: Sink>(
     alloc: Global,
@@ -55,12 +70,33 @@ fn write<H: Host, O: Sink>(
     ensures child { (H.told host.new).child ≡ (H.told host.old).child }
 {
     let texts = output(alloc, mails, request, host)?;
-    let mut room = vec![in alloc; 0u8; room_for(texts.as_slice())]?;
-    if write_texts(out, texts.as_slice(), room.as_mut_slice()) {
-        Ok(0)
-    } else {
-        Ok(74)
-    }
+    let status = write_all(alloc, texts.as_slice(), out)?;
+    Ok(status)
+}
+
+// The same for all mails of a mailbox: those at its front that are written as they stand go there in one text.
+fn write_mailbox<H: Host, O: Sink>(
+    alloc: Global,
+    mailbox: &Blob,
+    request: &Request,
+    host: &mut H,
+    out: &mut O,
+) -> Result<u8, Memory>
+    requires mails { (bytes : List ℕ) → mails_of request.now bytes ≡ parts_of bytes }
+    requires reply { request.now.reply ≡ false }
+    ensures ok { IfOk result (λ status. Writes request.now (mails_of request.now mailbox.now) status
+        (H.told host.old) (H.told host.new) (O.told out.old) (O.told out.new)) }
+    ensures asked { OnErr result (AsksAtMost (H.told host.old) (H.told host.new)) }
+    ensures unwritten { OnErr result (O.told out.new ≡ O.told out.old) }
+    ensures child { (H.told host.new).child ≡ (H.told host.old).child }
+{
+    let front = unchanged_front(alloc, mailbox, request)?;
+    let rest = mailbox.part(alloc, front, mailbox.len())?;
+    let mails = mails(alloc, &rest, request)?;
+    let mut texts = output(alloc, mails.as_slice(), request, host)?;
+    texts.insert(0, mailbox.part(alloc, 0, front)?)?;
+    let status = write_all(alloc, texts.as_slice(), out)?;
+    Ok(status)
 }
 
 // The output for some mails is written, or given to children.
@@ -216,6 +252,10 @@ fn treat_all<H: Host, O: Sink>(
     ensures unwritten { OnErr result (O.told out.new ≡ O.told out.old) }
     ensures none { (H.told host.new).child ≡ Child.NoChild }
 {
+    if writes_mailbox(request) {
+        let status = write_mailbox(alloc, bytes, request, host, out)?;
+        return Ok(status);
+    }
     let mails = mails(alloc, bytes, request)?;
     let status = treat(alloc, mails.as_slice(), request, vars, host, out)?;
     Ok(status)

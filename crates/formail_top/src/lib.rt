@@ -3,6 +3,7 @@
 
 mod feeding;
 mod filtering;
+mod fronts;
 mod laws;
 mod outputs;
 mod request;

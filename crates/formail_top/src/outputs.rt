@@ -74,12 +74,12 @@ pub fn want_moment(alloc: Global, mails: &[Blob], request: &Request) -> Result<b
 fn output(alloc: Global, mail: &Blob, request: &Request, moment: i64) -> Result<Edited, Memory>
     ensures { IfOk result (λ text. text ≡ output_of request.now moment mail.now) }
 {
-    let message = divide(alloc, mail.copy(alloc)?)?;
-    if request.reply {
-        let text = reply(alloc, &message, request.trust, &request.edits)?;
-        return Ok(Edited::whole(alloc, text));
+    if !request.reply {
+        return edit(alloc, mail, &request.edits, moment);
     }
-    edit(alloc, &message, &request.edits, moment)
+    let message = divide(alloc, mail.copy(alloc)?)?;
+    let text = reply(alloc, &message, request.trust, &request.edits)?;
+    Ok(Edited::whole(alloc, text))
 }
 
 /// The outputs of some mails as texts that stand one behind the other. `moment` is in seconds since 1970, in UTC.

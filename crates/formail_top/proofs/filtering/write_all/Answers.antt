@@ -1,10 +1,9 @@
 use Rattle.std.proofs.Common.{◌≡◌, false, sym, ◌∙◌, refl}
-use Rattle.std.specs.List.{concat}
 use Rattle.pm_streams.specs.Writing.{is_all}
 use Rattle.pm_streams.specs.declared.writing.WriteEnd.{WriteEnd}
 use Rattle.pm_streams.specs.declared.writing.WriteEnd.TheVariants.{Wrote, Short}
 use Rattle.formail_top.specs.Run.{IsWriteStatus}
-use Rattle.formail_top.proofs.filtering.write.Goals as goal
+use Rattle.formail_top.proofs.filtering.write_all.Goals as goal
 
 short_status : (end : WriteEnd) → false ≡ is_all end → IsWriteStatus 74 end
 short_status Wrote e = absurd (cc)
@@ -12,9 +11,7 @@ short_status (Short n) e = refl
 
 pub returns-clause-ok : goal.returns-clause-ok
 returns-clause-ok g c = record {
-  text = concat c.in_ok-texts.texts.items;
-  output = c.in_ok-texts.ensures.ok;
   end = c.write_texts.ensures.end;
-  written = rw c.as_slice-2.ensures.value at c.write_texts.ensures.written;
+  written = c.write_texts.ensures.written;
   status_is = short_status c.write_texts.ensures.end (sym c.if-write_texts.false ∙ c.write_texts.ensures.all_is);
 }
