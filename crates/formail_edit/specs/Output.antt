@@ -15,6 +15,7 @@ use Rattle.formail_edit.specs.declared.edits.Edits.{Edits}
 abbrev pub prefixed_line : List ℕ → List ℕ → List ℕ
 prefixed_line prefix line = if starts_with nat_eq line (codes "From ") then prefix ++ line else line
 
+-- the body under these edits: it has the prefixes, or under `-b` stays as it is
 abbrev pub body_for : Edits → List ℕ → List ℕ
 body_for edits body = if edits.keep_body then body else flat_map (prefixed_line edits.prefix) (lines body)
 

@@ -13,9 +13,11 @@ use Rattle.formail_edit.specs.declared.edits.PutKind.TheVariants.{Old, Replace, 
 use Rattle.formail_edit.specs.declared.edits.Unique.{Unique}
 use Rattle.formail_edit.specs.declared.edits.Edits.{Edits}
 
+-- a colon
 abbrev pub is_colon : ℕ → Bool
 is_colon byte = byte == 58
 
+-- whether a name ends with its colon
 abbrev pub has_colon : List ℕ → Bool
 has_colon text = ends_with nat_eq text (codes ":")
 
@@ -30,6 +32,7 @@ abbrev pub renamed_field : Rename → Keyed → List (List ℕ)
 renamed_field rename field =
     (if means rename.old field then name_for rename ++ drop (length rename.old) field.text else field.text) ∷ []
 
+-- the fields behind all renamings, in their order
 abbrev pub renamed : List Rename → List (List ℕ) → List (List ℕ)
 renamed [] texts = texts
 renamed (rename ∷ renames) texts = renamed renames (each (renamed_field rename) texts)
@@ -60,6 +63,7 @@ put_one put texts =
     each (put_aside put.kind (put_name put.text)) texts
     ++ (if is_added put.kind put.text texts then (put.text ++ codes "\n") ∷ [] else [])
 
+-- the fields behind all new ones, in their order
 abbrev pub with_puts : List Put → List (List ℕ) → List (List ℕ)
 with_puts [] texts = texts
 with_puts (put ∷ puts) texts = with_puts puts (put_one put texts)
@@ -78,12 +82,15 @@ last_only name (field ∷ fields) =
     if means name field && list_any (means name) fields then last_only name fields
     else field ∷ last_only name fields
 
+-- the first or the last of the fields that the name means stays
 abbrev pub unique_of : Unique → List Keyed → List Keyed
 unique_of unique fields = if unique.last then last_only unique.name fields else first_only unique.name false fields
 
+-- the texts of fields
 abbrev pub texts_in : List Keyed → List (List ℕ)
 texts_in fields = map (λ field. field.text) fields
 
+-- the same for each name, in their order
 abbrev pub with_uniques : List Unique → List (List ℕ) → List (List ℕ)
 with_uniques [] texts = texts
 with_uniques (unique ∷ uniques) texts = with_uniques uniques (texts_in (unique_of unique (keyed true texts)))
@@ -98,6 +105,7 @@ zapped_as Named field =
     if list_all is_space_byte (content_in field) then [] else (name_in field ++ spaced (content_in field)) ∷ []
 zapped_as kind field = field.text ∷ []
 
+-- the same for a field of any kind
 abbrev pub zapped_field : Keyed → List (List ℕ)
 zapped_field field = zapped_as field.key.kind field
 

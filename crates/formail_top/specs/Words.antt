@@ -74,6 +74,7 @@ usable_name word = if is_usable word then Some word else None
 abbrev pub bound_in : ℕ → Option ℕ
 bound_in most = if nat_le 1 most && nat_le most 1_048_576 then Some most else None
 
+-- the same, as a text says it
 abbrev pub bound_for : List ℕ → Option ℕ
 bound_for text = if nat_le (length text) 7 then option_and_then bound_in (count_of text) else None
 

@@ -54,6 +54,7 @@ abbrev pub copy_as : Option FolderKind → Flags → Mind → List ℕ → Copy
 copy_as None flags p name = ToFile (file_copy_for flags p name)
 copy_as (Some kind) flags p name = ToFolder (folder_copy_for kind flags p name)
 
+-- the copy for a destination
 abbrev pub copy_for : Flags → Mind → Destination → Copy
 copy_for flags p destination = copy_as destination.kind flags p destination.name
 
@@ -84,6 +85,7 @@ abbrev pub IsShown : Copy → Type 0
 IsShown (ToFile copy) = copy.shown ≡ copy.name
 IsShown (ToFolder copy) = copy.shown ≡ copy.folder
 
+-- each of these is
 abbrev pub AllShown : List Copy → Type 0
 AllShown [] = Unit {0}
 AllShown (copy ∷ copies) = IsShown copy × AllShown copies

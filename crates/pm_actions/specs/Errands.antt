@@ -37,6 +37,7 @@ task_of t = record { flags = t.flags; lock = t.lock.now; automatic = t.automatic
 abbrev pub tried_of : Outcome → Mind → Tried
 tried_of outcome p = record { outcome = outcome; mind = p }
 
+-- what was tried with an rcfile, with the process then
 abbrev pub trying_of : Trial → Mind → Trying
 trying_of trial p = record { trial = trial; mind = p }
 

@@ -27,6 +27,7 @@ found_folder entries = list_any (λ e. is_folder_there e.reply) entries
 abbrev pub has_folder : List Destination → Bool
 has_folder destinations = list_any (λ d. is_some d.kind) destinations
 
+-- whether a copy is for a folder
 abbrev pub is_folder_copy : Copy → Bool
 is_folder_copy (ToFile copy) = false
 is_folder_copy (ToFolder copy) = true

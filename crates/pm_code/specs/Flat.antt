@@ -21,6 +21,7 @@ flat_of (step.Plain recipe) = Does (Recipe (top_of recipe) (act_of recipe.action
 flat_of (step.Enter recipe end) = Enters (top_of recipe) end
 flat_of (step.Leave enter) = Leaves enter
 
+-- the steps of code, in their order
 abbrev pub flats_of : List Step → List Flat
 flats_of steps = map flat_of steps
 

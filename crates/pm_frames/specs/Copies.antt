@@ -38,6 +38,7 @@ pub record Left : Type 0 where
   pub place : ℕ
   pub blocks : List Open
 
+-- what an rcfile that waits has left
 abbrev pub left_of : Waiting → Left
 left_of w = record { name = w.name; steps = flats_of w.code.steps.items; place = w.place; blocks = w.blocks.items }
 

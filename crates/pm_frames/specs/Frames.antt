@@ -49,6 +49,7 @@ abbrev pub left_outside : List Waiting → ℕ
 left_outside [] = 0
 left_outside (w ∷ ws) = 1 + 2 * (length w.code.steps.items - w.place) + length w.blocks.items + left_outside ws
 
+-- the same of the rcfile that is read and those that wait
 abbrev pub left_in : RcFrame → ℕ
 left_in f = 2 * (length f.code.steps.items - f.place) + length f.blocks.items + left_outside f.outer.items
 

@@ -33,15 +33,18 @@ pub record IsNextFeed (left : List ℕ) (call : Call) : Type 0 where
   pub front : IsFront part left
   pub some : 1 ≤ length part
 
+-- the next call of a feeding that has come so far
 abbrev pub FeedAsks : List ℕ → FeedState → Call → Type 0
 FeedAsks input (FeedOn taken) call = IsNextFeed (drop taken input) call
 FeedAsks input (FeedOver end) call = ⊥
 
+-- what an answer makes of it, behind so many bytes that were taken
 abbrev pub heard_feed : ℕ → Answer → FeedState
 heard_feed taken (AnswerFeed (FedSome n)) = FeedOn (taken + n)
 heard_feed taken (AnswerFeed FedClosed) = FeedOver (FedUpTo taken)
 heard_feed taken other = FeedOver (FedFailed taken)
 
+-- the same of any state; what is over stays so
 abbrev pub feed_heard : FeedState → Answer → FeedState
 feed_heard (FeedOn taken) answer = heard_feed taken answer
 feed_heard (FeedOver end) answer = FeedOver end
@@ -71,18 +74,22 @@ pub record IsNextTake (so_far : List ℕ) (call : Call) : Type 0 where
   pub small : room ≤ 4096
   pub wanted : length so_far ≤ 67108864
 
+-- the next call of a taking that has come so far
 abbrev pub TakeAsks : TakeState → Call → Type 0
 TakeAsks (TakeOn so_far) call = IsNextTake so_far call
 TakeAsks (TakeOver end) call = ⊥
 
+-- more output came; where none did, all of it is there
 abbrev pub took_more : List ℕ → List ℕ → TakeState
 took_more so_far [] = TakeOver (CameAll so_far)
 took_more so_far (b ∷ more) = TakeOn (so_far ++ b ∷ more)
 
+-- what an answer makes of it, behind this output
 abbrev pub heard_take : List ℕ → Answer → TakeState
 heard_take so_far (AnswerTake more) = took_more so_far more
 heard_take so_far other = TakeOver CameFailed
 
+-- the same of any state; what is over stays so
 abbrev pub take_heard : TakeState → Answer → TakeState
 take_heard (TakeOn so_far) answer = heard_take so_far answer
 take_heard (TakeOver end) answer = TakeOver end
@@ -107,6 +114,7 @@ abbrev pub takes_output : Bool → FeedEnd → Bool
 takes_output want (FedFailed took) = false
 takes_output want other = want
 
+-- the calls that take the output; where it is not asked for, none
 abbrev pub Takes : Bool → TakeEnd → List Logged → Type 0
 Takes true end calls = OutputGroup end calls
 Takes false end calls = (end ≡ CameAll []) × (calls ≡ [])
@@ -123,11 +131,13 @@ finish_reply took (Code code) reply = reply code
 finish_reply took (Signal signal) reply = reply (min (signal + 128) 255)
 finish_reply took FinishFailed reply = Broken took
 
+-- what a run comes to that took so many bytes, by its output and its end
 abbrev pub came_reply : ℕ → TakeEnd → Finished → Reply
 came_reply took (CameAll output) finished = finish_reply took finished (λ code. Ended code took output)
 came_reply took CameFailed finished = Broken took
 came_reply took (CameLong count) finished = finish_reply took finished (λ code. TooLong count)
 
+-- what a run comes to, by how it was fed, its output and its end
 abbrev pub run_reply : ℕ → FeedEnd → TakeEnd → Finished → Reply
 run_reply len (FedFailed took) came finished = Broken took
 run_reply len FedAll came finished = came_reply len came finished
@@ -138,6 +148,7 @@ abbrev pub run_calls : Command → Bool → List Logged → List Logged → Fini
 run_calls command want feeds takes finished =
     logged (Start command want) (AnswerStart StartedOk) ∷ (feeds ++ (takes ++ logged Finish (AnswerFinish finished) ∷ []))
 
+-- the calls of a child that was started, in their order, and what the run comes to
 pub record RunsChild (command : Command) (input : List ℕ) (want : Bool) (reply : Reply) (calls : List Logged) : Type 0 where
   pub fed : FeedEnd
   pub came : TakeEnd
@@ -171,6 +182,7 @@ abbrev pub fed_by : Call → Answer → List ℕ
 fed_by (Feed piece) (AnswerFeed (FedSome n)) = take n piece
 fed_by call answer = []
 
+-- what calls fed
 abbrev pub fed_bytes : List Logged → List ℕ
 fed_bytes [] = []
 fed_bytes (c ∷ cs) = fed_by c.call c.answer ++ fed_bytes cs
@@ -180,6 +192,7 @@ abbrev pub taken_by : Call → Answer → List ℕ
 taken_by (Take room) (AnswerTake bytes) = bytes
 taken_by call answer = []
 
+-- what calls took of the output
 abbrev pub taken_bytes : List Logged → List ℕ
 taken_bytes [] = []
 taken_bytes (c ∷ cs) = taken_by c.call c.answer ++ taken_bytes cs
@@ -192,6 +205,7 @@ with_input command bytes w = record { nodes = w.nodes; moment = w.moment; others
 abbrev pub after_child_ran : Command → List Logged → World → World
 after_child_ran command calls w = after_others (with_input command (fed_bytes calls) w)
 
+-- the world behind a run; where nothing was started, nothing changed
 abbrev pub after_run : Reply → Command → List Logged → World → World
 after_run NotStarted command calls w = w
 after_run other command calls w = after_child_ran command calls w

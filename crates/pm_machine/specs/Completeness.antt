@@ -43,6 +43,7 @@ IsServed (Append name piece) reply = IsTaken reply
 IsServed (Place kind folder prefix piece stamp) reply = IsFiledAway reply
 IsServed other reply = Unit {0}
 
+-- each of these was
 abbrev pub AllServed : List Entry → Type 0
 AllServed [] = Unit {0}
 AllServed (e ∷ es) = IsServed e.act e.reply × AllServed es

@@ -109,7 +109,7 @@ DeliversAt (FallingOff (mailbox ∷ rest) p) asked flags words mind = (asked ≡
 DeliversAt other asked flags words mind = ⊥
 
 -- where a process stands so, a recipe hands the mail behind these entries to the program of its action, a pipe without the flag f or a
--- forward, or writes it to standard output
+-- forward
 abbrev pub PipesAt : State → List Entry → Flags → Command → Mind → Type 0
 PipesAt (Running (Do (Recipe top (Pipe line)) ∷ rest) p) asked flags command mind =
     (ready : Ready) × IsRead top (pipe_task top.flags top.lock line) (line_reading line) p asked ready (Runs command) × (top.flags.filter ≡ false)
@@ -119,6 +119,7 @@ PipesAt (Running (Do (Recipe top (Forward text)) ∷ rest) p) asked flags comman
     × (flags ≡ top.flags) × (mind ≡ ready.mind)
 PipesAt other asked flags command mind = ⊥
 
+-- where a process stands so, a recipe writes the mail behind these entries to standard output
 abbrev pub WritesAt : State → List Entry → Flags → Mind → Type 0
 WritesAt (Running (Do (Recipe top WriteOutAction) ∷ rest) p) asked flags mind =
     (ready : Ready) × IsReady top (lock_commands (write_task top.flags top.lock)) (λ q. []) p asked ready × (flags ≡ top.flags) × (mind ≡ ready.mind)

@@ -133,6 +133,7 @@ rcfiles_of line home = if is_without line.rcfiles then in_home home (codes ".pro
 abbrev pub sets_folder : List Pair → Bool
 sets_folder pairs = list_any (λ pair. bytes_eq pair.name (codes "MAILDIR")) pairs
 
+-- how rcfiles are opened for these words
 abbrev pub opening_of : CommandLine → OpeningRule
 opening_of line = record { is_implied = is_without line.rcfiles; keeps_folder = sets_folder line.values }
 
@@ -236,6 +237,7 @@ abbrev pub block_of_act : Act → Trees
 block_of_act (Block trees) = trees
 block_of_act other = nil
 
+-- the statements in the block of a recipe; without a block there are none
 abbrev pub block_of : Tree → Trees
 block_of (Recipe top act) = block_of_act act
 block_of other = nil

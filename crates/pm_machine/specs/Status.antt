@@ -64,11 +64,12 @@ abbrev pub exit_status : End → ℕ → Mind → ℕ
 exit_status NoRc trapped p = status_number NoInput
 exit_status other trapped p = chosen_status other trapped p
 
--- an EXITCODE that isn't set gets the status so far
+-- whether a variable is set
 abbrev pub is_set : Option (List ℕ) → Bool
 is_set None = false
 is_set (Some value) = true
 
+-- an EXITCODE that isn't set gets the status so far
 abbrev pub with_exit_status : End → Mind → Mind
 with_exit_status end p =
     if is_set (value_of (codes "EXITCODE") p.vars.variables) then p else with_variable (codes "EXITCODE") (decimal (base_status end p)) p

@@ -111,6 +111,7 @@ file_as None flags name p =
     to_file flags (full_name p.base name) (mailbox_piece flags p) (stored_in name (file_size (full_name p.base name) flags p) p) p
 file_as (Some kind) flags name p = in_folder kind (full_name p.base name) [] (folder_piece flags p) p
 
+-- the filing into one destination
 abbrev pub file_one : Flags → Destination → Mind → Plan Filing
 file_one flags destination p = file_as destination.kind flags destination.name p
 

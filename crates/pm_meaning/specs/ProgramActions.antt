@@ -120,6 +120,7 @@ refilled Body output message = message.head ++ output
 abbrev pub mail_if : Outcome → List ℕ → Mind → Mind
 mail_if outcome mail p = if is_fine outcome then with_message (split_of mail) p else p
 
+-- what a filter comes to that ended so and gave this mail
 abbrev pub filtered_to : Flags → ℕ → RunEnd → List ℕ → Mind → Tried
 filtered_to flags count end mail p =
     let outcome = unless_too_long (feed_outcome flags count end) (length mail) in
@@ -150,6 +151,7 @@ captured_in name output Done p = with_variable name (trimmed output) p
 captured_in name output (Overflow size) p = overflowed p
 captured_in name output other p = p
 
+-- what a program comes to whose output becomes a variable
 abbrev pub captured_as : Flags → List ℕ → RunEnd → List ℕ → Mind → Tried
 captured_as flags name end output p =
     let outcome = unless_overflow (end_outcome flags end) (length output) in
@@ -260,10 +262,11 @@ abbrev pub is_automatic : Option (List ℕ) → Bool
 is_automatic None = false
 is_automatic (Some text) = is_empty text
 
--- the text that names the lock file, and how it is expanded
+-- the text that names the lock file
 abbrev pub lock_source : Task → List ℕ
 lock_source t = if is_automatic t.lock then t.automatic else text_or [] t.lock
 
+-- how that text is expanded: the automatic one's is quoted
 abbrev pub lock_mode : Task → Mode
 lock_mode t = if is_automatic t.lock then Quoted else One
 
@@ -338,6 +341,7 @@ pipe_purpose flags line = if flags.filter then Filters else Delivers line
 abbrev pub pipe_task : Flags → Option (List ℕ) → List ℕ → Task
 pipe_task flags lock line = record { flags = flags; lock = lock; automatic = appended_name line; text = line; purpose = pipe_purpose flags line }
 
+-- `| program`
 abbrev pub pipe : Flags → Option (List ℕ) → List ℕ → Mind → Plan Turn
 pipe flags lock line p = do_program (pipe_task flags lock line) (line_reading line p) p
 
@@ -345,6 +349,7 @@ pipe flags lock line p = do_program (pipe_task flags lock line) (line_reading li
 abbrev pub capture_task : Flags → Option (List ℕ) → List ℕ → List ℕ → Task
 capture_task flags lock name line = record { flags = flags; lock = lock; automatic = appended_name line; text = line; purpose = Captures name }
 
+-- `NAME=| program`
 abbrev pub capture_line : Flags → Option (List ℕ) → List ℕ → List ℕ → Mind → Plan Turn
 capture_line flags lock name line p = do_program (capture_task flags lock name line) (line_reading line p) p
 
@@ -352,6 +357,7 @@ capture_line flags lock name line p = do_program (capture_task flags lock name l
 abbrev pub forward_task : Flags → Option (List ℕ) → List ℕ → Task
 forward_task flags lock text = record { flags = flags; lock = lock; automatic = []; text = text; purpose = Delivers (codes "!" ++ text) }
 
+-- `! addresses`
 abbrev pub forward : Flags → Option (List ℕ) → List ℕ → Mind → Plan Turn
 forward flags lock text p = do_program (forward_task flags lock text) (forward_reading text) p
 
@@ -363,5 +369,6 @@ write_task flags lock = record { flags = flags; lock = lock; automatic = []; tex
 abbrev pub write_with : Task → Ready → Plan Turn
 write_with t ready = lock_first t ready.lock_outputs (λ word. do_named t word (write (fed_piece t.flags ready.mind)) ready.mind) ready.mind
 
+-- `|` alone: the piece goes to the output
 abbrev pub write_out : Flags → Option (List ℕ) → Mind → Plan Turn
 write_out flags lock p = let t = write_task flags lock in and_then (make_ready (lock_commands t) [] p) (λ ready. write_with t ready)

@@ -75,6 +75,7 @@ shell_reading line = record { commands = []; read = λ outputs p. line_of_words 
 abbrev pub plain_reading : List ℕ → Reading
 plain_reading line = record { commands = commands_in Many line; read = λ outputs p. expanded_line outputs line p }
 
+-- how a program's line is read: by a shell where it needs one
 abbrev pub line_reading : List ℕ → Mind → Reading
 line_reading line p = if needs_shell line p then shell_reading line else plain_reading line
 

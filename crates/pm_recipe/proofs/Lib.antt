@@ -26,4 +26,5 @@ pub mod LineEnds
 pub mod Saying
 pub mod Listing
 pub mod Parsing
+pub mod FlagLetters
 pub mod OneRc

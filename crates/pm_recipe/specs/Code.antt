@@ -94,5 +94,6 @@ mutual
   stack-act WriteOut top rest = refl
   stack-act (Block trees) top rest = ap (put_block top) (stack-nodes trees rest)
 
+-- the statements of their nodes are those statements
 pub trees_from-nodes : (trees : Trees) → trees_from (nodes_of trees) ≡ trees
 trees_from-nodes trees = ap top_of (stack-nodes trees [])

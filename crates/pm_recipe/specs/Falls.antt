@@ -24,6 +24,7 @@ deep-tree (code.Unset name) = omega arith
 deep-tree (code.Recipe recipe) = omega (arith, deep-act recipe.action)
 deep-tree (code.Defect line text) = omega arith
 
+-- each statement of a list is smaller than the list
 pub most_le-trees : (statements : List Statement) → most deep-Statement statements ≤ trees_size (trees_of statements)
 most_le-trees [] = omega arith
 most_le-trees (s ∷ ss) = omega (arith, most_le-trees ss, deep-tree s)

@@ -1,5 +1,6 @@
 -- The letter of each flag (procmailrc(5), "Recipe format").
-use Rattle.std.specs.Prelude.{◌≡◌, true, false, codes}
+use Rattle.std.specs.Prelude.{ℕ, [], ◌∷◌, ◌≡◌, true, false, codes}
+use Rattle.pm_recipe.specs.Bytes.{is_flag_letter}
 use Rattle.pm_recipe.specs.Colon.{flags_of}
 use Rattle.pm_recipe.specs.declared.tree.Flags.{Flags}
 
@@ -23,7 +24,7 @@ no_flags = record {
   on_error = false;
 }
 
--- the flag that each letter sets, and no other
+-- the flag that each letter sets, and no other; and the letters of flags are the bytes that set one
 pub record AreLetters : Type 0 where
   pub head : flags_of (codes "H") ≡ record no_flags { search_head = true }
   pub body : flags_of (codes "B") ≡ record no_flags { search_body = true }
@@ -40,3 +41,5 @@ pub record AreLetters : Type 0 where
   pub and_ok : flags_of (codes "a") ≡ record no_flags { and_ok = true }
   pub or_else : flags_of (codes "E") ≡ record no_flags { or_else = true }
   pub on_error : flags_of (codes "e") ≡ record no_flags { on_error = true }
+  pub others : (byte : ℕ) → is_flag_letter byte ≡ false → flags_of (byte ∷ []) ≡ no_flags
+  pub letters : (byte : ℕ) → flags_of (byte ∷ []) ≡ no_flags → is_flag_letter byte ≡ false

@@ -37,7 +37,7 @@ pub fn colon_line_law()
         → junk ≡ has_junk text }
 {}
 
-/// Each letter sets its flag.
+/// Each letter sets its flag, and no other byte sets one.
 pub fn letters_law()
     ensures { AreLetters }
 {}

@@ -64,12 +64,14 @@ abbrev pub ReadsTo : OpeningRule → List ℕ → Mind → (List (List ℕ) → 
 ReadsTo rule name p to x y a b =
     (names : List (List ℕ)) → Executes {R = Next State Event} (and_then (ask (ReadFile name)) (after_read rule name names p)) (Go (to names)) x y a b
 
+-- the rcfile was read, and this is its code
 pub record ReadsCode (rule : OpeningRule) (name : List ℕ) (code : Code) (p q : Mind) (x y : JournalState) (a b : View) : Type 0 where
   pub mind : q ≡ entered rule name p
   pub trees : Trees
   pub is_code : IsCode code trees
   pub reads : ReadsTo rule name p (λ names. Running (ahead trees []) (begun_block (entered rule name (with_later names p)))) x y a b
 
+-- what came of the reading of one rcfile
 abbrev pub ReadsOne : OpeningRule → List ℕ → Tried → Mind → Mind → JournalState → JournalState → View → View → Type 0
 ReadsOne rule name (Content code) p q x y a b = ReadsCode rule name code p q x y a b
 ReadsOne rule name TriedEnds p q x y a b = (q ≡ p) × ReadsTo rule name p (λ names. Over NoRc p) x y a b
@@ -79,6 +81,7 @@ ReadsOne rule name Passed p q x y a b = (q ≡ p) × ReadsTo rule name p (λ nam
 abbrev pub PassesTo : OpeningRule → List ℕ → Bool → Mind → (List (List ℕ) → State) → JournalState → JournalState → View → View → Type 0
 PassesTo rule name missing p to x y a b = (names : List (List ℕ)) → Executes {R = Next State Event} (pass_over rule name names missing p) (Go (to names)) x y a b
 
+-- the same, by how its try ended
 abbrev pub PassesOver : OpeningRule → List ℕ → Bool → Tried → Mind → JournalState → JournalState → View → View → Type 0
 PassesOver rule name missing (Content code) p x y a b = ⊥
 PassesOver rule name missing TriedEnds p x y a b = PassesTo rule name missing p (λ names. Over NoRc p) x y a b

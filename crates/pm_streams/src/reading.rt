@@ -24,7 +24,7 @@ enum Part {
 }
 
 /// The most bytes that a message may have.
-pub const LIMIT: usize = 67_108_864;
+pub const MOST_LENGTH: usize = 67_108_864;
 
 /// Reads the source to its end, to its first failed read, or one byte past the limit.
 pub fn read_mail<S: Source>(alloc: Global, source: &mut S) -> Result<Mail, Memory>
@@ -32,9 +32,9 @@ pub fn read_mail<S: Source>(alloc: Global, source: &mut S) -> Result<Mail, Memor
 {
     let mut bytes = Blob::empty(alloc);
     let mut room = Vec::new(alloc);
-    while bytes.len() <= LIMIT {
+    while bytes.len() <= MOST_LENGTH {
         widen(&mut room, bytes.len())?;
-        let most = (LIMIT + 1 - bytes.len()).min(room.len());
+        let most = (MOST_LENGTH + 1 - bytes.len()).min(room.len());
         match read_part(source, &mut bytes, &mut room[..most])? {
             Part::More => {}
             Part::End => return Ok(Mail::Bytes(bytes)),

@@ -29,6 +29,7 @@ totals_of entries = record {
   bytes = sum_by (λ e. piece_length e.act) entries;
 }
 
+-- nothing was counted yet
 abbrev pub none : Totals
 none = record { entries = 0; appends = 0; locks = 0; bytes = 0 }
 

@@ -11,5 +11,6 @@ telling left = record { bytes = Some left; faults = 0 }
 abbrev pub left_of : MessageSource → List ℕ
 left_of s = drop s.at s.bytes.items
 
+-- a source as the input that a run reads
 abbrev pub source_view : MessageSource → StreamView
 source_view s = telling (left_of s)

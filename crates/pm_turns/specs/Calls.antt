@@ -50,6 +50,7 @@ call_by lock name piece (Appending a) mailbox locked will = append_call name pie
 call_by lock name piece (Giving end) mailbox locked will = logged (CallRemove lock) (AnswerRemove (give_answer locked will)) ∷ []
 call_by lock name piece other mailbox locked will = []
 
+-- the same for a writer that is there
 abbrev pub call_of : List ℕ → List ℕ → Turning → Option Delivery → Will → List Logged
 call_of lock name s None will = []
 call_of lock name s (Some d) will = call_by lock name d.piece d.place s.mailbox s.locked will

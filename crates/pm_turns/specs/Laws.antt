@@ -19,6 +19,7 @@ pub record Opening : Type 0 where
   pub locked : Bool
   pub writers : List Writer
 
+-- the turns before the first one
 abbrev pub opened : Opening → Turning
 opened o = opens o.mailbox o.locked o.writers
 

@@ -24,6 +24,7 @@ by_place piece (Giving end) = by_end piece end
 by_place piece (Gone end answer) = by_end piece end
 by_place piece other = []
 
+-- the same of a writer that is there
 abbrev pub by_writer : Option Delivery → List ℕ
 by_writer None = []
 by_writer (Some d) = by_place d.piece d.place
@@ -44,6 +45,7 @@ abbrev pub IsGone : Place → Type 0
 IsGone (Gone end answer) = Unit {0}
 IsGone other = ⊥
 
+-- the same of a writer that is there
 abbrev pub HasGone : Option Delivery → Type 0
 HasGone None = ⊥
 HasGone (Some d) = IsGone d.place
@@ -59,11 +61,13 @@ IsCleanEnd IsFolder = ⊥
 IsCleanEnd Raced = ⊥
 IsCleanEnd other = Unit {0}
 
+-- the same of a writer, wherever it stands
 abbrev pub IsClean : Place → Type 0
 IsClean (Giving end) = IsCleanEnd end
 IsClean (Gone end answer) = IsCleanEnd end
 IsClean other = Unit {0}
 
+-- one text begins the other
 abbrev pub IsPrefixOf : List ℕ → List ℕ → Type 0
 IsPrefixOf xs ys = (rest : List ℕ) × (xs ++ rest ≡ ys)
 
@@ -86,6 +90,7 @@ pub record AtRest (opening : List ℕ) (s : Turning) : Type 0 where
   pub gone : AllGone s.writers s.order
   pub is : text s.mailbox ≡ opening ++ added s.writers s.order
 
+-- the removal failed
 abbrev pub is_failed : Removed → Bool
 is_failed RemoveFailed = true
 is_failed other = false
@@ -97,6 +102,7 @@ keeps_lock (Giving end) = true
 keeps_lock (Gone end answer) = is_failed answer
 keeps_lock other = false
 
+-- one of these does
 abbrev pub some_keeps : List Delivery → Bool
 some_keeps [] = false
 some_keeps (d ∷ ds) = keeps_lock d.place || some_keeps ds

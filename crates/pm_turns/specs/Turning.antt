@@ -43,6 +43,7 @@ pub record Event : Type 0 where
   pub writer : ℕ
   pub will : Will
 
+-- this writer makes its next call, and it is answered by this will
 abbrev pub event : ℕ → Will → Event
 event writer will = record { writer = writer; will = will }
 
@@ -137,6 +138,7 @@ mailbox_after step answer piece mailbox = mailbox
 
 -- The writers
 
+-- where a writer stands by the next step of its taking
 abbrev pub at_lock_step : ℕ → Taking → LockStep → Place
 at_lock_step len t (Finish (Held sleeps forced)) = Appending (appending len true)
 at_lock_step len t (Finish end) = Away end
@@ -146,6 +148,7 @@ at_lock_step len t other = Locking t
 abbrev pub lock_place : ℕ → Taking → Place
 lock_place len t = at_lock_step len t (lock_step t.at)
 
+-- where a writer stands by the next step of its append
 abbrev pub at_step : Append → AppendStep → Place
 at_step a (AppendFinish end) = Giving end
 at_step a other = Appending a
@@ -154,21 +157,25 @@ at_step a other = Appending a
 abbrev pub append_place : Append → Place
 append_place a = at_step a (append_step a.len a.sync a.at)
 
+-- a writer with this piece that stands here
 abbrev pub delivery : List ℕ → Place → Delivery
 delivery piece place = record { piece = piece; place = place }
 
 -- The next call of a writer: where it stands then, the mailbox, the lock
 
+-- where it stands then
 abbrev pub place_by : List ℕ → Place → Option (List ℕ) → Bool → Will → Place
 place_by piece (Locking t) mailbox locked will = lock_place (length piece) (taking_heard t (lock_answer (lock_step t.at) locked will))
 place_by piece (Appending a) mailbox locked will = append_place (appending_heard a (append_answer (append_step a.len a.sync a.at) (length piece) mailbox will))
 place_by piece (Giving end) mailbox locked will = Gone end (give_answer locked will)
 place_by piece place mailbox locked will = place
 
+-- the mailbox then
 abbrev pub mailbox_by : List ℕ → Place → Option (List ℕ) → Will → Option (List ℕ)
 mailbox_by piece (Appending a) mailbox will = mailbox_after (append_step a.len a.sync a.at) (append_answer (append_step a.len a.sync a.at) (length piece) mailbox will) piece mailbox
 mailbox_by piece place mailbox will = mailbox
 
+-- how the lock goes
 abbrev pub outcome_by : Place → Bool → Will → Outcome
 outcome_by (Locking t) locked will = lock_outcome (lock_answer (lock_step t.at) locked will) locked
 outcome_by (Giving end) locked will = give_outcome (give_answer locked will) locked
@@ -190,10 +197,12 @@ put s w piece place mailbox outcome = record {
   forced = outcome.forced;
 }
 
+-- a turn of a writer that stands here; one that has ended changes nothing
 abbrev pub place_turn : Turning → ℕ → List ℕ → Place → Will → Turning
 place_turn s w piece place will =
     cond (is_over place) s (put s w piece (place_by piece place s.mailbox s.locked will) (mailbox_by piece place s.mailbox will) (outcome_by place s.locked will))
 
+-- a turn of a writer that is there
 abbrev pub turn : Turning → ℕ → Option Delivery → Will → Turning
 turn s w None will = s
 turn s w (Some d) will = place_turn s w d.piece d.place will
@@ -207,6 +216,7 @@ abbrev pub run : List Event → Turning → Turning
 run [] s = s
 run (e ∷ es) s = run es (happens s e)
 
+-- a writer before its first call
 abbrev pub begun : Writer → Delivery
 begun w = delivery w.piece (Locking (taking w.rule))
 
@@ -214,6 +224,7 @@ begun w = delivery w.piece (Locking (taking w.rule))
 abbrev pub opens : Option (List ℕ) → Bool → List Writer → Turning
 opens mailbox locked writers = record { mailbox = mailbox; locked = locked; writers = map begun writers; order = []; forced = false }
 
+-- whether a writer that is there has nothing more to ask
 abbrev pub has_ended : Option Delivery → Bool
 has_ended None = false
 has_ended (Some d) = is_over d.place

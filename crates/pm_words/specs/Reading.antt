@@ -22,6 +22,7 @@ added From text line = with_sender text line
 added Value text line = with_variable text line
 added Rcfile text line = with_rcfile text line
 
+-- whether it is an rcfile that a word adds
 abbrev pub adds_rcfile : Adds → Bool
 adds_rcfile Rcfile = true
 adds_rcfile other = false

@@ -51,18 +51,23 @@ renewal text = if bytes_eq text (codes "-") then Date else Sender text
 abbrev pub with_argument : List ℕ → CommandLine → CommandLine
 with_argument text line = record line { arguments = line.arguments ++ text ∷ [] }
 
+-- with a renewed line `From `, of this sender
 abbrev pub with_sender : List ℕ → CommandLine → CommandLine
 with_sender text line = record line { renew = renewal text }
 
+-- an equals sign
 abbrev pub is_equals : ℕ → Bool
 is_equals byte = byte == 61
 
+-- the name and the value of a word with an equals sign
 abbrev pub variable_of : List ℕ → Pair
 variable_of word = record { name = before_first is_equals word; value = after_first is_equals word }
 
+-- with one more variable
 abbrev pub with_variable : List ℕ → CommandLine → CommandLine
 with_variable word line = record line { values = line.values ++ variable_of word ∷ [] }
 
+-- with one more rcfile
 abbrev pub with_rcfile : List ℕ → CommandLine → CommandLine
 with_rcfile word line = record line { rcfiles = line.rcfiles ++ word ∷ [] }
 
@@ -143,6 +148,7 @@ filter_line (rcfile ∷ behind) line =
 abbrev pub finished : CommandLine → Option CommandLine
 finished line = if line.filter then filter_line line.rcfiles line else Some line
 
+-- the end of the words; a letter that awaits its text is an error
 abbrev pub closed : Next → CommandLine → Option CommandLine
 closed Any line = finished line
 closed Operand line = finished line

@@ -1,4 +1,5 @@
 use Rattle.std.proofs.Common.{refl}
+use Rattle.pm_recipe.proofs.FlagLetters.{no-letter, no-flag}
 use Rattle.pm_recipe.proofs.laws.letters_law.Goals as goal
 
 pub returns : goal.returns
@@ -18,4 +19,6 @@ returns c = record {
   and_ok = refl;
   or_else = refl;
   on_error = refl;
+  others = λ byte x. no-letter byte x;
+  letters = λ byte x. no-flag byte x;
 }
