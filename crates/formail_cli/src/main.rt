@@ -3,18 +3,23 @@
 
 use formail_top::formail;
 use pm_bytes::{Environ, Memory, Pairs};
-use pm_real::{RealHost, RealSink, RealSource};
+use pm_real::{RealHost, RealSink, RealSource, Setup};
 use pm_start::{Words, machine_name, read_environment, read_words};
+use std::fs::File;
 use std::process::ExitCode;
 
 fn main(rt: HostRuntime) -> ExitCode {
-    ExitCode::from(status(&rt))
+    let status = match Setup::new(&rt) {
+        Ok(setup) => status(&rt, &setup),
+        Err(_) => 71,
+    };
+    ExitCode::from(status)
 }
 
 // Words that aren't UTF-8 are refused like all others that aren't read.
-fn status(rt: &HostRuntime) -> u8 {
+fn status(rt: &HostRuntime, setup: &Setup<File>) -> u8 {
     match read_words(rt.alloc(), rt) {
-        Words::Read(words) => match run(rt, words.as_slice()) {
+        Words::Read(words) => match run(rt, setup, words.as_slice()) {
             Ok(status) => status,
             Err(Memory) => 71,
         },
@@ -23,13 +28,13 @@ fn status(rt: &HostRuntime) -> u8 {
     }
 }
 
-fn run(rt: &HostRuntime, words: &[String]) -> Result<u8, Memory> {
+fn run(rt: &HostRuntime, setup: &Setup<File>, words: &[String]) -> Result<u8, Memory> {
     let alloc = rt.alloc();
     let env = surroundings(rt, words)?;
     let mut source = RealSource::stdin(rt, alloc)?;
-    let mut host = RealHost::new(rt, alloc, env.pid)?;
-    let mut out = RealSink::stdout(rt, alloc)?;
-    let mut err = RealSink::stderr(rt, alloc)?;
+    let mut host = RealHost::new(rt, alloc, env.pid, setup)?;
+    let mut out = RealSink::stdout(rt, alloc, setup)?;
+    let mut err = RealSink::stderr(rt, alloc, setup)?;
     Ok(formail(
         alloc,
         words,

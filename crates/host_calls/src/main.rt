@@ -11,10 +11,11 @@ mod session;
 
 use case_file::{Refused, read_lines};
 use pm_host::{Sink, Source};
-use pm_real::{RealSink, RealSource};
+use pm_real::{RealSink, RealSource, Setup};
 use pm_streams::{Mail, WriteEnd, read_mail, write_text};
 use session::{Session, Tally};
 use std::alloc::Global;
+use std::fs::File;
 use std::process::ExitCode;
 
 // The status where a call failed that shouldn't, and where the lines aren't read (sysexits(3)).
@@ -32,12 +33,13 @@ fn main(rt: HostRuntime) -> ExitCode {
 
 fn run(rt: &HostRuntime) -> Result<Tally, Refused> {
     let alloc = rt.alloc();
+    let setup = Setup::new(rt)?;
     let mut source = RealSource::stdin(rt, alloc)?;
-    let mut out = RealSink::stdout(rt, alloc)?;
+    let mut out = RealSink::stdout(rt, alloc, &setup)?;
     let Mail::Bytes(bytes) = read_mail(alloc, &mut source)? else {
         return Err(Refused::Stream);
     };
-    let (report, tally) = report_on(rt, alloc, bytes.as_slice())?;
+    let (report, tally) = report_on(rt, alloc, &setup, bytes.as_slice())?;
     match write_text(&mut out, report.as_bytes()) {
         WriteEnd::Wrote => Ok(tally),
         WriteEnd::Short(_) => Err(Refused::Stream),
@@ -45,12 +47,17 @@ fn run(rt: &HostRuntime) -> Result<Tally, Refused> {
 }
 
 // What differs, and the line of the numbers.
-fn report_on(rt: &HostRuntime, alloc: Global, bytes: &[u8]) -> Result<(String, Tally), Refused> {
+fn report_on(
+    rt: &HostRuntime,
+    alloc: Global,
+    setup: &Setup<File>,
+    bytes: &[u8],
+) -> Result<(String, Tally), Refused> {
     let Ok(text) = std::str::from_utf8(bytes) else {
         return Err(Refused::Misread("the lines are UTF-8"));
     };
     let lines = read_lines(alloc, text)?;
-    let mut session = Session::new(rt, alloc)?;
+    let mut session = Session::new(rt, alloc, setup)?;
     for line in &lines {
         session.take(line)?;
     }

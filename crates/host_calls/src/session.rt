@@ -2,9 +2,10 @@
 use crate::calls::answer;
 use crate::{children, others};
 use case_file::{Line, Refused, Words, copy_of, show_words, text_of};
-use pm_real::RealHost;
+use pm_real::{RealHost, Setup};
 use std::alloc::Global;
 use std::fmt::Write;
+use std::fs::File;
 use std::process;
 
 /// How many calls were answered as is wanted, and how many weren't.
@@ -19,17 +20,23 @@ pub struct Tally {
 pub struct Session<'a> {
     rt: &'a HostRuntime,
     alloc: Global,
+    setup: &'a Setup<File>,
     host: RealHost<HostRuntime>,
     report: String,
     tally: Tally,
 }
 
 impl<'a> Session<'a> {
-    pub fn new(rt: &'a HostRuntime, alloc: Global) -> Result<Session<'a>, Refused> {
+    pub fn new(
+        rt: &'a HostRuntime,
+        alloc: Global,
+        setup: &'a Setup<File>,
+    ) -> Result<Session<'a>, Refused> {
         Ok(Session {
             rt,
             alloc,
-            host: RealHost::new(rt, alloc, process::id(rt.process()))?,
+            setup,
+            host: RealHost::new(rt, alloc, process::id(rt.process()), setup)?,
             report: String::new(alloc),
             tally: Tally {
                 passed: 0,
@@ -41,7 +48,8 @@ impl<'a> Session<'a> {
     /// Makes the call of a line. `fresh` goes on with another host.
     pub fn take(&mut self, line: &Line) -> Result<(), Refused> {
         if line.key() == "fresh" {
-            self.host = RealHost::new(self.rt, self.alloc, process::id(self.rt.process()))?;
+            let pid = process::id(self.rt.process());
+            self.host = RealHost::new(self.rt, self.alloc, pid, self.setup)?;
             return Ok(());
         }
         let (call, wanted) = parts_at_arrow(&line.words);

@@ -4,28 +4,36 @@
 
 use lockfile_top::{Status, lockfile};
 use pm_bytes::{Environ, Memory};
-use pm_real::{RealHost, RealSink};
+use pm_real::{RealHost, RealSink, Setup};
 use pm_start::{Words, machine_name, read_environment, read_words};
+use std::fs::File;
 use std::process::ExitCode;
 
-// Words that aren't UTF-8 are refused like all others that aren't read.
 fn main(rt: HostRuntime) -> ExitCode {
-    let status = match read_words(rt.alloc(), &rt) {
-        Words::Read(words) => match run(&rt, words.as_slice()) {
+    let status = match Setup::new(&rt) {
+        Ok(setup) => status(&rt, &setup),
+        Err(_) => Status::SystemError.number(),
+    };
+    ExitCode::from(status)
+}
+
+// Words that aren't UTF-8 are refused like all others that aren't read.
+fn status(rt: &HostRuntime, setup: &Setup<File>) -> u8 {
+    match read_words(rt.alloc(), rt) {
+        Words::Read(words) => match run(rt, setup, words.as_slice()) {
             Ok(status) => status,
             Err(Memory) => Status::SystemError.number(),
         },
         Words::NoText => Status::Usage.number(),
         Words::Memory => Status::SystemError.number(),
-    };
-    ExitCode::from(status)
+    }
 }
 
-fn run(rt: &HostRuntime, words: &[String]) -> Result<u8, Memory> {
+fn run(rt: &HostRuntime, setup: &Setup<File>, words: &[String]) -> Result<u8, Memory> {
     let alloc = rt.alloc();
     let env = surroundings(rt)?;
-    let mut host = RealHost::new(rt, alloc, env.pid)?;
-    let mut err = RealSink::stderr(rt, alloc)?;
+    let mut host = RealHost::new(rt, alloc, env.pid, setup)?;
+    let mut err = RealSink::stderr(rt, alloc, setup)?;
     Ok(lockfile(alloc, words, &env, &mut host, &mut err))
 }
 

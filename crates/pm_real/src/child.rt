@@ -49,12 +49,13 @@ pub fn open_output<R: Files>(rt: &R, alloc: Global, pid: u32) -> io::Result<R::F
 }
 
 /// Starts the program with its own words, its environment and nothing else, from its folder. Its output goes to
-/// `stdout`, of which `output` is another handle.
+/// `stdout`, of which `output` is another handle, and its errors to this process's standard error, or nowhere.
 pub fn start<R: Files + Processes, F: FileExt + Drop>(
     rt: &R,
     alloc: Global,
     command: &Command,
     stdout: Stdio,
+    stderr: Stdio,
     output: Option<F>,
 ) -> io::Result<Running<R::Started, F>> {
     let mut how = process::Command::new(alloc, command.program.as_str())?;
@@ -69,6 +70,7 @@ pub fn start<R: Files + Processes, F: FileExt + Drop>(
     let (reader, writer) = io::pipe(rt)?;
     how.stdin(reader);
     how.stdout(stdout);
+    how.stderr(stderr);
     Ok(Running {
         process: how.spawn(rt)?,
         input: Some(writer),

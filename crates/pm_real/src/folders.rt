@@ -47,8 +47,8 @@ fn move_file<R: Files>(rt: &R, from: &str, to: &str) -> io::Result<()> {
     fs::rename(rt, from, to)
 }
 
-/// Moves a file to a name where nothing stands. Between the look at that name and the move another process may act.
-pub fn rename<R: Files>(rt: &R, from: &str, to: &str) -> Moved {
+// Between the look at the new name and the move another process may act.
+fn look_and_move<R: Files>(rt: &R, from: &str, to: &str) -> Moved {
     match is_taken(rt, to) {
         Ok(true) => Moved::Taken,
         Ok(false) => match move_file(rt, from, to) {
@@ -56,6 +56,32 @@ pub fn rename<R: Files>(rt: &R, from: &str, to: &str) -> Moved {
             Err(_) => Moved::Failed,
         },
         Err(_) => Moved::Failed,
+    }
+}
+
+// The file has both names. Where the old one can't be removed, the new one is, so that nothing was done. Where neither
+// can, the file is filed: another try would file it twice.
+fn drop_old_name<R: Files>(rt: &R, from: &str, to: &str) -> Moved {
+    match fs::remove_file(rt, from) {
+        Ok(()) => Moved::Moved,
+        Err(_) => match fs::remove_file(rt, to) {
+            Ok(()) => Moved::Failed,
+            Err(_) => Moved::Moved,
+        },
+    }
+}
+
+/// Moves a file to a name where nothing stands. The file gets its new name as a hard link, which the system makes only
+/// where nothing stands, and then loses the old one. A file system without links gets a look and a move.
+pub fn rename<R: Files>(rt: &R, from: &str, to: &str) -> Moved {
+    match fs::hard_link(rt, from, to) {
+        Ok(()) => drop_old_name(rt, from, to),
+        Err(error) => match error.kind() {
+            ErrorKind::AlreadyExists => Moved::Taken,
+            ErrorKind::PermissionDenied | ErrorKind::Unsupported | ErrorKind::TooManyLinks =>
+                look_and_move(rt, from, to),
+            _ => Moved::Failed,
+        },
     }
 }
 

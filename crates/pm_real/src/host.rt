@@ -6,6 +6,8 @@ ghost use Rattle.pm_real.specs.Quiet.{quiet_host};
 
 use crate::child::Running;
 use crate::kept_file::KeptFile;
+use crate::limit::SizeLimit;
+use crate::setup::Setup;
 use crate::{child, folders};
 use pm_bytes::Memory;
 use pm_host::{
@@ -15,6 +17,7 @@ use pm_host::{
 use std::alloc::{Alloc, Global};
 use std::fs::OpenFile;
 use std::io::ErrorKind;
+use std::os::fd::AsRawFd;
 use std::os::unix::fs::FileExt;
 use std::process::{Processes, Stdio};
 use std::rt::{Clock, Files};
@@ -27,11 +30,13 @@ use std::{io, thread};
 #[derive(Drop)]
 pub struct RealHost<R: Files + Clock + Processes + Alloc<A = Global> + Clone + Drop>
 where
-    R::File: FileExt + Into<Stdio>,
+    R::File: FileExt + AsRawFd + Into<Stdio>,
 {
     rt: R,
     alloc: Global,
     pid: u32,
+    limit: SizeLimit,
+    lacks_error: bool,
     faults: u64,
     kept: KeptFile<R::File>,
     running: Option<Running<R::Started, R::File>>,
@@ -40,10 +45,15 @@ where
 
 impl<R: Files + Clock + Processes + Alloc<A = Global> + Clone + Drop> RealHost<R>
 where
-    R::File: FileExt + Into<Stdio>,
+    R::File: FileExt + AsRawFd + Into<Stdio>,
 {
     /// The allocator and the process number serve the names of the files that children write to.
-    pub fn new(rt: &R, alloc: Global, pid: u32) -> Result<RealHost<R>, Memory>
+    pub fn new(
+        rt: &R,
+        alloc: Global,
+        pid: u32,
+        setup: &Setup<R::File>,
+    ) -> Result<RealHost<R>, Memory>
         ensures fresh { IfOk result (λ host. host.faults ≡ 0) }
         ensures none { IfOk result (λ host. host.child ≡ NoChild) }
     {
@@ -51,6 +61,8 @@ where
             rt: rt.clone()?,
             alloc,
             pid,
+            limit: setup.limit(),
+            lacks_error: setup.lacks_error(),
             faults: 0,
             kept: KeptFile::new(),
             running: None,
@@ -71,12 +83,29 @@ where
         command: &Command,
         want: bool,
     ) -> io::Result<Running<R::Started, R::File>> {
+        let stderr = self.stderr_of_children();
         if !want {
-            return child::start(&self.rt, self.alloc, command, Stdio::null(), None);
+            return child::start(&self.rt, self.alloc, command, Stdio::null(), stderr, None);
         }
         let output = child::open_output(&self.rt, self.alloc, self.pid)?;
         let stdout = output.try_clone()?;
-        child::start(&self.rt, self.alloc, command, stdout.into(), Some(output))
+        child::start(
+            &self.rt,
+            self.alloc,
+            command,
+            stdout.into(),
+            stderr,
+            Some(output),
+        )
+    }
+
+    // A child without a standard error would have the first file there that it opens.
+    fn stderr_of_children(&self) -> Stdio {
+        if self.lacks_error {
+            Stdio::null()
+        } else {
+            Stdio::inherit()
+        }
     }
 }
 
@@ -93,7 +122,7 @@ fn seconds<R: Clock>(rt: &R) -> i64 {
 
 impl<R: Files + Clock + Processes + Alloc<A = Global> + Clone + Drop> Host for RealHost<R>
 where
-    R::File: FileExt + Into<Stdio>,
+    R::File: FileExt + AsRawFd + Into<Stdio>,
 {
     ghost told = { λ host. quiet_host host.faults host.child };
 
@@ -106,8 +135,10 @@ where
     fn look(&mut self, name: &str) -> Looked {
         self.kept.close();
         let looked = folders::look(&self.rt, name);
-        if looked == Looked::Failed {
-            self.count_fault();
+        match looked {
+            Looked::Nothing => self.kept.note_missing(self.alloc, name),
+            Looked::Failed => self.count_fault(),
+            Looked::File(_) | Looked::Folder => {}
         }
         looked
     }
@@ -134,7 +165,10 @@ where
     }
 
     fn append(&mut self, name: &str, piece: &[u8]) -> Took {
-        match self.kept.append(&self.rt, self.alloc, name, piece) {
+        match self
+            .kept
+            .append(&self.rt, self.alloc, name, piece, self.limit)
+        {
             Some(count) => Took::Took(count),
             None => {
                 self.count_fault();
@@ -164,8 +198,12 @@ where
     }
 
     fn remove(&mut self, name: &str) -> Removed {
-        self.kept.close();
-        let removed = folders::remove(&self.rt, name);
+        let removed = if self.kept.is_target(name) {
+            self.kept.empty()
+        } else {
+            self.kept.close();
+            folders::remove(&self.rt, name)
+        };
         if removed == Removed::Failed {
             self.count_fault();
         }

@@ -2,42 +2,47 @@
 //! goes to one file, also where another one is put at its name meanwhile.
 ghost use Rattle.std.specs.Prelude.{◌≡◌, ◌≤◌, ◌<◌, length, IfSome};
 
+use crate::limit::SizeLimit;
+use crate::opened::{Mode, Opened};
+use pm_host::Removed;
 use std::alloc::Global;
 use std::fs::{OpenFile, OpenOptions};
-use std::io;
 use std::io::{ErrorKind, Read, Write};
 use std::os::unix::fs::{FileExt, OpenOptionsExt};
 use std::rt::Files;
+use std::{fs, io};
 
 /// A made file is read and written by its owner only, as with procmail's UMASK of 077 (procmailrc(5), Environment
 /// variable defaults).
 pub const OWNER_ONLY: u32 = 0o600;
 
-/// What a file was opened for.
+/// What the last look or create of a name said.
 #[derive(Clone, Copy, PartialEq, Eq)]
-enum Mode {
-    Reading,
-    Appending,
+enum Seen {
+    Missing,
+    Taken,
 }
 
-/// An open file with its name, and how many of the bytes that were appended to it are there still, if any were.
-#[derive(Drop)]
-struct Opened<F: Drop> {
-    name: String,
-    mode: Mode,
-    file: F,
-    added: Option<u64>,
-}
-
-/// The file that was opened last, if it wasn't closed.
+/// The file that was opened last, if it wasn't closed, and the name that was last found missing or taken.
 #[derive(Drop)]
 pub struct KeptFile<F: Drop> {
     opened: Option<Opened<F>>,
+    seen: Option<(String, Seen)>,
+}
+
+fn is_link<R: Files>(rt: &R, name: &str) -> bool {
+    match fs::symlink_metadata(rt, name) {
+        Ok(found) => found.is_symlink(),
+        Err(_) => false,
+    }
 }
 
 impl<F: Read + Write + OpenFile + FileExt + Drop> KeptFile<F> {
     pub fn new() -> KeptFile<F> {
-        KeptFile { opened: None }
+        KeptFile {
+            opened: None,
+            seen: None,
+        }
     }
 
     pub fn close(&mut self) {
@@ -46,7 +51,37 @@ impl<F: Read + Write + OpenFile + FileExt + Drop> KeptFile<F> {
 
     fn is(&self, name: &str, mode: Mode) -> bool {
         match &self.opened {
-            Some(opened) => opened.mode == mode && opened.name.as_str() == name,
+            Some(opened) => opened.is_for(mode) && opened.is(name),
+            None => false,
+        }
+    }
+
+    fn was_seen(&self, name: &str, seen: Seen) -> bool {
+        match &self.seen {
+            Some((of, kept)) => *kept == seen && of.as_str() == name,
+            None => false,
+        }
+    }
+
+    // Without memory for the name nothing is known of it.
+    fn note(&mut self, alloc: Global, name: &str, seen: Seen) {
+        self.seen = match String::from_str(alloc, name) {
+            Ok(name) => Some((name, seen)),
+            Err(_) => None,
+        };
+    }
+
+    /// A look found nothing. A name that couldn't be made before the look, as that of a lock file, stays taken.
+    pub fn note_missing(&mut self, alloc: Global, name: &str) {
+        if !self.was_seen(name, Seen::Taken) {
+            self.note(alloc, name, Seen::Missing);
+        }
+    }
+
+    /// Whether the open file was made here as the target of a symbolic link of this name.
+    pub fn is_target(&self, name: &str) -> bool {
+        match &self.opened {
+            Some(opened) => opened.is_target() && opened.is(name),
             None => false,
         }
     }
@@ -62,12 +97,7 @@ impl<F: Read + Write + OpenFile + FileExt + Drop> KeptFile<F> {
     ) -> io::Result<()> {
         self.close();
         let kept_name = String::from_str(alloc, name)?;
-        self.opened = Some(Opened {
-            name: kept_name,
-            mode,
-            file: pm_again::open(rt, how, name)?,
-            added: None,
-        });
+        self.opened = Some(Opened::new(kept_name, mode, pm_again::open(rt, how, name)?));
         Ok(())
     }
 
@@ -92,7 +122,8 @@ impl<F: Read + Write + OpenFile + FileExt + Drop> KeptFile<F> {
         }
     }
 
-    /// Makes an empty file, only where nothing stands at the name.
+    /// Makes an empty file, only if nothing has the name. If a look just found nothing though a symbolic link has the
+    /// name, it makes the link's target.
     pub fn create<R: Files<File = F>>(
         &mut self,
         rt: &R,
@@ -103,7 +134,49 @@ impl<F: Read + Write + OpenFile + FileExt + Drop> KeptFile<F> {
         how.append(true);
         how.create_new(true);
         how.mode(OWNER_ONLY);
-        self.open(rt, alloc, name, &how, Mode::Appending)
+        match self.open(rt, alloc, name, &how, Mode::Appending) {
+            Err(error) if error.kind() == ErrorKind::AlreadyExists => {
+                if self.was_seen(name, Seen::Missing) && is_link(rt, name) {
+                    return self.create_target(rt, alloc, name);
+                }
+                self.note(alloc, name, Seen::Taken);
+                Err(error)
+            }
+            answer => answer,
+        }
+    }
+
+    // The system follows the link, so that its own rules for links hold. A target that has bytes is another's.
+    fn create_target<R: Files<File = F>>(
+        &mut self,
+        rt: &R,
+        alloc: Global,
+        name: &str,
+    ) -> io::Result<()> {
+        let mut how = OpenOptions::new();
+        how.append(true);
+        how.create(true);
+        how.mode(OWNER_ONLY);
+        self.open(rt, alloc, name, &how, Mode::Appending)?;
+        let taken = match &mut self.opened {
+            Some(opened) => opened.take_as_target(),
+            None => Err(io::Error::from(ErrorKind::NotFound)),
+        };
+        if taken.is_err() {
+            self.close();
+        }
+        taken
+    }
+
+    /// Takes back what was appended to the target of a link, which stays as an empty file.
+    pub fn empty(&mut self) -> Removed {
+        match &mut self.opened {
+            Some(opened) => match opened.cut(0) {
+                Ok(()) => Removed::Removed,
+                Err(_) => Removed::Failed,
+            },
+            None => Removed::Failed,
+        }
     }
 
     /// How many bytes of the file came into the room, from the offset `at` on; None is an error.
@@ -120,7 +193,7 @@ impl<F: Read + Write + OpenFile + FileExt + Drop> KeptFile<F> {
         let Ok(opened) = self.used(rt, alloc, name, Mode::Reading) else {
             return None;
         };
-        pm_again::read_at(&opened.file, room, at)
+        opened.read(room, at)
     }
 
     /// How many bytes were added at the end of the file, at least one; None is an error. The file isn't made where it
@@ -131,6 +204,7 @@ impl<F: Read + Write + OpenFile + FileExt + Drop> KeptFile<F> {
         alloc: Global,
         name: &str,
         piece: &[u8],
+        limit: SizeLimit,
     ) -> Option<usize>
         ensures some { IfSome result (λ count. 0 < count) }
         ensures within { IfSome result (λ count. count ≤ length piece.now) }
@@ -138,20 +212,17 @@ impl<F: Read + Write + OpenFile + FileExt + Drop> KeptFile<F> {
         let Ok(opened) = self.used(rt, alloc, name, Mode::Appending) else {
             return None;
         };
-        let count = pm_again::write(&mut opened.file, piece)?;
-        let added = opened.added.unwrap_or(0).saturating_add(count as u64);
-        opened.added = Some(added);
-        Some(count)
+        opened.append(piece, limit)
     }
 
-    /// Brings the file's bytes to the store.
+    /// Syncs the file to disk.
     pub fn sync<R: Files<File = F>>(
         &mut self,
         rt: &R,
         alloc: Global,
         name: &str,
     ) -> io::Result<()> {
-        self.used(rt, alloc, name, Mode::Appending)?.file.sync_all()
+        self.used(rt, alloc, name, Mode::Appending)?.sync()
     }
 
     /// Keeps the first bytes of the file. One that has fewer isn't filled up with zeros, and from one that was appended
@@ -163,16 +234,6 @@ impl<F: Read + Write + OpenFile + FileExt + Drop> KeptFile<F> {
         name: &str,
         len: u64,
     ) -> io::Result<()> {
-        let opened = self.used(rt, alloc, name, Mode::Appending)?;
-        let Some(off) = opened.file.metadata()?.len().checked_sub(len) else {
-            return Err(io::Error::from(ErrorKind::InvalidInput));
-        };
-        if let Some(added) = opened.added {
-            let Some(left) = added.checked_sub(off) else {
-                return Err(io::Error::from(ErrorKind::InvalidInput));
-            };
-            opened.added = Some(left);
-        }
-        opened.file.set_len(len)
+        self.used(rt, alloc, name, Mode::Appending)?.cut(len)
     }
 }

@@ -6,10 +6,16 @@
 mod child;
 mod folders;
 mod host;
+mod host_name;
 mod kept_file;
+mod limit;
+mod opened;
+mod setup;
 mod sink;
 mod source;
 
 pub use host::RealHost;
+pub use host_name::{can_be_host_name, read_regular};
+pub use setup::Setup;
 pub use sink::RealSink;
 pub use source::RealSource;

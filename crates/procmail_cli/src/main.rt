@@ -2,29 +2,36 @@
 //! status of the run.
 #![tactic(auto)]
 
-use pm_bytes::{Environ, Memory};
+use pm_bytes::{Environ, Memory, Name};
 use pm_journal::Journal;
 use pm_machine::Status;
-use pm_real::{RealHost, RealSink, RealSource};
-use pm_start::{Words, machine_name, read_environment, read_words};
+use pm_real::{RealHost, RealSink, RealSource, Setup, can_be_host_name, read_regular};
+use pm_start::{Words, first_line, machine_name, read_environment, read_words};
 use pm_top::refuse;
 use pm_trial::procmail;
-use std::fs;
+use std::fs::File;
 use std::io::Stderr;
 use std::process::ExitCode;
 
 fn main(rt: HostRuntime) -> ExitCode {
-    let status = match RealSink::stderr(&rt, rt.alloc()) {
-        Ok(mut err) => run(&rt, &mut err),
-        Err(Memory) => Status::SystemError.number(),
+    let status = match Setup::new(&rt) {
+        Ok(setup) => begin(&rt, &setup),
+        Err(_) => Status::SystemError.number(),
     };
     ExitCode::from(status)
 }
 
+fn begin(rt: &HostRuntime, setup: &Setup<File>) -> u8 {
+    match RealSink::stderr(rt, rt.alloc(), setup) {
+        Ok(mut err) => run(rt, setup, &mut err),
+        Err(Memory) => Status::SystemError.number(),
+    }
+}
+
 // Words that aren't UTF-8 are refused like all others that aren't read.
-fn run(rt: &HostRuntime, err: &mut RealSink<Stderr>) -> u8 {
+fn run(rt: &HostRuntime, setup: &Setup<File>, err: &mut RealSink<Stderr>) -> u8 {
     match read_words(rt.alloc(), rt) {
-        Words::Read(words) => match deliver(rt, words.as_slice(), err) {
+        Words::Read(words) => match deliver(rt, setup, words.as_slice(), err) {
             Ok(status) => status,
             Err(Memory) => refuse(err, Status::SystemError),
         },
@@ -33,12 +40,17 @@ fn run(rt: &HostRuntime, err: &mut RealSink<Stderr>) -> u8 {
     }
 }
 
-fn deliver(rt: &HostRuntime, words: &[String], err: &mut RealSink<Stderr>) -> Result<u8, Memory> {
+fn deliver(
+    rt: &HostRuntime,
+    setup: &Setup<File>,
+    words: &[String],
+    err: &mut RealSink<Stderr>,
+) -> Result<u8, Memory> {
     let alloc = rt.alloc();
     let env = surroundings(rt)?;
     let mut source = RealSource::stdin(rt, alloc)?;
-    let mut host = RealHost::new(rt, alloc, env.pid)?;
-    let mut out = RealSink::stdout(rt, alloc)?;
+    let mut host = RealHost::new(rt, alloc, env.pid, setup)?;
+    let mut out = RealSink::stdout(rt, alloc, setup)?;
     let mut journal = Journal::new(alloc);
     Ok(procmail(
         alloc,
@@ -52,16 +64,23 @@ fn deliver(rt: &HostRuntime, words: &[String], err: &mut RealSink<Stderr>) -> Re
     ))
 }
 
-// A machine whose `/etc/hostname` can't be read has no name there.
 fn surroundings(rt: &HostRuntime) -> Result<Environ, Memory> {
     let alloc = rt.alloc();
-    let host_name = match fs::read(rt, "/etc/hostname") {
-        Ok(text) => machine_name(alloc, text.as_slice())?,
-        Err(_) => machine_name(alloc, b"")?,
-    };
     Ok(Environ {
         vars: read_environment(alloc, rt)?,
         pid: std::process::id(rt.process()),
-        host_name,
+        host_name: host_name(rt)?,
     })
+}
+
+// The host has no name if `/etc/hostname` can't be read, or if its line can't be a part of the name of a maildir's file.
+fn host_name(rt: &HostRuntime) -> Result<Name, Memory> {
+    let alloc = rt.alloc();
+    match read_regular(rt, "/etc/hostname") {
+        Ok(text) if can_be_host_name(first_line(text.as_slice())) => machine_name(
+            alloc,
+            text.as_slice(),
+        ),
+        _ => machine_name(alloc, b""),
+    }
 }
