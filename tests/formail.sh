@@ -3,19 +3,9 @@
 # 3.22 is installed, each row that doesn't say that 3.22 differs is compared with what it writes too, and each that
 # says so must differ.
 set -eu
-name=$(basename "$0" .sh)
-cd "$(dirname "$0")/.."
-[ "${ARE_BUILT:-}" = yes ] || make -s build-formail > /dev/null
-program=$PWD/bin/formail
-rows=$PWD/tests/cases/formail.cases
-folder=$(mktemp -d)
-trap 'rm -rf "$folder"' EXIT
-cd "$folder"
-
-fail() {
-    echo "$name: $1" >&2
-    exit 1
-}
+. "$(dirname "$0")/common.bash"
+program=$programs/formail
+rows=$top/tests/cases/formail.cases
 
 other=
 if command -v formail > /dev/null && formail -v 2>&1 | grep -q 'v3\.2[23]'; then

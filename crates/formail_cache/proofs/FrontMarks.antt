@@ -1,14 +1,13 @@
 -- Mails are marked by the front of a cache as by the whole.
-use Rattle.std.proofs.Common.{◌≡◌, ◌≤◌, ◌<◌, ℕ, Bool, true, false, not, nat_le, Option, Some, None, List, [], ◌∷◌, ◌++◌, take, length, codes, refl, sym, ap, ◌∙◌, subst, inl, inr, arith, le_refl, take_all, take-take, length-take, if◌then◌else◌}
+use Rattle.std.proofs.Common.{◌≡◌, ◌≤◌, ◌<◌, ℕ, Bool, true, false, not, nat_le, Option, Some, None, List, [], ◌∷◌, ◌++◌, take, length, refl, sym, ap, ◌∙◌, subst, inl, inr, arith, le_refl, take_all, take-take, length-take, if◌then◌else◌}
 use Rattle.std.proofs.lemmas.Bool.Decides.{nat_tests}
-use Rattle.formail_extra.specs.Cache.{is_seen, with_line_ended, stays_of, next_of, mark_before, marks_of}
-use Rattle.formail_extra.specs.declared.cache.Marks.{Marks}
+use Rattle.formail_extra.specs.Cache.{is_seen, left_of, addition_to, next_of, Marks, mark_before, marks_of}
 use Rattle.formail_cache.specs.Laws.{SameMarks}
 
 abbrev front : List ℕ → List ℕ
 front bytes = take 2097152 bytes
 
-seen_same : (bytes id : List ℕ) → is_seen (front bytes) id ≡ is_seen bytes id
+pub seen_same : (bytes id : List ℕ) → is_seen (front bytes) id ≡ is_seen bytes id
 seen_same bytes id = rw (take-take 2097152 2097152 bytes (le_refl 2097152)) refl
 
 le_true : (a b : ℕ) → a ≤ b → nat_le a b ≡ true
@@ -17,16 +16,31 @@ le_true a b h = grind (arith, nat_tests)
 le_false : (a b : ℕ) → b < a → nat_le a b ≡ false
 le_false a b h = grind (arith, nat_tests)
 
-short_or_long : (most : ℕ) (bytes : List ℕ) → most ≤ 2097152 → (b : Bool) → nat_le (length bytes) 2097152 ≡ b → stays_of most (front bytes) ≡ stays_of most bytes
-short_or_long most bytes h true short = ap (stays_of most) (take_all 2097152 bytes (grind (arith, nat_tests)))
-short_or_long most bytes h false long =
+-- a full cache is emptied
+pub left_none : (most : ℕ) (bytes : List ℕ) → most ≤ length bytes → left_of most bytes ≡ []
+left_none most bytes h = ap (λ b. if b then [] else bytes) (le_true most (length bytes) h)
+
+-- and one that isn't full stays
+pub left_all : (most : ℕ) (bytes : List ℕ) → length bytes < most → left_of most bytes ≡ bytes
+left_all most bytes h = ap (λ b. if b then [] else bytes) (le_false most (length bytes) h)
+
+-- the front of a cache that has fewer bytes than it may have is all of it
+pub front_whole : (most : ℕ) (bytes : List ℕ) → most ≤ 2097152 → length (front bytes) < most → front bytes ≡ bytes
+front_whole most bytes h few = take_all 2097152 bytes (omega (arith, length-take 2097152 bytes, few, h))
+
+-- and one whose front is full is full
+pub front_full : (most : ℕ) (bytes : List ℕ) → most ≤ length (front bytes) → most ≤ length bytes
+front_full most bytes full = omega (arith, length-take 2097152 bytes, full)
+
+left_same : (most : ℕ) (bytes : List ℕ) → most ≤ 2097152 → (b : Bool) → nat_le (length bytes) 2097152 ≡ b → left_of most (front bytes) ≡ left_of most bytes
+left_same most bytes h true short = ap (left_of most) (take_all 2097152 bytes (grind (arith, nat_tests)))
+left_same most bytes h false long =
     let more : 2097152 < length bytes = grind (arith, nat_tests) in
     let full : most ≤ length (front bytes) = omega (arith, length-take 2097152 bytes) in
-    ap (λ b. if b then [] else with_line_ended (front bytes)) (le_true most (length (front bytes)) full)
-    ∙ sym (ap (λ b. if b then [] else with_line_ended bytes) (le_true most (length bytes) (omega arith)))
+    left_none most (front bytes) full ∙ sym (left_none most bytes (omega arith))
 
-next_same : (most : ℕ) (bytes id : List ℕ) → most ≤ 2097152 → next_of most (front bytes) id ≡ next_of most bytes id
-next_same most bytes id h = ap (λ l. l ++ id ++ codes "\n") (short_or_long most bytes h (nat_le (length bytes) 2097152) refl)
+pub next_same : (most : ℕ) (bytes id : List ℕ) → most ≤ 2097152 → next_of most (front bytes) id ≡ next_of most bytes id
+next_same most bytes id h = ap (λ l. l ++ addition_to l id) (left_same most bytes h (nat_le (length bytes) 2097152) refl)
 
 -- the marks of some mails behind one whose identifier was seen or wasn't
 abbrev marks_then : Bool → ℕ → List ℕ → List ℕ → List (Option (List ℕ)) → Marks

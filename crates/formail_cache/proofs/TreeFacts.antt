@@ -1,22 +1,23 @@
 -- What the calls on a cache make of the tree: the bytes that are read are the file's, and the file then has the new ones.
-use Rattle.std.proofs.Common.{◌≡◌, ◌≤◌, ◌⊎◌, ℕ, ◌+◌, Bool, true, false, cond, ℤ, List, [], ◌∷◌, ◌++◌, length, take, drop, Option, Some, None, refl, sym, ap, ◌∙◌, subst, inl, inr, arith, nat_eq, take-add, take_all, length-append}
+use Rattle.std.proofs.Common.{◌≡◌, ◌≤◌, ◌<◌, ◌⊎◌, ℕ, ◌+◌, Bool, true, false, cond, ℤ, List, [], ◌∷◌, ◌++◌, length, take, drop, Option, Some, None, refl, sym, ap, ◌∙◌, subst, inl, inr, arith, nat_eq, take-add, take_all, length-append}
 use Rattle.pm_host.specs.World.{World, LooksRight, MakesRight, ReadsRight, IsFile, IsRight, after_call, IsAnswerTo, Step, world_with, kept, longer}
 use Rattle.pm_host.specs.Told.{HostView, Tells}
 use Rattle.pm_host.specs.Runs.{AllRight, Steps, Transitions}
 use Rattle.pm_host.proofs.Put.{get-put, put_same, put_put}
-use Rattle.pm_host.proofs.RunsJoin.{tells_at, tells_map, tells_then}
+use Rattle.pm_host.proofs.RunsJoin.{tells_map, tells_then}
 use Rattle.pm_host.specs.declared.nodes.File.{File}
 use Rattle.pm_host.specs.declared.nodes.Node.{Node}
 use Rattle.pm_host.specs.declared.nodes.Node.TheVariants.{File as AFile, Folder as AFolder}
 use Rattle.pm_host.specs.declared.answers.Looked.TheVariants.{File as LookedFile, Folder as LookedFolder, Nothing, Failed as LookFailed}
 use Rattle.pm_host.specs.declared.answers.Took.TheVariants.{Took as TookSome, Failed as TookFailed}
 use Rattle.pm_host.specs.declared.answers.Made.TheVariants.{Made as MadeNew, Exists, Failed as MadeFailed}
+use Rattle.pm_host.specs.declared.answers.Synced.TheVariants.{Synced as SyncedDone, Failed as SyncedFailed}
 use Rattle.pm_host.specs.declared.answers.Cut.TheVariants.{Cut as CutDone, Failed as CutFailed}
 use Rattle.pm_host.specs.declared.answers.Removed.TheVariants.{Removed as RemovedDone, Absent, Failed as RemoveFailed}
 use Rattle.pm_host.specs.declared.calls.Call.{Call}
-use Rattle.pm_host.specs.declared.calls.Call.TheVariants.{Look, Read, Create, Append, Cut as CutTo, Remove}
+use Rattle.pm_host.specs.declared.calls.Call.TheVariants.{Look, Read, Create, Append, Sync, Cut as CutTo, Remove}
 use Rattle.pm_host.specs.declared.calls.Answer.{Answer}
-use Rattle.pm_host.specs.declared.calls.Answer.TheVariants.{Look as AnswerLook, Read as AnswerRead, Create as AnswerCreate, Append as AnswerAppend, Cut as AnswerCut, Remove as AnswerRemove, Failed as AnswerFailed}
+use Rattle.pm_host.specs.declared.calls.Answer.TheVariants.{Look as AnswerLook, Read as AnswerRead, Create as AnswerCreate, Append as AnswerAppend, Sync as AnswerSync, Cut as AnswerCut, Remove as AnswerRemove, Failed as AnswerFailed}
 use Rattle.pm_host.specs.declared.calls.Logged.{Logged}
 use Rattle.pm_journal.specs.Appending.{StepAsks, AppendAsks, taken_step, append_step, heard_look, heard_create, heard_append, heard_cut, heard_remove, to_undo, append_heard, AppendGroup, Appends}
 use Rattle.pm_journal.specs.Deliveries.{bytes_at}
@@ -30,11 +31,12 @@ use Rattle.formail_cache.specs.Reading.{CacheState, CacheLooking, CacheOn, Cache
 use Rattle.formail_cache.specs.declared.reading.CacheRead.{CacheRead}
 use Rattle.formail_cache.specs.declared.reading.CacheRead.TheVariants.{Whole, Front, Missing, Folder, Failed as ReadFailed}
 use Rattle.formail_cache.proofs.ReadLemmas.{reading_same}
-use Rattle.formail_cache.specs.Changing.{written_of, Adds, BeginsAnew, uncut, cut, Changes}
-use Rattle.formail_cache.specs.declared.changing.Change.{Change}
-use Rattle.formail_cache.specs.declared.changing.Change.TheVariants.{None as NoChange, Add, Anew}
-use Rattle.formail_cache.specs.declared.changing.Written.{Written}
-use Rattle.formail_cache.specs.declared.changing.Written.TheVariants.{Done, Unusable, Failed}
+use Rattle.formail_cache.specs.Adding.{written_of, Adds, uncut, cut, AddsId, at_end, again}
+use Rattle.formail_cache.specs.declared.adding.Written.{Written}
+use Rattle.formail_cache.specs.declared.adding.Written.TheVariants.{Done, IsFolder, Raced, Failed}
+use Rattle.formail_extra.specs.Cache.{addition_to, next_of}
+use Rattle.formail_cache.specs.Tree.{part_of}
+use Rattle.formail_cache.proofs.FrontMarks.{left_none, left_all, front_whole, front_full}
 
 -- what stands there has no folder
 abbrev pub IsNoFolder : Option Node → Type 0
@@ -159,6 +161,11 @@ append_so w₀ name part made old taken (AnswerAppend (TookSome n)) fits = tt
 append_so w₀ name part made old taken (AnswerAppend TookFailed) fits = undo_so w₀ name made old taken
 append_so w₀ name part made old taken other fits = absurd fits
 
+sync_so : (w₀ : World) (name : List ℕ) (made : Bool) (old taken : ℕ) (answer : Answer) → IsAnswerTo (Sync name) answer → EndsSo w₀ name (heard_append made old taken answer)
+sync_so w₀ name made old taken (AnswerSync SyncedDone) fits = tt
+sync_so w₀ name made old taken (AnswerSync SyncedFailed) fits = undo_so w₀ name made old taken
+sync_so w₀ name made old taken other fits = absurd fits
+
 cut_so : (w₀ : World) (name : List ℕ) (old taken : ℕ) (answer : Answer) → IsAnswerTo (CutTo name old) answer → EndsSo w₀ name (heard_cut taken answer)
 cut_so w₀ name old taken (AnswerCut CutDone) fits = tt
 cut_so w₀ name old taken (AnswerCut CutFailed) fits = tt
@@ -170,15 +177,15 @@ remove_so w₀ name taken (AnswerRemove Absent) fits = tt
 remove_so w₀ name taken (AnswerRemove RemoveFailed) fits = tt
 remove_so w₀ name taken other fits = absurd fits
 
-step_so : (w₀ : World) (name piece : List ℕ) (at : AppendState) (call : Call) (answer : Answer) (w : World) → AppendAsks name piece false at call → IsAnswerTo call answer → IsRight call answer w
+step_so : (w₀ : World) (name piece : List ℕ) (at : AppendState) (call : Call) (answer : Answer) (w : World) → AppendAsks name piece true at call → IsAnswerTo call answer → IsRight call answer w
     → Stands w₀ name piece at w → EndsSo w₀ name (append_heard at answer)
 step_so w₀ name piece Looking call answer w asks fits right s =
     look_so w₀ name answer (subst (λ c. IsAnswerTo c answer) asks fits) (subst (IsRight (Look name) answer) s (subst (λ c. IsRight c answer w) asks right))
 step_so w₀ name piece Creating call answer w asks fits right s =
     create_so w₀ name answer (subst (λ c. IsAnswerTo c answer) asks fits) (subst (IsRight (Create name) answer) s.0 (subst (λ c. IsRight c answer w) asks right)) s.1
 step_so w₀ name piece (Writing made old taken) call answer w asks fits right s =
-    elim (nat_eq taken (length piece)) as (λ b. StepAsks name piece (cond b (taken_step false) (StepAppend taken)) call → EndsSo w₀ name (heard_append made old taken answer)) [
-      | true ↦ λ a. absurd a
+    elim (nat_eq taken (length piece)) as (λ b. StepAsks name piece (cond b (taken_step true) (StepAppend taken)) call → EndsSo w₀ name (heard_append made old taken answer)) [
+      | true ↦ λ a. sync_so w₀ name made old taken answer (subst (λ c. IsAnswerTo c answer) a fits)
       | false ↦ λ offer. append_so w₀ name offer.part made old taken answer (subst (λ c. IsAnswerTo c answer) offer.is fits)
     ] asks
 step_so w₀ name piece (Cutting old taken) call answer w asks fits right s = cut_so w₀ name old taken answer (subst (λ c. IsAnswerTo c answer) asks fits)
@@ -186,18 +193,18 @@ step_so w₀ name piece (Removing taken) call answer w asks fits right s = remov
 step_so w₀ name piece (Ended end) call answer w asks fits right s = absurd asks
 
 all_so : (w₀ : World) (name piece : List ℕ) (calls : List Logged) (at last : AppendState) (w : World) → Stands w₀ name piece at w → EndsSo w₀ name at
-    → Transitions (AppendAsks name piece false) append_heard at calls last → AllRight calls w → EndsSo w₀ name last
+    → Transitions (AppendAsks name piece true) append_heard at calls last → AllRight calls w → EndsSo w₀ name last
 all_so w₀ name piece [] at last w s so walk right = subst (EndsSo w₀ name) (sym walk) so
 all_so w₀ name piece (c ∷ cs) at last w s so walk right =
-    all_so w₀ name piece cs (append_heard at c.answer) last (after_call c.call c.answer w) (stands_step w₀ name piece false at c.call c.answer w walk.0 walk.1 right.0 s)
+    all_so w₀ name piece cs (append_heard at c.answer) last (after_call c.call c.answer w) (stands_step w₀ name piece true at c.call c.answer w walk.0 walk.1 right.0 s)
     (step_so w₀ name piece at c.call c.answer w walk.0 walk.1 right.0 s) walk.2 right.1
 
-end_so : (w₀ : World) (name piece : List ℕ) (at : AppendState) (end : AppendEnd) → append_step (length piece) false at ≡ Finish end → EndsSo w₀ name at → EndsSo w₀ name (Ended end)
+end_so : (w₀ : World) (name piece : List ℕ) (at : AppendState) (end : AppendEnd) → append_step (length piece) true at ≡ Finish end → EndsSo w₀ name at → EndsSo w₀ name (Ended end)
 end_so w₀ name piece Looking end e so = absurd (cc)
 end_so w₀ name piece Creating end e so = absurd (cc)
 end_so w₀ name piece (Writing made old taken) end e so =
-    elim (nat_eq taken (length piece)) as (λ b. cond b (taken_step false) (StepAppend taken) ≡ Finish end → EndsSo w₀ name (Ended end)) [
-      | true ↦ λ t. let f : EndDone ≡ end = cc in subst (λ x. EndsSo w₀ name (Ended x)) f tt
+    elim (nat_eq taken (length piece)) as (λ b. cond b (taken_step true) (StepAppend taken) ≡ Finish end → EndsSo w₀ name (Ended end)) [
+      | true ↦ λ t. absurd (cc)
       | false ↦ λ t. absurd (cc)
     ] e
 end_so w₀ name piece (Cutting old taken) end e so = absurd (cc)
@@ -206,38 +213,47 @@ end_so w₀ name piece (Ended end') end e so = let f : end' ≡ end = cc in subs
 
 -- what an append made of what stood there
 abbrev pub AddedTo : List ℕ → Written → Option Node → Option Node → Type 0
-AddedTo piece Done there here = IsNoFolder there → bytes_at here ≡ bytes_at there ++ piece
+AddedTo piece Done there here = IsNoFolder there → IsNoFolder here × (bytes_at here ≡ bytes_at there ++ piece)
 AddedTo piece Failed there here = (here ≡ there) ⊎ (IsNoFolder there → (count : ℕ) × (bytes_at here ≡ bytes_at there ++ take count piece))
-AddedTo piece Unusable there here = (there ≡ Some AFolder) × (here ≡ there)
+AddedTo piece IsFolder there here = (there ≡ Some AFolder) × (here ≡ there)
+AddedTo piece Raced there here = ⊥
 
 longer_bytes : (x : Option Node) (m : ℤ) (more : List ℕ) → IsNoFolder x → bytes_at (longer x m more) ≡ bytes_at x ++ more
 longer_bytes (Some (AFile f)) m more k = refl
 longer_bytes (Some AFolder) m more k = absurd k
 longer_bytes None m more k = refl
 
+longer_plain : (x : Option Node) (m : ℤ) (more : List ℕ) → IsNoFolder x → IsNoFolder (longer x m more)
+longer_plain (Some (AFile f)) m more k = tt
+longer_plain (Some AFolder) m more k = k
+longer_plain None m more k = tt
+
 -- at one name alone the world is another
 abbrev pub ChangedAt : List ℕ → (Option Node → Option Node → Type 0) → World → World → Type 0
 ChangedAt name R w v = (here : Option Node) × (v ≡ world_with w name here) × R (w.nodes name) here
 
-unchanged : (name : List ℕ) (w v : World) → v ≡ w → v ≡ world_with w name (w.nodes name)
+pub unchanged : (name : List ℕ) (w v : World) → v ≡ w → v ≡ world_with w name (w.nodes name)
 unchanged name w v e = e ∙ sym (put_same w name (w.nodes name) refl)
 
-end_added : (name piece : List ℕ) (end : AppendEnd) (calls : List Logged) (w v : World) → AppendGroup name piece false end calls → Steps calls w v → EndsSo w name (Ended end)
+end_added : (name piece : List ℕ) (end : AppendEnd) (calls : List Logged) (w v : World) → AppendGroup name piece true end calls → Steps calls w v → EndsSo w name (Ended end)
     → ChangedAt name (AddedTo piece (written_of end)) w v
-end_added name piece EndDone calls w v group steps so =
-    (longer (w.nodes name) w.moment piece, append_effect name piece false EndDone calls w v group steps, longer_bytes (w.nodes name) w.moment piece)
+end_added name piece EndDone calls w v group steps so = (
+  longer (w.nodes name) w.moment piece,
+  append_effect name piece true EndDone calls w v group steps,
+  λ k. (longer_plain (w.nodes name) w.moment piece k, longer_bytes (w.nodes name) w.moment piece k),
+)
 end_added name piece EndUndone calls w v group steps so =
-    (w.nodes name, unchanged name w v (append_effect name piece false EndUndone calls w v group steps), inl refl)
+    (w.nodes name, unchanged name w v (append_effect name piece true EndUndone calls w v group steps), inl refl)
 end_added name piece (EndTorn n) calls w v group steps so = (
   longer (w.nodes name) w.moment (take n piece),
-  append_effect name piece false (EndTorn n) calls w v group steps,
+  append_effect name piece true (EndTorn n) calls w v group steps,
   inr (λ k. (n, longer_bytes (w.nodes name) w.moment (take n piece) k)),
 )
 end_added name piece EndFolder calls w v group steps so =
-    (w.nodes name, unchanged name w v (append_effect name piece false EndFolder calls w v group steps), (so, refl))
+    (w.nodes name, unchanged name w v (append_effect name piece true EndFolder calls w v group steps), (so, refl))
 end_added name piece EndRaced calls w v group steps so = absurd so
 
-appends_added : (name piece : List ℕ) (end : AppendEnd) (a b : HostView) → Appends name piece false end a b → Tells (ChangedAt name (AddedTo piece (written_of end))) a.world b.world
+appends_added : (name piece : List ℕ) (end : AppendEnd) (a b : HostView) → Appends name piece true end a b → Tells (ChangedAt name (AddedTo piece (written_of end))) a.world b.world
 appends_added name piece end a b appends =
     let group = appends.group in
     tells_map (Steps appends.calls) (ChangedAt name (AddedTo piece (written_of end)))
@@ -248,57 +264,99 @@ adds_added : (name piece : List ℕ) (written : Written) (a b : HostView) → Ad
 adds_added name piece written a b adds =
     subst (λ x. Tells (ChangedAt name (AddedTo piece x)) a.world b.world) (sym adds.is) (appends_added name piece adds.end a b adds.appends)
 
--- what emptying a file and writing it made of what stood there
-abbrev pub BegunAnew : List ℕ → Written → Option Node → Option Node → Type 0
-BegunAnew bytes Done there here = bytes_at here ≡ bytes
-BegunAnew bytes Failed there here = (here ≡ there) ⊎ ((count : ℕ) × (bytes_at here ≡ take count bytes))
-BegunAnew bytes Unusable there here = ⊥
+-- the bytes that are looked through are those that stand there, or the first 2,097,152 of them
+abbrev pub Agree : List ℕ → Option Node → Type 0
+Agree old there = IsNoFolder there × ((old ≡ bytes_at there) ⊎ (old ≡ take 2097152 (bytes_at there)))
+
+-- what the addition of an identifier made of what stood there
+abbrev pub AddedBy : ℕ → List ℕ → Written → Option Node → Option Node → Type 0
+AddedBy most id Done there here = IsNoFolder here × (bytes_at here ≡ next_of most (bytes_at there) id)
+AddedBy most id Failed there here = (here ≡ there) ⊎ ((count : ℕ) × (bytes_at here ≡ part_of most (bytes_at there) id count))
+AddedBy most id IsFolder there here = ⊥
+AddedBy most id Raced there here = ⊥
+
+short_is_whole : (most : ℕ) (old : List ℕ) (there : Option Node) → most ≤ 2097152 → length old < most → Agree old there → old ≡ bytes_at there
+short_is_whole most old there h few agree =
+    elim agree.1 [
+      | inl e ↦ e
+      | inr e ↦ e ∙ front_whole most (bytes_at there) h (subst (λ l. length l < most) e few)
+    ]
+
+full_is_full : (most : ℕ) (old : List ℕ) (there : Option Node) → most ≤ length old → Agree old there → most ≤ length (bytes_at there)
+full_is_full most old there full agree =
+    elim agree.1 [
+      | inl e ↦ subst (λ l. most ≤ length l) e full
+      | inr e ↦ front_full most (bytes_at there) (subst (λ l. most ≤ length l) e full)
+    ]
+
+-- what was appended at the end
+ended_added : (most : ℕ) (id : List ℕ) (how : Written) (there here : Option Node) → IsNoFolder there → length (bytes_at there) < most
+    → AddedTo (addition_to (bytes_at there) id) how there here → AddedBy most id how there here
+ended_added most id Done there here plain few added =
+    let all = added plain in (all.0, all.1 ∙ sym (ap (λ l. l ++ addition_to l id) (left_all most (bytes_at there) few)))
+ended_added most id Failed there here plain few (inl same) = inl same
+ended_added most id Failed there here plain few (inr some) =
+    let part = some plain in inr (part.0, part.1 ∙ sym (ap (λ l. l ++ take part.0 (addition_to l id)) (left_all most (bytes_at there) few)))
+ended_added most id IsFolder there here plain few added = subst IsNoFolder added.0 plain
+ended_added most id Raced there here plain few added = added
 
 -- an empty file got these bytes
-emptied_added : (bytes : List ℕ) (written : Written) (f : File) (there here : Option Node) → AddedTo bytes written (kept (Some (AFile f)) 0) here → BegunAnew bytes written there here
-emptied_added bytes Done f there here added = added tt
-emptied_added bytes Failed f there here (inl same) = inr (0, ap bytes_at same)
-emptied_added bytes Failed f there here (inr some) = inr (some tt)
-emptied_added bytes Unusable f there here added = let e = added.0 in absurd (cc)
+emptied_added : (most : ℕ) (id : List ℕ) (how : Written) (f : File) (there here : Option Node) → most ≤ length (bytes_at there)
+    → AddedTo (addition_to [] id) how (kept (Some (AFile f)) 0) here → AddedBy most id how there here
+emptied_added most id Done f there here full added =
+    let all = added tt in (all.0, all.1 ∙ sym (ap (λ l. l ++ addition_to l id) (left_none most (bytes_at there) full)))
+emptied_added most id Failed f there here full (inl same) =
+    inr (0, ap bytes_at same ∙ sym (ap (λ l. l ++ take 0 (addition_to l id)) (left_none most (bytes_at there) full)))
+emptied_added most id Failed f there here full (inr some) =
+    let part = some tt in inr (part.0, part.1 ∙ sym (ap (λ l. l ++ take part.0 (addition_to l id)) (left_none most (bytes_at there) full)))
+emptied_added most id IsFolder f there here full added = let e = added.0 in absurd (cc)
+emptied_added most id Raced f there here full added = added
 
 file_is : (x : Option Node) → IsFile x → (f : File) × (x ≡ Some (AFile f))
 file_is (Some (AFile f)) right = (f, refl)
 file_is (Some AFolder) right = absurd right
 file_is None right = absurd right
 
+-- the addition, once it is known that the bytes that were looked through stand there
+abbrev pub AddedAfter : List ℕ → ℕ → List ℕ → List ℕ → Written → World → World → Type 0
+AddedAfter name most old id how w v = Agree old (w.nodes name) → ChangedAt name (AddedBy most id how) w v
+
 -- the cut, and then the addition
-begun_join : (name bytes : List ℕ) (written : Written) (w m v : World) → Step (CutTo name 0) (AnswerCut CutDone) w m → ChangedAt name (AddedTo bytes written) m v
-    → ChangedAt name (BegunAnew bytes written) w v
-begun_join name bytes written w m v step changed =
+begun_join : (name : List ℕ) (most : ℕ) (old id : List ℕ) (how : Written) (w m v : World) → most ≤ length old → Step (CutTo name 0) (AnswerCut CutDone) w m
+    → ChangedAt name (AddedTo (addition_to [] id) how) m v → AddedAfter name most old id how w v
+begun_join name most old id how w m v full step changed agree =
     let file = file_is (w.nodes name) step.right in
     let empty = kept (w.nodes name) 0 in
     let there : m.nodes name ≡ kept (Some (AFile file.0)) 0 = ap (λ x. x.nodes name) step.made ∙ get-put w name empty ∙ ap (λ x. kept x 0) file.1 in (
       changed.0,
       changed.1 ∙ ap (λ x. world_with x name changed.0) step.made ∙ put_put w name empty changed.0,
-      emptied_added bytes written file.0 (w.nodes name) changed.0 (subst (λ x. AddedTo bytes written x changed.0) there changed.2),
+      emptied_added most id how file.0 (w.nodes name) changed.0 (full_is_full most old (w.nodes name) full agree)
+          (subst (λ x. AddedTo (addition_to [] id) how x changed.0) there changed.2),
     )
 
-uncut_same : (name bytes : List ℕ) (w v : World) → Step (CutTo name 0) (AnswerCut CutFailed) w v → ChangedAt name (BegunAnew bytes Failed) w v
-uncut_same name bytes w v step = (w.nodes name, unchanged name w v step.made, inl refl)
+at_end_join : (name : List ℕ) (most : ℕ) (old id : List ℕ) (how : Written) (w v : World) → most ≤ 2097152 → length old < most
+    → ChangedAt name (AddedTo (addition_to old id) how) w v → AddedAfter name most old id how w v
+at_end_join name most old id how w v h few changed agree =
+    let whole = short_is_whole most old (w.nodes name) h few agree in (
+      changed.0,
+      changed.1,
+      ended_added most id how (w.nodes name) changed.0 agree.0 (subst (λ l. length l < most) whole few)
+          (subst (λ l. AddedTo (addition_to l id) how (w.nodes name) changed.0) whole changed.2),
+    )
 
-begins_anew : (name bytes : List ℕ) (written : Written) (a b : HostView) → BeginsAnew name bytes written a b → Tells (ChangedAt name (BegunAnew bytes written)) a.world b.world
-begins_anew name bytes written a b (uncut failed makes) =
-    subst (λ x. Tells (ChangedAt name (BegunAnew bytes x)) a.world b.world) (sym failed)
-    (tells_map (Step (CutTo name 0) (AnswerCut CutFailed)) (ChangedAt name (BegunAnew bytes Failed)) (uncut_same name bytes) a.world b.world makes.world)
-begins_anew name bytes written a b (cut middle makes adds) =
-    tells_then (Step (CutTo name 0) (AnswerCut CutDone)) (ChangedAt name (AddedTo bytes written)) (ChangedAt name (BegunAnew bytes written)) (begun_join name bytes written)
-    a.world middle.world b.world makes.world (adds_added name bytes written middle b adds)
+uncut_same : (name : List ℕ) (most : ℕ) (old id : List ℕ) (w v : World) → Step (CutTo name 0) (AnswerCut CutFailed) w v → AddedAfter name most old id Failed w v
+uncut_same name most old id w v step agree = (w.nodes name, unchanged name w v step.made, inl refl)
 
--- what a change made of what stood there
-abbrev pub ChangedBy : Change → List ℕ → List ℕ → Written → Option Node → Option Node → Type 0
-ChangedBy NoChange old new written there here = (written ≡ Done) × (here ≡ there)
-ChangedBy Add old new written there here = AddedTo (drop (length old) new) written there here
-ChangedBy Anew old new written there here = BegunAnew new written there here
-
-pub changes_made : (name : List ℕ) (change : Change) (old new : List ℕ) (written : Written) (a b : HostView) → Changes name change old new written a b
-    → Tells (ChangedAt name (ChangedBy change old new written)) a.world b.world
-changes_made name NoChange old new written a b changes =
-    subst (λ h. Tells (ChangedAt name (ChangedBy NoChange old new written)) a.world h.world) (sym changes.1)
-    (tells_at (ChangedAt name (ChangedBy NoChange old new written)) (λ w. (w.nodes name, unchanged name w w refl, (changes.0, refl))) a.world)
-changes_made name Add old new written a b changes = adds_added name (drop (length old) new) written a b changes
-changes_made name Anew old new written a b changes = begins_anew name new written a b changes
+-- what the addition of an identifier made of the tree
+pub id_added : (name : List ℕ) (most : ℕ) (old id : List ℕ) (how : Written) (a b : HostView) → most ≤ 2097152 → AddsId name most old id how a b
+    → Tells (AddedAfter name most old id how) a.world b.world
+id_added name most old id how a b h (at_end few adds) =
+    tells_map (ChangedAt name (AddedTo (addition_to old id) how)) (AddedAfter name most old id how)
+    (λ w v s. at_end_join name most old id how w v h few s) a.world b.world (adds_added name (addition_to old id) how a b adds)
+id_added name most old id how a b h (again full (uncut failed makes)) =
+    subst (λ x. Tells (AddedAfter name most old id x) a.world b.world) (sym failed)
+    (tells_map (Step (CutTo name 0) (AnswerCut CutFailed)) (AddedAfter name most old id Failed) (uncut_same name most old id) a.world b.world makes.world)
+id_added name most old id how a b h (again full (cut middle makes adds)) =
+    tells_then (Step (CutTo name 0) (AnswerCut CutDone)) (ChangedAt name (AddedTo (addition_to [] id) how)) (AddedAfter name most old id how)
+    (λ w m v r s. begun_join name most old id how w m v full r s)
+    a.world middle.world b.world makes.world (adds_added name (addition_to [] id) how middle b adds)

@@ -1,4 +1,4 @@
-pub mod Changing
+pub mod Adding
 pub mod Laws
 pub mod Reading
 pub mod Space

@@ -1,5 +1,5 @@
 -- A cache is used under its lock.
-use Rattle.std.specs.Prelude.{◌≡◌, ℕ, Bool, true, false, Option, List, []}
+use Rattle.std.specs.Prelude.{◌≡◌, ℕ, Bool, Option, List, []}
 use Rattle.pm_host.specs.Told.{HostView, Makes}
 use Rattle.pm_host.specs.declared.answers.Removed.{Removed}
 use Rattle.pm_host.specs.declared.answers.Removed.TheVariants.{Failed as RemovedFailed}
@@ -9,14 +9,14 @@ use Rattle.pm_journal.specs.Locking.{TakesLock}
 use Rattle.pm_journal.specs.declared.locking.LockRule.{LockRule}
 use Rattle.pm_journal.specs.declared.locking.LockEnd.TheVariants.{Held, Busy as LockBusy, Failed as LockFailed}
 use Rattle.formail_extra.specs.Cache.{marks_of}
-use Rattle.formail_cache.specs.Changing.{change_of, Changes}
+use Rattle.formail_cache.specs.Adding.{HoldsAll}
 use Rattle.formail_cache.specs.Reading.{ReadsCache}
 use Rattle.formail_cache.specs.declared.reading.CacheRead.TheVariants.{Whole, Front, Missing, Folder, Failed as ReadFailed}
-use Rattle.formail_cache.specs.declared.changing.Written.{Written}
-use Rattle.formail_cache.specs.declared.changing.Written.TheVariants.{Done, Unusable, Failed}
+use Rattle.formail_cache.specs.declared.adding.Written.{Written}
+use Rattle.formail_cache.specs.declared.adding.Written.TheVariants.{Done, IsFolder, Raced, Failed}
 use Rattle.formail_cache.specs.declared.stepping.Cache.{Cache}
 use Rattle.formail_cache.specs.declared.stepping.CacheEnd.{CacheEnd}
-use Rattle.formail_cache.specs.declared.stepping.CacheEnd.TheVariants.{Kept, Busy, Unusable as EndUnusable, Failed as EndFailed}
+use Rattle.formail_cache.specs.declared.stepping.CacheEnd.TheVariants.{Kept, Busy, IsFolder as EndFolder, Failed as EndFailed, Raced as EndRaced}
 
 -- 1,000 tries with sleeps of 8 seconds; a lock file older than 1,024 seconds is removed by force, with a pause of 16
 abbrev pub cache_rule : LockRule
@@ -25,25 +25,25 @@ cache_rule = record { sleep = 8; limit = 1024; suspend = 16; tries = 1000 }
 -- the end, by how the writing ended
 abbrev pub end_of : Written → List Bool → CacheEnd
 end_of Done kept = Kept kept
-end_of Unusable kept = EndUnusable
+end_of IsFolder kept = EndFolder
+end_of Raced kept = EndRaced
 end_of Failed kept = EndFailed
 
--- the mails were marked by these bytes of the cache, and the cache was brought to what they leave
-pub record Remembers (cache : Cache) (too_long : Bool) (old : List ℕ) (ids : List (Option (List ℕ))) (end : CacheEnd) (before after : HostView) : Type 0 where
+-- the mails were held against a cache of these bytes, and what is new was added
+pub record Remembers (cache : Cache) (old : List ℕ) (ids : List (Option (List ℕ))) (end : CacheEnd) (before after : HostView) : Type 0 where
   pub written : Written
-  pub changes : Changes cache.name (change_of too_long old (marks_of cache.most old ids).cache) old (marks_of cache.most old ids).cache written before after
+  pub holds : HoldsAll cache.name cache.most old ids written before after
   pub is : end ≡ end_of written (marks_of cache.most old ids).kept
 
--- the first bytes of the cache were read, and what is new was added to it, or it began anew where others may stand behind
--- these bytes; a cache that is absent has no identifiers
+-- the first 2,097,152 bytes of the cache were read, and what is new was added to it; a cache that is absent has none
 pub data Uses (cache : Cache) (ids : List (Option (List ℕ))) (end : CacheEnd) (before after : HostView) : Type 0 where
   came : (bytes : List ℕ) (middle : HostView) → ReadsCache cache.name (Whole bytes) before middle
-      → Remembers cache false bytes ids end middle after → Uses cache ids end before after
+      → Remembers cache bytes ids end middle after → Uses cache ids end before after
   too_long : (bytes : List ℕ) (middle : HostView) → ReadsCache cache.name (Front bytes) before middle
-      → Remembers cache true bytes ids end middle after → Uses cache ids end before after
+      → Remembers cache bytes ids end middle after → Uses cache ids end before after
   absent : (middle : HostView) → ReadsCache cache.name Missing before middle
-      → Remembers cache false [] ids end middle after → Uses cache ids end before after
-  folder : end ≡ EndUnusable → ReadsCache cache.name Folder before after → Uses cache ids end before after
+      → Remembers cache [] ids end middle after → Uses cache ids end before after
+  folder : end ≡ EndFolder → ReadsCache cache.name Folder before after → Uses cache ids end before after
   unread : end ≡ EndFailed → ReadsCache cache.name ReadFailed before after → Uses cache ids end before after
 
 -- the end, once the lock file was removed

@@ -1,13 +1,13 @@
 //! The cache of seen identifiers is read and added to through a host, under its lock (formail(1), option -D).
 #![tactic(auto)]
 
-mod changing;
+mod adding;
 mod laws;
 mod reading;
 mod space;
 mod stepping;
 
-pub use changing::{Change, Written};
+pub use adding::Written;
 pub use laws::marks_by_front;
 pub use reading::CacheRead;
 pub use stepping::{Cache, CacheEnd, cache_step};

@@ -1,17 +1,18 @@
 //! A cache is used under its lock.
-ghost use Rattle.std.specs.Prelude.{◌≡◌, ◌≤◌, [], IfOk, OnErr, length, vec_capacity};
+ghost use Rattle.std.specs.Prelude.{◌≡◌, ◌≤◌, [], All, IfOk, OnErr, length, vec_capacity};
 ghost use Rattle.pm_journal.specs.Locking.{TakesLock};
 ghost use Rattle.pm_host.specs.Told.{Tells, Rose};
+ghost use Rattle.formail_extra.specs.Cache.{IsShortId};
 ghost use Rattle.formail_extra.specs.Room.{HasRoom};
 ghost use Rattle.formail_cache.specs.Space.{IsReserved};
 ghost use Rattle.formail_cache.specs.Reading.{ReadsCache, IsFew};
 ghost use Rattle.formail_cache.specs.Tree.{StepsRight};
 ghost use Rattle.formail_cache.specs.Stepping.{cache_rule, end_of, given_back, Remembers, Uses, UnderLock, Steps};
 
-use crate::changing::{Change, Written, choose, make};
+use crate::adding::{Written, hold_all};
 use crate::reading::{CacheRead, read_front};
 use crate::space::{Space, reserve};
-use formail_extra::{Kept, Room, mark};
+use formail_extra::{Kept, Room};
 use pm_bytes::{Blob, Memory, Name};
 use pm_host::{Host, Removed};
 use pm_journal::{LockEnd, LockRule};
@@ -35,10 +36,12 @@ pub enum CacheEnd {
     Kept(Kept),
     /// The lock was held by others all the time.
     Busy,
-    /// A folder stands at the cache's name, or something came there meanwhile.
-    Unusable,
+    /// A directory is at the cache's name.
+    IsFolder,
     /// A call failed.
     Failed,
+    /// Others made a file at the cache's name, although they don't hold its lock.
+    Raced,
 }
 
 fn rule() -> LockRule
@@ -57,29 +60,32 @@ fn ended(written: Written, kept: Kept) -> CacheEnd
 {
     match written {
         Written::Done => CacheEnd::Kept(kept),
-        Written::Unusable => CacheEnd::Unusable,
+        Written::IsFolder => CacheEnd::IsFolder,
+        Written::Raced => CacheEnd::Raced,
         Written::Failed => CacheEnd::Failed,
     }
 }
 
-// The marks of the mails, and the cache as they leave it.
+// The mails are held against these bytes of the cache, and what is new is added.
 fn remember<H: Host>(
     host: &mut H,
     cache: &Cache,
-    too_long: bool,
     old: &[u8],
     ids: &[Option<Blob>],
     room: Room,
 ) -> CacheEnd
     requires few { length old.now ≤ 2097152 }
     requires room { HasRoom 2097152 ids.now room }
-    ensures remembers { Remembers cache.now too_long old.now ids.now result (H.told host.old) (H.told host.new) }
+    ensures remembers { Remembers cache.now old.now ids.now result (H.told host.old) (H.told host.new) }
     ensures child { (H.told host.new).child ≡ (H.told host.old).child }
 {
-    let marks = mark(room, old, cache.most, ids);
-    let new = marks.cache.as_slice();
-    let written = make(host, &cache.name, choose(too_long, old, new), old, new);
-    ended(written, marks.kept)
+    let Room {
+        cache: mut bytes,
+        mut kept,
+    } = room;
+    let _ = bytes.extend_from_slice(old);
+    let written = hold_all(host, cache, &mut bytes, &mut kept, ids);
+    ended(written, Kept::from_vec(kept))
 }
 
 fn read_cache<H: Host>(host: &mut H, name: &Name, bytes: Vec<u8>) -> CacheRead
@@ -100,10 +106,10 @@ fn use_cache<H: Host>(host: &mut H, cache: &Cache, ids: &[Option<Blob>], space: 
 {
     let Space { read, marking } = space;
     match read_cache(host, &cache.name, read) {
-        CacheRead::Whole(bytes) => remember(host, cache, false, bytes.as_slice(), ids, marking),
-        CacheRead::Front(bytes) => remember(host, cache, true, bytes.as_slice(), ids, marking),
-        CacheRead::Missing => remember(host, cache, false, b"", ids, marking),
-        CacheRead::Folder => CacheEnd::Unusable,
+        CacheRead::Whole(bytes) => remember(host, cache, bytes.as_slice(), ids, marking),
+        CacheRead::Front(bytes) => remember(host, cache, bytes.as_slice(), ids, marking),
+        CacheRead::Missing => remember(host, cache, b"", ids, marking),
+        CacheRead::Folder => CacheEnd::IsFolder,
         CacheRead::Failed => CacheEnd::Failed,
     }
 }
@@ -149,14 +155,17 @@ fn step<H: Host>(host: &mut H, cache: &Cache, ids: &[Option<Blob>], space: Space
     }
 }
 
-/// Takes the cache's lock, holds the identifiers of some mails against the cache, adds those that are new, and gives
-/// the lock back (formail(1), option -D). All memory is taken before the lock.
+/// Takes the cache's lock, holds the identifiers of some mails against the cache, adds those that are new, each by an
+/// append of its own that is synced to disk, and gives the lock back (formail(1), option -D). All memory is taken before
+/// the lock.
 pub fn cache_step<H: Host>(
     alloc: Global,
     host: &mut H,
     cache: &Cache,
     ids: &[Option<Blob>],
 ) -> Result<CacheEnd, Memory>
+    requires most { cache.now.most ≤ 1048576 }
+    requires ids { All IsShortId ids.now }
     ensures ok { IfOk result (λ end. Steps cache.now ids.now end (H.told host.old) (H.told host.new)) }
     ensures tree { IfOk result
         (λ end. Tells (StepsRight cache.now ids.now end) (H.told host.old).world (H.told host.new).world) }

@@ -1,5 +1,5 @@
-//! Runs the cases of formail that standard input has, prints what differs from what is wanted, and last how many
-//! tries passed and failed. Its status is 0 only if none failed. It is safe and total; what it prints is not stated.
+//! Runs the cases of formail that standard input has, prints each one that fails after its line's number, and last how
+//! many tries passed and failed. Its status is 0 only if none failed. It is safe and total; what it prints is not stated.
 #![tactic(auto)]
 
 mod case;
@@ -32,7 +32,7 @@ fn main(rt: HostRuntime) -> ExitCode {
 
 fn print_refused(rt: &HostRuntime, refused: Refused) -> io::Result<()> {
     match refused {
-        Refused::File { line, why } => println!(rt; "line {line}: {why}"),
+        Refused::File { line, why } => println!(rt; "{line}: {why}"),
         Refused::Misread(why) => println!(rt; "{why}"),
         Refused::Memory => println!(rt; "memory was wanting"),
         Refused::Stream => Ok(()),

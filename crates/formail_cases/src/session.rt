@@ -5,6 +5,9 @@ use case_file::{Line, Refused, Words, copy_of, show_words};
 use case_host::{differences, print_differences};
 use std::alloc::Global;
 
+// How many failed tries of one case are printed in full.
+const IN_FULL: u64 = 3;
+
 /// How many tries came as wanted, and how many didn't.
 #[derive(Clone, Copy)]
 pub struct Tally {
@@ -80,6 +83,7 @@ impl Session {
     }
 
     fn try_case<R: Print>(&mut self, rt: &R, case: &Case) -> Result<(), Refused> {
+        let mut failed = 0u64;
         for failing in case.tries.all()? {
             let wanted = case.tries.wanted(failing, case.outside.fails.as_slice())?;
             let came = run(case, failing)?;
@@ -89,15 +93,26 @@ impl Session {
                 continue;
             }
             self.tally.failed = self.tally.failed.saturating_add(1);
-            let about = show_words(self.alloc, &self.about)?;
-            let words = show_words(self.alloc, &case.words)?;
-            let choice = case.tries.choice(failing)?;
-            println!(rt;
-                "about {about}, line {}: formail {words}{choice}",
-                case.line
-            )?;
-            print_differences(rt, self.alloc, &found)?;
+            failed = failed.saturating_add(1);
+            if failed <= IN_FULL {
+                let choice = case.tries.choice(failing)?;
+                self.print_head(rt, case, choice.as_str())?;
+                print_differences(rt, self.alloc, &found)?;
+            }
         }
+        let more = failed.saturating_sub(IN_FULL);
+        if more > 0 {
+            let more = format!(in self.alloc; ": failed tries that are not shown: {more}")?;
+            self.print_head(rt, case, more.as_str())?;
+        }
+        Ok(())
+    }
+
+    // The line of a case that failed: where it is, its command line, and this.
+    fn print_head<R: Print>(&self, rt: &R, case: &Case, rest: &str) -> Result<(), Refused> {
+        let about = show_words(self.alloc, &self.about)?;
+        let words = show_words(self.alloc, &case.words)?;
+        println!(rt; "{}: about {about}: formail {words}{rest}", case.line)?;
         Ok(())
     }
 

@@ -4,7 +4,7 @@ use Rattle.pm_message.specs.Split.{split_of}
 use Rattle.formail_edit.specs.declared.edits.Edits.{Edits}
 use Rattle.formail_edit.specs.declared.edits.PutKind.TheVariants.{Old, Always}
 use Rattle.formail_extra.specs.Seen.{identifier_of}
-use Rattle.formail_extra.specs.Cache.{marks_of}
+use Rattle.formail_extra.specs.Cache.{is_seen, left_of, addition_to, next_of, is_new, marks_of}
 use Rattle.formail_extra.specs.Reply.{reply_of, envelope_of}
 
 abbrev plain : Edits
@@ -60,3 +60,42 @@ a_part_of_a_line_is_none = refl
 
 an_open_line_is_none : marks_of 8_192 (codes "a b\nc") (Some (codes "c") ∷ []) ≡ record { kept = true ∷ []; cache = codes "a b\nc\nc\n" }
 an_open_line_is_none = refl
+
+-- a cache that has MAXLEN bytes or more begins with nothing before the next identifier, and one with a byte less doesn't
+full_is_emptied : left_of 6 (codes "<a@x>\n") ≡ []
+full_is_emptied = refl
+
+a_byte_less_stays : left_of 7 (codes "<a@x>\n") ≡ codes "<a@x>\n"
+a_byte_less_stays = refl
+
+first_addition : addition_to [] (codes "<b@x>") ≡ codes "<b@x>\n"
+first_addition = refl
+
+addition_to_an_open_line : addition_to (codes "<a@") (codes "<b@x>") ≡ codes "\n<b@x>\n"
+addition_to_an_open_line = refl
+
+addition_to_an_ended_line : addition_to (codes "<a@x>\n") (codes "<b@x>") ≡ codes "<b@x>\n"
+addition_to_an_ended_line = refl
+
+emptied_open_line_is_not_ended : next_of 3 (codes "<a@") (codes "<b@x>") ≡ codes "<b@x>\n"
+emptied_open_line_is_not_ended = refl
+
+-- the second of two new ones finds the cache full, and begins it again
+begins_again_in_the_middle : marks_of 7 (codes "<a@x>\n") (Some (codes "<b@x>") ∷ Some (codes "<c@x>") ∷ Some (codes "<c@x>") ∷ []) ≡ record { kept = true ∷ true ∷ false ∷ []; cache = codes "<c@x>\n" }
+begins_again_in_the_middle = refl
+
+-- what was dropped isn't seen any more
+dropped_is_new_again : marks_of 6 (codes "<a@x>\n") (Some (codes "<b@x>") ∷ Some (codes "<a@x>") ∷ []) ≡ record { kept = true ∷ true ∷ []; cache = codes "<a@x>\n" }
+dropped_is_new_again = refl
+
+new_one : is_new (codes "<a@x>\n") (Some (codes "<b@x>")) ≡ true
+new_one = refl
+
+known_one : is_new (codes "<a@x>\n") (Some (codes "<a@x>")) ≡ false
+known_one = refl
+
+none_is_not_new : is_new (codes "<a@x>\n") None ≡ false
+none_is_not_new = refl
+
+seen_without_its_newline : is_seen (codes "<a@x>") (codes "<a@x>") ≡ false
+seen_without_its_newline = refl

@@ -1,11 +1,9 @@
 //! The cache of the identifiers that were seen (formail(1), option -D).
-ghost use Rattle.std.specs.Prelude.{◌≡◌, ◌≤◌, ◌∷◌, ◌++◌, ◌+◌, [], IfOk, IfSome, length, take, sum_by, vec_capacity};
+ghost use Rattle.std.specs.Prelude.{◌≡◌, ◌≤◌, ◌++◌, ◌+◌, length, take, vec_capacity};
 ghost use Rattle.std.specs.List.{list_any};
 ghost use Rattle.bstr.specs.Text.{lines_of};
-ghost use Rattle.formail_extra.specs.Cache.{is_line_of, is_seen, with_line_ended, stays_of, next_of, is_kept, cache_behind, marks_of};
-ghost use Rattle.formail_extra.specs.Room.{space_for, HasRoom};
+ghost use Rattle.formail_extra.specs.Cache.{is_line_of, is_seen, line_end_of, addition_to, is_kept};
 
-use crate::room::Room;
 use crate::seen::unended;
 use bstr::ByteSlice;
 use pm_bytes::Blob;
@@ -38,15 +36,6 @@ impl Kept {
     {
         self.items.as_slice()
     }
-}
-
-/// What became of some mails whose identifiers were held against a cache.
-#[derive(Drop)]
-pub struct Marks {
-    /// Of each mail, whether it is kept.
-    pub kept: Kept,
-    /// The bytes of the cache behind them all.
-    pub cache: Blob,
 }
 
 // Whether the line is whole, and is this identifier.
@@ -84,87 +73,36 @@ fn put(bytes: &mut Vec<u8>, more: &[u8])
     let _ = bytes.extend_from_slice(more);
 }
 
-fn end_line(cache: &mut Vec<u8>)
-    requires { length cache.old.items + 1 ≤ vec_capacity cache.old }
-    ensures items { cache.new.items ≡ with_line_ended cache.old.items }
-    ensures few { length cache.new.items ≤ length cache.old.items + 1 }
-    ensures space { vec_capacity cache.old ≤ vec_capacity cache.new }
+// What ends the last line of a cache.
+fn line_end(cache: &[u8]) -> &'static [u8]
+    ensures is { result.now ≡ line_end_of cache.now }
+    ensures few { length result.now ≤ 1 }
 {
     if cache.is_empty() || cache.ends_with(b"\n") {
-        return;
+        return b"";
     }
-    put(cache, b"\n");
+    b"\n"
 }
 
-// What stays of the cache before one identifier more.
-fn make_room(cache: &mut Vec<u8>, most: u64)
-    requires { length cache.old.items + 1 ≤ vec_capacity cache.old }
-    ensures items { cache.new.items ≡ stays_of most cache.old.items }
-    ensures few { length cache.new.items ≤ length cache.old.items + 1 }
-    ensures space { vec_capacity cache.old ≤ vec_capacity cache.new }
-{
-    if most <= cache.len() as u64 {
-        cache.clear();
-        return;
-    }
-    end_line(cache);
-}
-
-fn add(cache: &mut Vec<u8>, most: u64, id: &[u8])
+/// Adds the line of an identifier to the bytes of a cache, whose last line is ended before. There is room for it.
+pub fn put_line(cache: &mut Vec<u8>, id: &[u8])
     requires { length cache.old.items + (length id.now + 2) ≤ vec_capacity cache.old }
-    ensures items { cache.new.items ≡ next_of most cache.old.items id.now }
+    ensures items { cache.new.items ≡ cache.old.items ++ addition_to cache.old.items id.now }
     ensures few { length cache.new.items ≤ length cache.old.items + (length id.now + 2) }
     ensures space { vec_capacity cache.old ≤ vec_capacity cache.new }
 {
-    make_room(cache, most);
+    let end = line_end(cache.as_slice());
+    put(cache, end);
     put(cache, id);
     put(cache, b"\n");
 }
 
-// Whether a mail is kept.
-fn keeps(cache: &[u8], id: &Option<Blob>) -> bool
+/// Whether a mail is kept whose identifier is held against the bytes of a cache (formail(1), option -D).
+pub fn keeps(cache: &[u8], id: &Option<Blob>) -> bool
     ensures { result ≡ is_kept cache.now id.now }
 {
     match id {
         None => true,
         Some(id) => !was_seen(cache, id.as_slice()),
-    }
-}
-
-// The cache behind a mail.
-fn go_on(cache: &mut Vec<u8>, most: u64, id: &Option<Blob>)
-    requires { length cache.old.items + space_for id.now ≤ vec_capacity cache.old }
-    ensures items { cache.new.items ≡ cache_behind most cache.old.items id.now }
-    ensures few { length cache.new.items ≤ length cache.old.items + space_for id.now }
-    ensures space { vec_capacity cache.old ≤ vec_capacity cache.new }
-{
-    let Some(id) = id else {
-        return;
-    };
-    if was_seen(cache.as_slice(), id.as_slice()) {
-        return;
-    }
-    add(cache, most, id.as_slice());
-}
-
-/// Holds the identifiers of some mails against the bytes of a cache, each against those before it too, and adds those
-/// that weren't seen (formail(1), option -D). A cache of at least `most` bytes begins anew with the next one. It takes no
-/// memory but this room.
-pub fn mark(room: Room, cache: &[u8], most: u64, ids: &[Option<Blob>]) -> Marks
-    requires { HasRoom (length cache.now) ids.now room }
-    ensures { result ≡ marks_of most cache.now ids.now }
-{
-    let Room {
-        cache: mut bytes,
-        mut kept,
-    } = room;
-    put(&mut bytes, cache);
-    for id in ids {
-        kept.push_reserved(keeps(bytes.as_slice(), id));
-        go_on(&mut bytes, most, id);
-    }
-    Marks {
-        kept: Kept::from_vec(kept),
-        cache: Blob::from_vec(bytes),
     }
 }

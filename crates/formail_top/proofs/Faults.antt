@@ -12,7 +12,7 @@ use Rattle.formail_cache.proofs.Faults.{failed_rose, steps_later}
 use Rattle.formail_cache.specs.Stepping.{Steps}
 use Rattle.formail_cache.specs.declared.stepping.Cache.{Cache}
 use Rattle.formail_cache.specs.declared.stepping.CacheEnd.{CacheEnd}
-use Rattle.formail_cache.specs.declared.stepping.CacheEnd.TheVariants.{Kept, Busy, Unusable, Failed as CacheFailed}
+use Rattle.formail_cache.specs.declared.stepping.CacheEnd.TheVariants.{Kept, Busy, IsFolder, Failed as CacheFailed, Raced}
 use Rattle.formail_split.specs.Feeding.{FeedsEach}
 use Rattle.formail_split.specs.Laws.{FailuresHaveCalls}
 use Rattle.formail_split.specs.declared.feeding.Outcome.{Outcome}
@@ -74,7 +74,8 @@ step_rose law cache request vars mails (Kept kept) a m b x y steps puts =
       | inr out ↦ inr out
     ]
 step_rose law cache request vars mails Busy a m b x y steps stops = let e : 74 ≡ 73 = stops.0 in absurd (omega (arith, e))
-step_rose law cache request vars mails Unusable a m b x y steps stops = let e : 74 ≡ 73 = stops.0 in absurd (omega (arith, e))
+step_rose law cache request vars mails IsFolder a m b x y steps stops = let e : 74 ≡ 73 = stops.0 in absurd (omega (arith, e))
+step_rose law cache request vars mails Raced a m b x y steps stops = let e : 74 ≡ 73 = stops.0 in absurd (omega (arith, e))
 step_rose law cache request vars mails CacheFailed a m b x y steps stops =
     inl (subst (λ h. Rose a.faults h.faults) (sym stops.1) (failed_rose cache (ids_of request mails) a m steps))
 

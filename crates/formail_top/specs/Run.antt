@@ -18,7 +18,7 @@ use Rattle.formail_cache.specs.Stepping.{Steps}
 use Rattle.formail_cache.specs.Tree.{StepsRight}
 use Rattle.formail_cache.specs.declared.stepping.Cache.{Cache}
 use Rattle.formail_cache.specs.declared.stepping.CacheEnd.{CacheEnd}
-use Rattle.formail_cache.specs.declared.stepping.CacheEnd.TheVariants.{Kept, Busy, Unusable, Failed as CacheFailed}
+use Rattle.formail_cache.specs.declared.stepping.CacheEnd.TheVariants.{Kept, Busy, IsFolder, Failed as CacheFailed, Raced}
 use Rattle.formail_top.specs.Asked.{request_for}
 use Rattle.formail_top.specs.Outputs.{mails_of, wants_moment, outputs_of, each_output_of, ids_of, kept_of}
 use Rattle.formail_top.specs.declared.request.Request.{Request}
@@ -114,14 +114,15 @@ PutsKept true kept request vars mails status host host' out out' =
     Puts request.program request vars (kept_of kept mails) status host host' out out'
 PutsKept false kept request vars mails status host host' out out' = Stops (kept_status kept) status host host' out out'
 
--- what is done behind the step with the cache: 73 says that its lock was held by others, or that it can't be used, and 74
--- that a call failed
+-- what is done after the step with the cache: 73 says that its lock was held by others, that a directory is at its name or
+-- that others made the file meanwhile, and 74 that a call failed
 abbrev pub AfterStep : CacheEnd → Request → List Pair → List (List ℕ) → ℕ → HostView → HostView → StreamView → StreamView → Type 0
 AfterStep (Kept kept) request vars mails status host host' out out' =
     PutsKept request.split kept request vars mails status host host' out out'
 AfterStep Busy request vars mails status host host' out out' = Stops 73 status host host' out out'
-AfterStep Unusable request vars mails status host host' out out' = Stops 73 status host host' out out'
+AfterStep IsFolder request vars mails status host host' out out' = Stops 73 status host host' out out'
 AfterStep CacheFailed request vars mails status host host' out out' = Stops 74 status host host' out out'
+AfterStep Raced request vars mails status host host' out out' = Stops 73 status host host' out out'
 
 -- The mails were held against the cache, and treated by what came of that. Of a tree that is told it is stated what the
 -- step with the cache made of it.

@@ -1,5 +1,5 @@
 //! A run of formail.
-ghost use Rattle.std.specs.Prelude.{◌≡◌, ◌⊎◌, ℕ, List, false, IfOk, OnErr, map, string_bytes};
+ghost use Rattle.std.specs.Prelude.{◌≡◌, ◌≤◌, ◌⊎◌, ℕ, List, false, IfOk, IfSome, OnErr, map, string_bytes};
 ghost use Rattle.formail_split.specs.Parts.{parts_of};
 ghost use Rattle.formail_top.specs.Run.{IsOutput, AsksAtMost, WritesAll, Writes, Puts, kept_status, PutsKept, AfterStep, Remembers, Treats, LeavesCache, Leaves, LeavesOff, Ended};
 ghost use Rattle.formail_top.specs.Outputs.{mails_of};
@@ -160,7 +160,7 @@ fn finish_kept<H: Host, O: Sink>(
     Ok(status)
 }
 
-// What comes behind the step with the cache.
+// What comes after the step with the cache.
 fn after_step<H: Host, O: Sink>(
     alloc: Global,
     end: &CacheEnd,
@@ -183,8 +183,9 @@ fn after_step<H: Host, O: Sink>(
             finish_kept(alloc, mails, kept, request, vars, host, out)
         }
         CacheEnd::Busy => Ok(73),
-        CacheEnd::Unusable => Ok(73),
+        CacheEnd::IsFolder => Ok(73),
         CacheEnd::Failed => Ok(74),
+        CacheEnd::Raced => Ok(73),
     }
 }
 
@@ -198,7 +199,8 @@ fn remember<H: Host, O: Sink>(
     host: &mut H,
     out: &mut O,
 ) -> Result<u8, Memory>
-    requires { (H.told host.old).child ≡ Child.NoChild }
+    requires none { (H.told host.old).child ≡ Child.NoChild }
+    requires most { cache.now.most ≤ 1048576 }
     ensures ok { IfOk result (λ status. Remembers cache.now request.now vars.now mails.now status
         (H.told host.old) (H.told host.new) (O.told out.old) (O.told out.new)) }
     ensures left { OnErr result (LeavesCache cache.now (H.told host.old) (H.told host.new)) }
@@ -220,7 +222,8 @@ fn treat<H: Host, O: Sink>(
     host: &mut H,
     out: &mut O,
 ) -> Result<u8, Memory>
-    requires { (H.told host.old).child ≡ Child.NoChild }
+    requires none { (H.told host.old).child ≡ Child.NoChild }
+    requires most { IfSome request.now.cache (λ cache. cache.most ≤ 1048576) }
     ensures ok { IfOk result
         (λ status. Treats request.now.cache request.now vars.now mails.now status
         (H.told host.old) (H.told host.new) (O.told out.old) (O.told out.new)) }
@@ -243,7 +246,8 @@ fn treat_all<H: Host, O: Sink>(
     host: &mut H,
     out: &mut O,
 ) -> Result<u8, Memory>
-    requires { (H.told host.old).child ≡ Child.NoChild }
+    requires none { (H.told host.old).child ≡ Child.NoChild }
+    requires most { IfSome request.now.cache (λ cache. cache.most ≤ 1048576) }
     ensures ok { IfOk result
         (λ status. Treats request.now.cache request.now vars.now (mails_of request.now bytes.now) status
         (H.told host.old) (H.told host.new) (O.told out.old) (O.told out.new)) }

@@ -1,6 +1,7 @@
-use Rattle.std.proofs.Common.{sym, ◌∙◌, subst, refl}
+use Rattle.std.proofs.Common.{sym, ◌∙◌, subst, refl, map, string_bytes}
 use Rattle.pm_streams.specs.Reading.{Drains}
 use Rattle.formail_top.specs.Run.{too_long, lost, put}
+use Rattle.formail_top.proofs.Bounds.{asked_within}
 use Rattle.formail_top.proofs.LeavingLemmas.{on_err, left_off}
 use Rattle.formail_top.proofs.filtering.run.Goals as goal
 
@@ -26,3 +27,6 @@ pub returns-in_err-status-in-Bytes-clause-left : goal.returns-in_err-status-in-B
 returns-in_err-status-in-Bytes-clause-left g c =
     let read = sym c.in_ok-request.ensures ∙ c.in-Some.is in
     on_err _ (left_off _ c.in-Some.request _ _ read c.in_err-status-in-Bytes.ensures.left)
+
+pub treat_all-requires-clause-most : goal.treat_all-requires-clause-most
+treat_all-requires-clause-most g c = asked_within (map string_bytes c.args.words.now) c.in-Some.request (sym c.in_ok-request.ensures ∙ c.in-Some.is)
