@@ -1,6 +1,6 @@
 #!/usr/bin/env bash
 # Blocks with the flag c on real files: a copy of the process goes on behind its block, seventeen of them, of which one isn't
-# made, and copies within copies with lock files.
+# made, copies within copies with lock files, and copies that go on with the next rcfile because of HOST.
 set -eu
 . "$(dirname "$0")/common.bash"
 
@@ -56,5 +56,15 @@ printf ':0 c\n{\n    :0 fw\n    | sed s/hi/ho/\n    X=changed\n}\n:0\nmail-$X\n'
 "$program" ./rc < message 2> said || fail "a filter in a copy ended with status $?"
 cmp -s mail- piece || fail "the process's mail was changed"
 sed 's/hi/ho/' piece | cmp -s - mail-changed || fail "the copy's mail wasn't changed"
+
+# Because of HOST a copy goes on with the next rcfile of the command line, twice, and the process, which delivers, doesn't.
+printf ':0 c\n{ HOST=other }\n:0\nfirst\n' > rc
+printf ':0 c\nsecond\nHOST=another\n' > rc2
+printf ':0\nthird\n' > rc3
+"$program" ./rc ./rc2 ./rc3 < message 2> said || fail "other rcfiles in a copy ended with status $?"
+for box in first second third; do
+    cmp -s "$box" piece || fail "$box isn't the message, once"
+done
+printf 'procmail: HOST mismatched "%s"\n' other another | cmp -s - said || fail "other rcfiles in a copy told: $(cat said)"
 
 echo "$name: passed"

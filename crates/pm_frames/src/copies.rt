@@ -10,7 +10,7 @@ ghost use Rattle.pm_frames.specs.Copies.{task_of, block_at, left_of, unlocked_bl
 
 use crate::frames::{Open, RcFrame, Waiting};
 use crate::queue::Copy;
-use pm_bytes::Memory;
+use pm_bytes::{Memory, Name};
 use pm_journal::HeldLocks;
 use pm_meaning::{Chain, Process, Stored, new_chain};
 use std::alloc::Global;
@@ -99,7 +99,7 @@ fn copy_waiting(alloc: Global, waiting: &Waiting) -> Result<Waiting, Memory>
     })
 }
 
-// The process as it begins a block, with no lock, and none of the command line's rcfiles.
+// The process as it begins a block, with no lock, and the same rcfiles of the command line left.
 fn copy_process(alloc: Global, process: &Process) -> Result<Process, Memory>
     ensures mind { IfOk result (λ copy. mind_of copy ≡ begun_block (copied (mind_of process.now))) }
     ensures free { IfOk result (λ copy. copy.locks.names ≡ []) }
@@ -109,6 +109,7 @@ fn copy_process(alloc: Global, process: &Process) -> Result<Process, Memory>
     let base = process.base.copy(alloc)?;
     let host_name = process.host_name.copy(alloc)?;
     let rcfile = process.rcfile.copy(alloc)?;
+    let later = copy_names(alloc, &process.later)?;
     let stored = copy_stored(alloc, &process.stored)?;
     Ok(Process {
         filter: process.filter,
@@ -124,9 +125,20 @@ fn copy_process(alloc: Global, process: &Process) -> Result<Process, Memory>
         rcfile,
         openings: process.openings,
         is_clone: true,
-        later: VecDeque::new(alloc),
+        later,
         stored,
     })
+}
+
+// The names, in order.
+fn copy_names(alloc: Global, names: &VecDeque<Name>) -> Result<VecDeque<Name>, Memory>
+    ensures { IfOk result (λ copies. copies.items ≡ names.now.items) }
+{
+    let mut copies = VecDeque::new(alloc);
+    for index in 0..names.len() {
+        copies.push_back(names[index].copy(alloc)?)?;
+    }
+    Ok(copies)
 }
 
 fn copy_stored(alloc: Global, stored: &Stored) -> Result<Stored, Memory>

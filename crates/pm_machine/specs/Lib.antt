@@ -5,3 +5,4 @@ pub mod Courses
 pub mod Laws
 pub mod EndStatus
 pub mod Completeness
+pub mod Clones

@@ -246,9 +246,9 @@ block_of other = nil
 abbrev pub inside : Trees → Chain → Option (List ℕ) → List Item → List Item
 inside trees saved lock rest = ahead trees (BlockEnd saved lock ∷ rest)
 
--- a copy of the process holds no lock, and no rcfile of the command line is left for it
+-- a clone of a process is that process, rcfiles of the command line that are left included, but it holds no lock
 abbrev pub copied : Mind → Mind
-copied p = record p { locks = []; global = None; is_clone = true; later = [] }
+copied p = record p { locks = []; global = None; is_clone = true }
 
 -- the copy of a process that runs a block and goes on behind it
 abbrev pub clone_of : Trees → List Item → Mind → Task

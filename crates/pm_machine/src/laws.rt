@@ -1,5 +1,6 @@
 //! Laws of a run, each as the contract of a call that does nothing.
 ghost use Rattle.pm_machine.specs.Laws.{EndsOrWants, OneEnd, DeliveredIsDone};
+ghost use Rattle.pm_machine.specs.Clones.{CloneIsWhole, CloneGoesOn};
 ghost use Rattle.pm_machine.specs.Completeness.{ClearIsWell};
 ghost use Rattle.pm_machine.specs.EndStatus.{EndHasStatus, EndsOneWay};
 
@@ -41,3 +42,15 @@ pub fn clear_is_well()
 {
     end_has_status();
 }
+
+/// A clone that is made for a block has all that the process has, the rcfiles of the command line that are left included,
+/// but no lock.
+pub fn clone_is_whole()
+    ensures { CloneIsWhole }
+{}
+
+/// So a clone that meets another HOST goes on with the next rcfile of the command line: the run of `procmail ./rc ./rc2`
+/// with `:0 c`, `{ HOST=other }`, `:0`, `|` in the first and `:0 b`, `|` in the other, act by act.
+pub fn clone_goes_on()
+    ensures { CloneGoesOn }
+{}
