@@ -29,6 +29,16 @@ const TEXT: &[u8] = b"Hello Anna,\n\
     Karl Weber, Institute of Physics, Room 214, phone 555 0142, weber@physics.example\n\
     \n";
 
+// HTML in one line.
+const LINKS: &[u8] = b"<p>See <a href=\"https://shop.example/item?id=4711\">this offer</a> or \
+    <a class=\"more\" href=\"https://shop.example/list\">all of them</a>, <b>today</b> only.</p> ";
+
+// Prose without newlines.
+const PROSE: &[u8] =
+    b"thank you for the notes about our meeting on Tuesday. I have read them twice and I \
+    think that we agree on most of the points, but for two of the questions that Peter raised: who \
+    pays for the travel, and when the first draft of the report has to be ready for the others. ";
+
 /// What an area is made of.
 #[derive(Clone, Copy, Drop)]
 pub enum Kind {
@@ -38,6 +48,12 @@ pub enum Kind {
     Replies,
     /// Ordinary lines.
     Text,
+    /// HTML in one line.
+    Links,
+    /// Prose without newlines.
+    Prose,
+    /// The letters a and b in turns.
+    Pairs,
 }
 
 /// The kind that a word names.
@@ -46,6 +62,9 @@ pub fn kind_of(word: &str) -> Option<Kind> {
         "a" => Some(Kind::Letters),
         "re" => Some(Kind::Replies),
         "text" => Some(Kind::Text),
+        "links" => Some(Kind::Links),
+        "prose" => Some(Kind::Prose),
+        "pairs" => Some(Kind::Pairs),
         _ => None,
     }
 }
@@ -69,5 +88,8 @@ pub fn make(alloc: Global, kind: Kind, size: usize) -> Result<Vec<u8>, AllocErro
         Kind::Letters => filled(alloc, b"", b"a", size),
         Kind::Replies => filled(alloc, b"Subject:", b" re:", size),
         Kind::Text => filled(alloc, b"", TEXT, size),
+        Kind::Links => filled(alloc, b"", LINKS, size),
+        Kind::Prose => filled(alloc, b"", PROSE, size),
+        Kind::Pairs => filled(alloc, b"", b"ab", size),
     }
 }

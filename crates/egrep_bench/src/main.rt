@@ -1,6 +1,7 @@
 //! Makes an area and searches it once for an expression: what `bench/egrep.sh` measures.
 //!
-//! The words are `none`, `find` or `count`, an expression, `a`, `re` or `text` for what the area is made of, and its size.
+//! The arguments are `none`, `find` or `count`, a regular expression, what the area is made of (`a`, `re`, `text`, `links`,
+//! `prose` or `pairs`), and its size. `none` makes the automata and searches nothing.
 #![tactic(auto)]
 
 mod area;
@@ -81,6 +82,7 @@ fn search(rt: &HostRuntime, task: &str, text: &[u8], area: &[u8]) -> Result<(), 
             print_found(rt, found)?;
         }
         "count" => {
+            engine.reserve(area.len())?;
             let count = engine.count(area);
             println!(rt; "{count}")?;
         }

@@ -27,6 +27,7 @@ fn matches_in(alloc: Global, expr: Expr, fold: bool, area: &[u8]) -> Result<Matc
 {
     let mut engine = Engine::build(alloc, expr, fold)?;
     let found = engine.find(area);
+    engine.reserve(area.len())?;
     let count = engine.count(area);
     Ok(Matches { found, count })
 }

@@ -24,3 +24,7 @@ pub mod Deciding
 pub mod MatchOrNot
 pub mod FoundOrNot
 pub mod CountOf
+pub mod BackwardLemmas
+pub mod CacheLemmas
+pub mod ForwardLemmas
+pub mod MarkLemmas

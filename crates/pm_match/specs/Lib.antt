@@ -12,3 +12,7 @@ pub mod Automata
 pub mod Search
 pub mod Engine
 pub mod Shown
+pub mod Backward
+pub mod Cache
+pub mod Forward
+pub mod Checkpoints

@@ -1,11 +1,13 @@
 -- What a search is for.
-use Rattle.std.specs.Prelude.{◌≡◌, Bool, Some, slice_get}
+use Rattle.std.specs.Prelude.{◌≡◌, Bool, Some, slice_get, IfSome, ℕ, ◌≤◌}
 use Rattle.pm_regex.specs.Re.{Re}
 use Rattle.pm_match.specs.declared.step.Step.TheVariants.{Stop}
 use Rattle.pm_match.specs.declared.build.Program.{Program}
 use Rattle.pm_match.specs.declared.search.Search.{Search}
+use Rattle.pm_match.specs.declared.marks.Marks.{Marks}
 use Rattle.pm_match.specs.Automaton.{Built}
 use Rattle.pm_match.specs.Automata.{AreWhole, Fits}
+use Rattle.pm_match.specs.Checkpoints.{HasRoom}
 
 -- the automaton stands for the expression
 pub record IsProgram (g : Program) (e : Re) (fold : Bool) : Type 0 where
@@ -16,5 +18,10 @@ pub record IsProgram (g : Program) (e : Re) (fold : Bool) : Type 0 where
 pub record Runs (g : Search) (l r : Re) (fold : Bool) : Type 0 where
   pub whole : AreWhole g.automata
   pub room : Fits g.automata g.room
+  pub marks : IfSome g.marks (HasRoom g.automata.left.steps.items g.automata.left.exit)
   pub left : IsProgram g.automata.left l fold
   pub right : IsProgram g.automata.right r fold
+
+-- there is room to count by marks in an area of this length
+abbrev pub IsReserved : Search → ℕ → Type 0
+IsReserved g size = (m : Marks) × (g.marks ≡ Some m) × (size ≤ m.reach)

@@ -20,4 +20,8 @@ pub struct Room {
     pub left_next: Labels,
     pub right: Labels,
     pub right_next: Labels,
+    /// The last place that the last search visited.
+    pub last: usize,
+    /// How many places the last search visited.
+    pub visits: usize,
 }

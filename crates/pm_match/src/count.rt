@@ -1,14 +1,22 @@
-//! How many matches stand one behind the other.
-ghost use Rattle.std.specs.Prelude.{◌≡◌, ℕ, ◌-◌, ◌^◌, ◌<◌, Bool, List, length};
+//! How many matches there are, one after the other.
+ghost use Rattle.std.specs.Prelude.{◌≡◌, ℕ, ◌-◌, ◌^◌, ◌<◌, ◌≤◌, Bool, List, length};
 ghost use Rattle.pm_regex.specs.Re.{Re, nothing};
 ghost use Rattle.pm_match.specs.declared.engine.Found.{Found};
 ghost use Rattle.pm_match.specs.Search.{Runs};
 ghost use Rattle.pm_match.specs.Found.{IsRun, place_behind};
+ghost use Rattle.pm_match.specs.Checkpoints.{CountsTo};
 
 use crate::find::Match;
+use crate::marks::Progress;
 use crate::search::Search;
 
-/// Where the search goes on behind a match: at its end, or one further where it is empty.
+/// How many of the first bytes show whether a search visits most bytes.
+const FIRST: usize = 4096;
+
+/// How many bytes for each state an area must have to pay for the sets of the backward pass.
+const STATE: usize = 1024;
+
+/// Where the search goes on after a match: at its end, or one further if it is empty.
 fn next_place(found: Match) -> usize
     requires { found.start < 2 ^ 64 - 1 }
     ensures { result ≡ place_behind found.start found.end }
@@ -20,26 +28,79 @@ fn next_place(found: Match) -> usize
     }
 }
 
+/// Counts the next match and goes on after it, or to the area's end if there is none.
+fn count_next(search: &mut Search, area: &[u8], from: Progress) -> Progress
+    requires runs { (e : Re) × (fold : Bool) × Runs search.old e nothing fold }
+    requires few { from.count ≤ from.place }
+    requires within { from.place < length area.now }
+    ensures kept { (l r : Re) (fold : Bool) → Runs search.old l r fold → Runs search.new l r fold }
+    ensures after { from.place < result.place }
+    ensures few { result.count ≤ result.place }
+    ensures within { result.place ≤ length area.now }
+    ensures counted { (e : Re) (fold : Bool) → Runs search.old e nothing fold
+        → CountsTo fold e area.now 0 from.count from.place → CountsTo fold e area.now 0 result.count result.place }
+{
+    let end = Progress {
+        count: from.count,
+        place: area.len(),
+    };
+    match search.first(area, from.place) {
+        None => end,
+        Some(found) => {
+            if found.start >= area.len() {
+                return end;
+            }
+            Progress {
+                count: from.count + 1,
+                place: next_place(found),
+            }
+        }
+    }
+}
+
+/// Whether a count by marks is likely to be the faster one: the area is long beside the automaton, and a search of its first
+/// bytes visits most of them.
+fn is_dense(search: &mut Search, area: &[u8]) -> bool
+    requires { (e : Re) × (fold : Bool) × Runs search.old e nothing fold }
+    ensures { (l r : Re) (fold : Bool) → Runs search.old l r fold → Runs search.new l r fold }
+{
+    if area.len() < FIRST || area.len() / STATE < search.states() {
+        return false;
+    }
+    let _found = search.first(&area[..FIRST], 0);
+    search.visits() > FIRST / 2
+}
+
+/// How many places a count may be expected to visit again: none, or all.
+fn expected(search: &mut Search, area: &[u8]) -> usize
+    requires { (e : Re) × (fold : Bool) × Runs search.old e nothing fold }
+    ensures { (l r : Re) (fold : Bool) → Runs search.old l r fold → Runs search.new l r fold }
+{
+    if is_dense(search, area) {
+        area.len()
+    } else {
+        0
+    }
+}
+
 /// How many matches of the left part there are; the right part is to match nothing.
+///
+/// A search may have to visit places after its match, and the next one visits them again. Once these are an eighth of the
+/// area's, the rest is counted by marks, if room for them was reserved.
 pub fn count(search: &mut Search, area: &[u8]) -> u64
     requires { (e : Re) × (fold : Bool) × Runs search.old e nothing fold }
     ensures kept { (l r : Re) (fold : Bool) → Runs search.old l r fold → Runs search.new l r fold }
     ensures counted { (e : Re) (fold : Bool) → Runs search.old e nothing fold
         → (ms : List Found) × IsRun fold e area.now 0 ms × (result ≡ length ms) }
 {
-    let mut count = 0u64;
-    let mut from = 0usize;
-    while from < area.len() {
-        match search.first(area, from) {
-            None => return count,
-            Some(found) => {
-                if found.start >= area.len() {
-                    return count;
-                }
-                count += 1;
-                from = next_place(found);
-            }
+    let mut at = Progress { count: 0, place: 0 };
+    let mut again = expected(search, area);
+    while at.place < area.len() {
+        if again > area.len() / 8 && search.is_reserved(area.len()) {
+            return search.count_on(area, at);
         }
+        at = count_next(search, area, at);
+        again = again.saturating_add(search.last().saturating_sub(at.place));
     }
-    count
+    at.count
 }

@@ -173,12 +173,15 @@ pub fn find(automata: &Automata, room: &mut Room, area: &[u8], from: usize) -> O
     let mut best = None;
     let mut base = from;
     let mut place = from;
+    room.visits = 0;
     clear(&mut room.left);
     clear(&mut room.right);
     while place < area.len() {
+        room.visits = room.visits.saturating_add(1);
         let met = visit(automata, room, area, base, place);
         best = better(best, met, place);
         if is_final(best, &room.left, &room.right) {
+            room.last = place;
             return best;
         }
         advance(
@@ -209,6 +212,7 @@ pub fn find(automata: &Automata, room: &mut Room, area: &[u8], from: usize) -> O
         base = on.base;
         place = on.place;
     }
+    room.last = area.len();
     let met = visit(automata, room, area, base, area.len());
     better(best, met, area.len())
 }

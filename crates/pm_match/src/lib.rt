@@ -4,12 +4,16 @@
 mod advancing;
 mod atoms;
 mod automata;
+mod backward;
 mod build;
+mod cache;
 mod closing;
 mod count;
 mod engine;
 mod find;
+mod forward;
 mod labels;
+mod marks;
 mod row;
 mod search;
 mod starts;

@@ -1,4 +1,4 @@
-//! A search for two expressions one behind the other.
+//! A search for two expressions, one after the other.
 ghost use Rattle.std.specs.Prelude.{◌<◌, length};
 ghost use Rattle.pm_match.specs.Labels.{InRange};
 ghost use Rattle.pm_match.specs.Starts.{AreStarts};
@@ -7,6 +7,7 @@ use crate::automata::{Automata, Room};
 use crate::build::{Program, build};
 use crate::find::{Match, find};
 use crate::labels::no_labels;
+use crate::marks::{Marks, Progress, count_marked, make_marks};
 use crate::starts::Starts;
 use crate::tables::starts_of;
 use pm_bytes::Memory;
@@ -52,13 +53,18 @@ pub struct Search {
     alloc: Global,
     automata: Automata,
     room: Room,
+    /// Room to count by marks, once it was asked for.
+    marks: Option<Marks>,
 }
 
 impl Search {
-    ghost use Rattle.std.specs.Prelude.{◌≡◌, ◌≤◌, Bool, IfOk, length};
-    ghost use Rattle.pm_regex.specs.Re.{Re};
+    ghost use Rattle.std.specs.Prelude.{◌≡◌, ◌≤◌, Bool, List, IfOk, IsTrue, length};
+    ghost use Rattle.pm_regex.specs.Re.{Re, nothing};
+    ghost use Rattle.pm_match.specs.declared.engine.Found.{Found};
+    ghost use Rattle.pm_match.specs.Found.{IsRun};
+    ghost use Rattle.pm_match.specs.Checkpoints.{CountsTo};
     ghost use Rattle.pm_regex.specs.Postfix.{Spells};
-    ghost use Rattle.pm_match.specs.Search.{Runs};
+    ghost use Rattle.pm_match.specs.Search.{Runs, IsReserved};
     ghost use Rattle.pm_match.specs.Finding.{IsFirst};
 
     /// The search for two lists of operators, of which the second is behind the first.
@@ -83,11 +89,14 @@ impl Search {
             left_next,
             right: right_labels,
             right_next,
+            last: 0,
+            visits: 0,
         };
         Ok(Search {
             alloc,
             automata,
             room,
+            marks: None,
         })
     }
 
@@ -111,5 +120,66 @@ impl Search {
     {
         self.prepare(area);
         find(&self.automata, &mut self.room, area, from)
+    }
+
+    /// Whether there is room to count by marks in an area of this length.
+    pub fn is_reserved(&self, length: usize) -> bool
+        ensures { IsTrue result → IsReserved self.now length }
+    {
+        match &self.marks {
+            None => false,
+            Some(marks) => length <= marks.reach,
+        }
+    }
+
+    /// Makes room to count by marks in an area of this length.
+    pub fn reserve(&mut self, length: usize) -> Result<(), Memory>
+        ensures kept { (l r : Re) (fold : Bool) → Runs self.old l r fold → Runs self.new l r fold }
+    {
+        if !self.is_reserved(length) {
+            let marks = make_marks(self.alloc, self.automata.left.steps.len(), length)?;
+            self.marks = Some(marks);
+        }
+        Ok(())
+    }
+
+    /// How many matches of the left part there are, those before a place being counted already; the right part is to match
+    /// nothing.
+    pub fn count_on(&mut self, area: &[u8], from: Progress) -> u64
+        requires runs { (e : Re) × (fold : Bool) × Runs self.old e nothing fold }
+        requires few { from.count ≤ from.place }
+        requires within { from.place ≤ length area.now }
+        requires reserved { IsReserved self.old (length area.now) }
+        ensures kept { (l r : Re) (fold : Bool) → Runs self.old l r fold → Runs self.new l r fold }
+        ensures counted { (e : Re) (fold : Bool) → Runs self.old e nothing fold
+            → CountsTo fold e area.now 0 from.count from.place
+            → (ms : List Found) × IsRun fold e area.now 0 ms × (result ≡ length ms) }
+    {
+        match &mut self.marks {
+            None => from.count,
+            Some(marks) => count_marked(
+                &self.automata.left,
+                &mut self.room.left,
+                &mut self.room.left_next,
+                marks,
+                area,
+                from,
+            ),
+        }
+    }
+
+    /// The last place that the last search visited.
+    pub fn last(&self) -> usize {
+        self.room.last
+    }
+
+    /// How many places the last search visited.
+    pub fn visits(&self) -> usize {
+        self.room.visits
+    }
+
+    /// How many states the automaton of the left part has.
+    pub fn states(&self) -> usize {
+        self.automata.left.steps.len()
     }
 }

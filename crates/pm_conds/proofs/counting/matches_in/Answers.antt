@@ -10,7 +10,7 @@ returns-clause-found c = found_is c.args.fold c.args.expr c.args.area.now _ (sub
 pub returns-clause-count : goal.returns-clause-count
 returns-clause-count c =
     count_is c.args.fold c.args.expr c.args.area.now _
-    (subst (λ a. IsCount a.fold a.expr c.args.area.now c.count-count.result) (c.find-found.ensures.same ∙ c.in_ok-engine.ensures) c.count-count.ensures.counted)
+    (subst (λ a. IsCount a.fold a.expr c.args.area.now c.count-count.result) (c.reserve.ensures.same ∙ (c.find-found.ensures.same ∙ c.in_ok-engine.ensures)) c.count-count.ensures.counted)
 
 pub returns-clause-within : goal.returns-clause-within
 returns-clause-within c = found_within c.args.fold c.args.expr c.args.area.now _ (subst (λ a. IsFound a.fold a.expr c.args.area.now c.find-found.result) c.in_ok-engine.ensures c.find-found.ensures.found)

@@ -1,0 +1,17 @@
+use Rattle.std.proofs.Common.{◌≡◌, ℕ, ◌+◌, ◌<◌, ◌≤◌, ◌↔◌, vec_len}
+use Rattle.pm_match.specs.Backward.{Holds, ReachesExit}
+use Rattle.pm_match.specs.Cache.{AreReady, IsNumberOf}
+use Rattle.pm_match.proofs.cache.mark_starts.Given as goal
+
+abbrev pub decreases-loop-place : goal.decreases-loop-place
+decreases-loop-place l = l.place
+
+abbrev pub invariant-loop-place : goal.invariant-loop-place
+invariant-loop-place l = record {
+  above : l.low ≤ l.place;
+  below : l.place ≤ l.high;
+  len : vec_len l.marks ≡ vec_len l.initial.marks;
+  ready : AreReady l.program.steps.items l.program.exit l.cache;
+  at : IsNumberOf l.program.steps.items l.area l.program.exit l.place l.cache l.at;
+  marked : (k : ℕ) → l.place ≤ l.low + k → l.low + k < l.high → Holds l.marks.items k ↔ ReachesExit l.program.steps.items l.area l.program.exit l.program.entry (l.low + k);
+}

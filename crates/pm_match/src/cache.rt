@@ -1,0 +1,310 @@
+//! A cache of the backward pass. It is a deterministic automaton that reads an area from its end (a lazy DFA): its states
+//! are the sets that the pass has met, and its links are made as they are needed.
+ghost use Rattle.std.specs.Prelude.{◌≡◌, ℕ, ◌+◌, ◌*◌, ◌<◌, ◌≤◌, ◌↔◌, List, Some, IfOk, IsTrue, length, vec_len, slice_get};
+ghost use Rattle.pm_match.specs.declared.step.Step.{Step};
+ghost use Rattle.pm_match.specs.declared.cache.States.{States};
+ghost use Rattle.pm_match.specs.Labels.{InRange};
+ghost use Rattle.pm_match.specs.Backward.{IsExitSet, AreMarks};
+ghost use Rattle.pm_match.specs.Cache.{AreLinks, AreReady, HasSets, IsByteAt, IsNumberOf, Precedes, context};
+
+use crate::backward::step_back;
+use crate::build::Program;
+use std::alloc::{AllocError, Global};
+
+/// How many sets there is room for at most.
+const MOST: usize = 128;
+
+/// How many links a set has: one for each byte in each context.
+const KEYS: usize = 768;
+
+/// The link to no set.
+const NONE: u16 = 65535;
+
+/// A set of states.
+#[derive(Drop)]
+pub struct States {
+    pub set: Vec<bool>,
+}
+
+/// The sets that were met, and which of them precedes which.
+#[derive(Drop)]
+pub struct Cache {
+    pub sets: Vec<States>,
+    /// How many of the sets are in use.
+    pub count: usize,
+    /// For each set, context and byte the number of the set at the place before.
+    pub links: Vec<u16>,
+    /// The set that was made last.
+    pub made: Vec<bool>,
+}
+
+/// How many sets there is room for, by the length of the area.
+fn room_for(reach: usize) -> usize
+    ensures few { result ≤ 128 }
+    ensures many { 2 ≤ result }
+{
+    if reach / 512 < MOST - 2 {
+        reach / 512 + 2
+    } else {
+        MOST
+    }
+}
+
+/// An empty cache for so many states and areas of up to this length.
+pub fn make_cache(alloc: Global, size: usize, reach: usize) -> Result<Cache, AllocError>
+    ensures { IfOk result (λ cache. (p : List Step) (exit : ℕ) → length p ≡ size → AreReady p exit cache) }
+{
+    let room = room_for(reach);
+    let mut sets = Vec::with_capacity(alloc, room)?;
+    for _ in 0..room {
+        let set = vec![in alloc; false; size]?;
+        sets.push(States { set })?;
+    }
+    let links = vec![in alloc; NONE; room * KEYS]?;
+    let made = vec![in alloc; false; size]?;
+    Ok(Cache {
+        sets,
+        count: 0,
+        links,
+        made,
+    })
+}
+
+/// Overwrites a set with another.
+pub fn copy_set(from: &[bool], to: &mut Vec<bool>)
+    requires { vec_len to.old ≡ length from.now }
+    ensures same { to.new.items ≡ from.now }
+    ensures len { vec_len to.new ≡ length from.now }
+{
+    to.copy_from_slice(from);
+}
+
+/// What the place is after: nothing, a newline, or another byte.
+fn context_at(area: &[u8], place: usize) -> usize
+    requires { place < length area.now }
+    ensures is { result ≡ context area.now place }
+    ensures few { result < 3 }
+{
+    if place == 0 {
+        2
+    } else if area[place - 1] == b'\n' {
+        1
+    } else {
+        0
+    }
+}
+
+/// Whether both sets have the same states.
+fn is_same(one: &[bool], other: &[bool]) -> bool
+    ensures { IsTrue result → one.now ≡ other.now }
+{
+    one == other
+}
+
+/// The number of the set that was made last, or how many there are if it isn't one of them.
+fn find_set(cache: &Cache) -> usize
+    requires { HasSets cache.now }
+    ensures near { result ≤ cache.now.count }
+    ensures same { result < cache.now.count → (s : States) → slice_get cache.now.sets.items result ≡ Some s
+        → s.set.items ≡ cache.now.made.items }
+{
+    let mut index = 0;
+    while index < cache.count {
+        if is_same(&cache.sets[index].set, &cache.made) {
+            return index;
+        }
+        index += 1;
+    }
+    index
+}
+
+/// Takes the set that was made last into use.
+fn put(cache: &mut Cache)
+    requires sets { HasSets cache.old }
+    requires spare { cache.old.count < vec_len cache.old.sets }
+    ensures sets { HasSets cache.new }
+    ensures len { vec_len cache.new.sets ≡ vec_len cache.old.sets }
+    ensures count { cache.new.count ≡ cache.old.count + 1 }
+    ensures made { cache.new.made ≡ cache.old.made }
+    ensures links { cache.new.links ≡ cache.old.links }
+    ensures is { (s : States) → slice_get cache.new.sets.items cache.old.count ≡ Some s
+        → s.set.items ≡ cache.old.made.items }
+    ensures kept { (v : ℕ) → v < cache.old.count
+        → slice_get cache.new.sets.items v ≡ slice_get cache.old.sets.items v }
+{
+    let number = cache.count;
+    copy_set(&cache.made, &mut cache.sets[number].set);
+    cache.count = number + 1;
+}
+
+/// Links a set to the one that precedes it.
+fn link(cache: &mut Cache, at: usize, context: usize, byte: u8, to: usize)
+    requires sets { HasSets cache.old }
+    requires at { at < cache.old.count }
+    requires to { to < cache.old.count }
+    requires context { context < 3 }
+    ensures sets { HasSets cache.new }
+    ensures same { cache.new.sets ≡ cache.old.sets }
+    ensures count { cache.new.count ≡ cache.old.count }
+    ensures made { cache.new.made ≡ cache.old.made }
+    ensures links { (p : List Step) (exit : ℕ)
+        → AreLinks p exit cache.old.count cache.old.sets.items cache.old.links.items
+        → ((s r : States) → slice_get cache.old.sets.items at ≡ Some s → slice_get cache.old.sets.items to ≡ Some r
+        → Precedes p exit byte context s.set.items r.set.items)
+        → AreLinks p exit cache.new.count cache.new.sets.items cache.new.links.items }
+{
+    cache.links[at * KEYS + (context * 256 + byte as usize)] = to as u16;
+}
+
+/// Empties the cache but for the set that was made last, which becomes the first.
+fn restart(cache: &mut Cache)
+    requires { HasSets cache.old }
+    ensures sets { HasSets cache.new }
+    ensures len { vec_len cache.new.sets ≡ vec_len cache.old.sets }
+    ensures count { cache.new.count ≡ 1 }
+    ensures made { cache.new.made ≡ cache.old.made }
+    ensures links { (p : List Step) (exit : ℕ)
+        → AreLinks p exit cache.new.count cache.new.sets.items cache.new.links.items }
+    ensures is { (s : States) → slice_get cache.new.sets.items 0 ≡ Some s → s.set.items ≡ cache.old.made.items }
+{
+    for index in 0..cache.links.len() {
+        cache.links[index] = NONE;
+    }
+    cache.count = 0;
+    put(cache);
+}
+
+/// The number of the set that was made last, which is taken into use if it is new.
+fn number_of(cache: &mut Cache) -> usize
+    requires sets { HasSets cache.old }
+    requires spare { cache.old.count < vec_len cache.old.sets }
+    ensures sets { HasSets cache.new }
+    ensures count { cache.old.count ≤ cache.new.count }
+    ensures made { cache.new.made ≡ cache.old.made }
+    ensures links { (p : List Step) (exit : ℕ)
+        → AreLinks p exit cache.old.count cache.old.sets.items cache.old.links.items
+        → AreLinks p exit cache.new.count cache.new.sets.items cache.new.links.items }
+    ensures in_use { result < cache.new.count }
+    ensures is { (s : States) → slice_get cache.new.sets.items result ≡ Some s → s.set.items ≡ cache.old.made.items }
+    ensures kept { (v : ℕ) → v < cache.old.count
+        → slice_get cache.new.sets.items v ≡ slice_get cache.old.sets.items v }
+{
+    let known = find_set(cache);
+    if known < cache.count {
+        return known;
+    }
+    put(cache);
+    known
+}
+
+/// Makes room for the next set, and gives the number that the set that was made last has then.
+fn settle(cache: &mut Cache, number: usize) -> usize
+    requires sets { HasSets cache.old }
+    requires in_use { number < cache.old.count }
+    requires is { (s : States) → slice_get cache.old.sets.items number ≡ Some s
+        → s.set.items ≡ cache.old.made.items }
+    ensures sets { HasSets cache.new }
+    ensures spare { cache.new.count < vec_len cache.new.sets }
+    ensures made { cache.new.made ≡ cache.old.made }
+    ensures links { (p : List Step) (exit : ℕ)
+        → AreLinks p exit cache.old.count cache.old.sets.items cache.old.links.items
+        → AreLinks p exit cache.new.count cache.new.sets.items cache.new.links.items }
+    ensures in_use { result < cache.new.count }
+    ensures is { (s : States) → slice_get cache.new.sets.items result ≡ Some s → s.set.items ≡ cache.old.made.items }
+{
+    if cache.count < cache.sets.len() {
+        return number;
+    }
+    restart(cache);
+    0
+}
+
+/// The number of a set.
+pub fn enter(cache: &mut Cache, set: &[bool]) -> usize
+    requires ready { (p : List Step) × (exit : ℕ) × AreReady p exit cache.old }
+    requires set { vec_len cache.old.made ≡ length set.now }
+    ensures ready { (p : List Step) (exit : ℕ) → AreReady p exit cache.old → AreReady p exit cache.new }
+    ensures in_use { result < cache.new.count }
+    ensures is { (s : States) → slice_get cache.new.sets.items result ≡ Some s → s.set.items ≡ set.now }
+{
+    copy_set(set, &mut cache.made);
+    let number = number_of(cache);
+    settle(cache, number)
+}
+
+/// The number of the set of a place, by that of the next place, which isn't linked to it yet.
+fn meet(cache: &mut Cache, program: &Program, area: &[u8], place: usize, at: usize) -> usize
+    requires program { InRange program.now.steps.items }
+    requires exit { program.now.exit < length program.now.steps.items }
+    requires place { place < length area.now }
+    requires ready { AreReady program.now.steps.items program.now.exit cache.old }
+    requires at { IsNumberOf program.now.steps.items area.now program.now.exit (place + 1) cache.old at }
+    ensures ready { AreReady program.now.steps.items program.now.exit cache.new }
+    ensures number { IsNumberOf program.now.steps.items area.now program.now.exit place cache.new result }
+{
+    step_back(
+        &program.steps,
+        program.exit,
+        area,
+        place,
+        &cache.sets[at].set,
+        &mut cache.made,
+    );
+    let to = number_of(cache);
+    link(cache, at, context_at(area, place), area[place], to);
+    settle(cache, to)
+}
+
+/// The number of the set of a place, by that of the next place.
+fn step(cache: &mut Cache, program: &Program, area: &[u8], place: usize, at: usize) -> usize
+    requires program { InRange program.now.steps.items }
+    requires exit { program.now.exit < length program.now.steps.items }
+    requires place { place < length area.now }
+    requires ready { AreReady program.now.steps.items program.now.exit cache.old }
+    requires at { IsNumberOf program.now.steps.items area.now program.now.exit (place + 1) cache.old at }
+    ensures ready { AreReady program.now.steps.items program.now.exit cache.new }
+    ensures number { IsNumberOf program.now.steps.items area.now program.now.exit place cache.new result }
+{
+    let key = context_at(area, place) * 256 + area[place] as usize;
+    let link = cache.links[at * KEYS + key];
+    if link < NONE {
+        return link as usize;
+    }
+    meet(cache, program, area, place, at)
+}
+
+/// Marks the places from `low` up to `high` where a run from the entry to the exit begins. The set is that of `high`
+/// before, and that of `low` after.
+pub fn mark_starts(
+    program: &Program,
+    area: &[u8],
+    low: usize,
+    high: usize,
+    set: &mut Vec<bool>,
+    cache: &mut Cache,
+    marks: &mut Vec<bool>,
+)
+    requires program { InRange program.now.steps.items }
+    requires entry { program.now.entry < length program.now.steps.items }
+    requires exit { program.now.exit < length program.now.steps.items }
+    requires low { low ≤ high }
+    requires high { high ≤ length area.now }
+    requires room { high ≤ low + vec_len marks.old }
+    requires set { vec_len set.old ≡ length program.now.steps.items }
+    requires ready { AreReady program.now.steps.items program.now.exit cache.old }
+    requires after { IsExitSet program.now.steps.items area.now program.now.exit high set.old.items }
+    ensures set { vec_len set.new ≡ length program.now.steps.items }
+    ensures ready { AreReady program.now.steps.items program.now.exit cache.new }
+    ensures marks { vec_len marks.new ≡ vec_len marks.old }
+    ensures before { IsExitSet program.now.steps.items area.now program.now.exit low set.new.items }
+    ensures marked { AreMarks program.now.steps.items program.now.entry program.now.exit area.now low high marks.new.items }
+{
+    let mut at = enter(cache, set);
+    let mut place = high;
+    while place > low {
+        place -= 1;
+        at = step(cache, program, area, place, at);
+        marks[place - low] = cache.sets[at].set[program.entry];
+    }
+    copy_set(&cache.sets[at].set, set);
+}
