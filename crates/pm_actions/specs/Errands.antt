@@ -1,5 +1,5 @@
 -- What tasks ask of the outside, with all that is wanted for it.
-use Rattle.std.specs.Prelude.{◌≡◌, ℕ, false, true, not, ◌||◌, List, [], length, Option, codes, if◌then◌else◌}
+use Rattle.std.specs.Prelude.{Bool, ◌≡◌, ℕ, false, true, not, ◌||◌, List, [], length, Option, codes, if◌then◌else◌}
 use Rattle.pm_recipe.specs.declared.tree.Flags.{Flags}
 use Rattle.pm_subst.specs.Words.{words_in}
 use Rattle.pm_vars.specs.Table.{Table}
@@ -64,3 +64,9 @@ IsLockText t outputs p (Word word) =
 abbrev pub IsLockFile : Option (List ℕ) → Mind → LockFile → Type 0
 IsLockFile word p (Free lock) = (is_lock_word word ≡ true) × (lock ≡ full_lock p.base word) × (is_taken lock [] p.locks ≡ false)
 IsLockFile word p Refused = (not (is_lock_word word) || is_taken (full_lock p.base word) [] p.locks) ≡ true
+
+-- the errand hands the mail on for good: to a program, or to standard output
+abbrev pub is_for_good : Errand → Bool
+is_for_good (Feed command input kept) = true
+is_for_good (Write piece kept) = true
+is_for_good other = false

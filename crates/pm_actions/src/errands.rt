@@ -1,13 +1,13 @@
 //! What a task asks of the outside: the mail goes to a program or to standard output, is filtered, or is captured. All memory
 //! for a delivery is taken before, so that none can be wanting behind it.
-ghost use Rattle.std.specs.Prelude.{◌≡◌, ◌+◌, ◌≤◌, ℕ, List, codes, length, IfOk};
+ghost use Rattle.std.specs.Prelude.{◌≡◌, ◌+◌, ◌≤◌, ℕ, List, codes, length, IfOk, OnErr, false};
 ghost use Rattle.pm_journal.specs.Executed.{Carries, Executes};
 ghost use Rattle.pm_journal.specs.Held.{Keeping};
 ghost use Rattle.pm_journal.specs.Plan.{Plan};
 ghost use Rattle.pm_meaning.specs.Minds.{Mind, mind_of};
 ghost use Rattle.pm_meaning.specs.ProgramActions.{Tried, feed as fed_by, write as written, fed_piece as piece_fed, work_of};
 ghost use Rattle.pm_actions.specs.Copies.{remembered};
-ghost use Rattle.pm_actions.specs.Errands.{tried_of, kept_if, purpose_of, IsWork};
+ghost use Rattle.pm_actions.specs.Errands.{tried_of, kept_if, purpose_of, IsWork, is_for_good};
 
 use crate::ends::{feed_outcome, is_fine, write_outcome};
 use crate::filing::fed_parts;
@@ -114,6 +114,7 @@ pub fn carry<D: Outside>(
     ensures carries { (work : Mind → Plan Tried) → IsWork flags errand process.old.vars work
         → Carries (work (mind_of process.old)) (λ outcome. tried_of outcome (mind_of process.new)) result
         journal.old journal.new (D.told outside.old) (D.told outside.new) }
+    ensures sure { OnErr result (is_for_good errand ≡ false) }
     ensures locks { process.new.locks ≡ process.old.locks }
     ensures keeping { Keeping journal.new process.new.locks.names }
 {

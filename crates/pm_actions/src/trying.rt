@@ -1,5 +1,5 @@
 //! An errand under its lock file, where one is asked for.
-ghost use Rattle.std.specs.Prelude.{◌≡◌, ◌+◌, ◌<◌, ◌≤◌, false, length, Some, None, IfOk, OnOk};
+ghost use Rattle.std.specs.Prelude.{◌≡◌, ◌+◌, ◌<◌, ◌≤◌, false, length, Some, None, IfOk, OnOk, OnErr, true};
 ghost use Rattle.pm_journal.specs.Executed.{Carries};
 ghost use Rattle.pm_journal.specs.Held.{Keeping, holds_name};
 ghost use Rattle.pm_journal.specs.Plan.{Plan};
@@ -7,7 +7,7 @@ ghost use Rattle.pm_meaning.specs.Minds.{Mind, mind_of};
 ghost use Rattle.pm_meaning.specs.ProgramActions.{Tried, try_under as tried_under, is_fine_trial as trial_was_done};
 ghost use Rattle.pm_meaning.specs.ProgramActions.{settled_by, trial_turn};
 ghost use Rattle.pm_actions.specs.Copies.{IsFreeLock};
-ghost use Rattle.pm_actions.specs.Errands.{trying_of, IsWork};
+ghost use Rattle.pm_actions.specs.Errands.{trying_of, IsWork, is_for_good};
 ghost use Rattle.pm_actions.specs.Turning.{turn_of};
 
 use crate::attempting::is_stuck;
@@ -44,6 +44,7 @@ pub fn try_under<D: Outside>(
     ensures carries { (work : Mind → Plan Tried) → IsWork flags errand process.old.vars work
         → Carries (tried_under lock work (mind_of process.old)) (λ trial. trying_of trial (mind_of process.new)) result
         journal.old journal.new (D.told outside.old) (D.told outside.new) }
+    ensures sure { OnErr result (is_for_good errand ≡ true → journal.new.entries ≡ journal.old.entries) }
     ensures keeping { Keeping journal.new process.new.locks.names }
 {
     match lock {
@@ -70,6 +71,7 @@ fn try_free<D: Outside>(
     ensures carries { (work : Mind → Plan Tried) → IsWork flags errand process.old.vars work
         → Carries (tried_under None work (mind_of process.old)) (λ trial. trying_of trial (mind_of process.new)) result
         journal.old journal.new (D.told outside.old) (D.told outside.new) }
+    ensures sure { OnErr result (is_for_good errand ≡ true → journal.new.entries ≡ journal.old.entries) }
     ensures keeping { Keeping journal.new process.new.locks.names }
 {
     journal.reserve(process.locks.len() + 1)?;
@@ -120,6 +122,7 @@ fn try_locked<D: Outside>(
     ensures carries { (work : Mind → Plan Tried) → IsWork flags errand process.old.vars work
         → Carries (tried_under (Some request.name) work (mind_of process.old)) (λ trial. trying_of trial (mind_of process.new)) result
         journal.old journal.new (D.told outside.old) (D.told outside.new) }
+    ensures sure { OnErr result (is_for_good errand ≡ false) }
     ensures keeping { Keeping journal.new process.new.locks.names }
 {
     let LockRequest { name, noted, kept } = request;
