@@ -1,0 +1,22 @@
+# Completion of formail(1) for fish.
+set -l fields Bcc: Cc: Date: From: In-Reply-To: List-Id: Message-ID: Precedence: References: Reply-To: Return-Path: Sender: Subject: To: X-Loop:
+complete -c formail -f
+complete -c formail -o a -x -a "$fields" -d 'Add a field unless it is there'
+complete -c formail -o A -x -a "$fields" -d 'Add a field'
+complete -c formail -o b -d 'Escape no line of the body'
+complete -c formail -o c -d 'Join folded fields to one line'
+complete -c formail -o D -r -d 'Is the mail a duplicate, by a cache of so many bytes'
+complete -c formail -o f -d 'Make no From line'
+complete -c formail -o i -x -a "$fields" -d 'Replace a field, keep the old one as Old-'
+complete -c formail -o I -x -a "$fields" -d 'Replace or remove a field'
+complete -c formail -o k -d 'Keep the body in a reply'
+complete -c formail -o p -x -d 'Write this before lines that begin with From'
+complete -c formail -o r -d 'Make the header of a reply'
+complete -c formail -o R -x -a "$fields" -d 'Rename a field'
+complete -c formail -o s -x -a '(__fish_complete_subcommand)' -d 'Split a mailbox'
+complete -c formail -o t -d 'Trust the sender of the mail'
+complete -c formail -o u -x -a "$fields" -d 'Keep the first field of a name'
+complete -c formail -o U -x -a "$fields" -d 'Keep the last field of a name'
+complete -c formail -o x -x -a "$fields" -d 'Print the content of a field'
+complete -c formail -o X -x -a "$fields" -d 'Print a field'
+complete -c formail -o z -d 'Insert a blank after the colon, and remove empty fields'

@@ -1,0 +1,10 @@
+# Completion of procmail(1) for fish.
+complete -c procmail -o t -d 'Fail softly: end with 75 in place of 73'
+complete -c procmail -o f -x -d 'Make the From line with this sender'
+complete -c procmail -o r -x -d 'The same as -f'
+complete -c procmail -o a -x -d 'Set the next of $1, $2 and so on'
+complete -c procmail -o m -d 'Run as a mail filter'
+complete -c procmail -o Y -d 'Has no effect'
+complete -c procmail -o o -d 'Has no effect'
+complete -c procmail -l trial -x -d 'Deliver so many made messages by ./rc'
+complete -c procmail -a '--' -d 'End the options'
