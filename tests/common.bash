@@ -1,9 +1,11 @@
-# What the scripts of this folder share: the built programs, a fresh folder in which they run, and how they fail. Where
-# ARE_BUILT is yes, bin/ has what the gate has just built.
+# What the scripts of this directory share: the built programs, a fresh directory in which they run, and how they fail.
+# BIN names the directory of the programs, bin/ if it isn't set. ARE_BUILT=yes keeps them from being built before.
 name=$(basename "$0" .sh)
+programs=${BIN:+$(cd "$BIN" && pwd)}
 cd "$(dirname "$0")/.."
-[ "${ARE_BUILT:-}" = yes ] || make -s build > /dev/null
-programs=$PWD/bin
+top=$PWD
+[ -n "$programs" ] || [ "${ARE_BUILT:-}" = yes ] || make -s build > /dev/null
+programs=${programs:-$top/bin}
 program=$programs/procmail
 folder=$(mktemp -d)
 trap 'rm -rf "$folder"' EXIT

@@ -4,8 +4,14 @@
 # mailbox has all of the mail or none of it. And in a run of formail with a cache, which has what is new or is as it was.
 set -eu
 . "$(dirname "$0")/common.bash"
-# The allocations of a program with the C library as a shared one can be made to fail.
-program=${programs%/bin}/crates/procmail_cli/out/procmail_cli
+# The allocations of a program with the C library as a shared one can be made to fail: rt's own programs have it so.
+for one in procmail formail; do
+    if [ -n "${BIN:-}" ] || [ ! -x "$top/crates/${one}_cli/out/${one}_cli" ]; then
+        echo "memory: no program of this checkout as rt links it: skipped"
+        exit 0
+    fi
+done
+program=$top/crates/procmail_cli/out/procmail_cli
 compiler=$(command -v cc || command -v gcc || command -v clang || true)
 cat > failing.c <<'END'
 #include <errno.h>
@@ -120,7 +126,7 @@ each "a filter and a capture under lock files" -m programs
 printf 'A: b\nMessage-ID: <b@x>\n\nhi\n' > mail
 printf '<a@x>\n' > seen
 printf '<a@x>\n<b@x>\n' > added
-program=${programs%/bin}/crates/formail_cli/out/formail_cli
+program=$top/crates/formail_cli/out/formail_cli
 for later in '' yes; do
     number=0
     failed=0

@@ -4,7 +4,7 @@
 set -eu
 . "$(dirname "$0")/common.bash"
 
-cp "${programs%/bin}/crates/procmail_cli/data/rc" rc
+cp "$top/crates/procmail_cli/data/rc" rc
 
 # The messages with the numbers from 0 on, each in a file of its own.
 messages() {

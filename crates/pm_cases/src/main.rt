@@ -1,6 +1,5 @@
-//! Runs the cases that standard input has, prints what differs from what is wanted, and last how many cases
-//! passed and failed. Its status is 0 only if none failed. It is safe and total; what it prints is not
-//! stated.
+//! Runs the cases that standard input has, prints each one that fails after its line's number, and last how many tries
+//! passed and failed. Its status is 0 only if none failed. It is safe and total; what it prints is not stated.
 #![tactic(auto)]
 
 mod entries;
@@ -38,7 +37,7 @@ fn main(rt: HostRuntime) -> ExitCode {
 
 fn print_refused(rt: &HostRuntime, refused: Refused) -> io::Result<()> {
     match refused {
-        Refused::File { line, why } => println!(rt; "line {line}: {why}"),
+        Refused::File { line, why } => println!(rt; "{line}: {why}"),
         Refused::Misread(why) => println!(rt; "{why}"),
         Refused::Memory => println!(rt; "memory was wanting"),
         Refused::Stream => Ok(()),
@@ -54,7 +53,7 @@ fn run_all(rt: &HostRuntime) -> Result<Tally, Refused> {
         session.take(rt, line)?;
     }
     let tally = session.finish(rt)?;
-    let Tally { passed, failed } = tally;
+    let Tally { passed, failed, .. } = tally;
     println!(rt; "{passed} passed, {failed} failed")?;
     Ok(tally)
 }

@@ -16,6 +16,8 @@ pub struct Choice {
 #[derive(Drop)]
 pub struct Plan {
     pub alloc: Global,
+    /// The line that began it.
+    pub line: u64,
     pub name: Words,
     pub words: Vec<String>,
     pub variables: Vec<(String, String)>,
@@ -37,10 +39,11 @@ const TOO_FEW: Refused = Refused::Misread("the line has too few or too many word
 impl Plan {
     /// The words are `-m rc`, the mail is of 9 bytes, and LOGNAME is `joe` and HOME `/home/joe`; nothing
     /// stands at any name, and no call fails.
-    pub fn new(alloc: Global, name: &[Vec<u8>]) -> Result<Plan, Refused> {
+    pub fn new(alloc: Global, line: &Line) -> Result<Plan, Refused> {
         let mut plan = Plan {
             alloc,
-            name: copy_of(alloc, name)?,
+            line: line.number,
+            name: copy_of(alloc, line.arguments())?,
             words: Vec::new(alloc),
             variables: Vec::new(alloc),
             mail: b"A: b\n\nhi\n".to_vec(alloc)?,

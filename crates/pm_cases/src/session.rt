@@ -10,8 +10,6 @@ use std::alloc::Global;
 pub struct Session {
     alloc: Global,
     plan: Option<Plan>,
-    // The line that began the run.
-    begun: u64,
     about: Words,
     state: State,
     tally: Tally,
@@ -22,13 +20,9 @@ impl Session {
         Session {
             alloc,
             plan: None,
-            begun: 0,
             about: Vec::new(alloc),
             state: State::new(alloc),
-            tally: Tally {
-                passed: 0,
-                failed: 0,
-            },
+            tally: Tally::new(),
         }
     }
 
@@ -44,8 +38,7 @@ impl Session {
         match line.key() {
             "run" => {
                 self.end_plan(rt)?;
-                self.plan = Some(Plan::new(self.alloc, line.arguments())?);
-                self.begun = line.number;
+                self.plan = Some(Plan::new(self.alloc, line)?);
                 Ok(())
             }
             "about" => {
@@ -79,7 +72,7 @@ impl Session {
         let asked = show_words(self.alloc, asked)?;
         let wanted = show_words(self.alloc, wanted)?;
         let came = show_words(self.alloc, &came)?;
-        println!(rt; "about {about}: {asked}")?;
+        println!(rt; "{}: about {about}: {asked}", line.number)?;
         println!(rt; "  wanted {wanted}")?;
         println!(rt; "  came   {came}")?;
         Ok(())
@@ -91,7 +84,7 @@ impl Session {
             return Ok(());
         };
         match try_plan(rt, &plan, &mut self.tally) {
-            Err(refused) => Err(refused.at(self.begun)),
+            Err(refused) => Err(refused.at(plan.line)),
             Ok(()) => Ok(()),
         }
     }

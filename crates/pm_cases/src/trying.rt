@@ -5,27 +5,49 @@ use crate::running::run;
 use case_file::{Refused, Told, show_words};
 use case_host::{differences, print_differences};
 
-/// How many runs came as wanted, and how many didn't.
+// How many failed tries of one case are printed in full.
+const IN_FULL: u64 = 3;
+
+/// How many tries came as wanted, how many didn't, and how many of the open case didn't.
 #[derive(Clone, Copy)]
 pub struct Tally {
     pub passed: u64,
     pub failed: u64,
+    failed_here: u64,
 }
 
 impl Tally {
+    pub fn new() -> Tally {
+        Tally {
+            passed: 0,
+            failed: 0,
+            failed_here: 0,
+        }
+    }
+
     pub fn count(&mut self, passed: bool) {
         if passed {
             self.passed = self.passed.saturating_add(1);
         } else {
             self.failed = self.failed.saturating_add(1);
+            self.failed_here = self.failed_here.saturating_add(1);
         }
     }
 }
 
 /// Runs the plan with each choice of failing calls.
 pub fn try_plan<R: Print>(rt: &R, plan: &Plan, tally: &mut Tally) -> Result<(), Refused> {
+    tally.failed_here = 0;
     for failing in plan.tries.all()? {
         try_writes(rt, plan, failing, tally)?;
+    }
+    let more = tally.failed_here.saturating_sub(IN_FULL);
+    if more > 0 {
+        let name = show_words(plan.alloc, &plan.name)?;
+        println!(rt;
+            "{}: run {name}: failed tries that are not shown: {more}",
+            plan.line
+        )?;
     }
     Ok(())
 }
@@ -63,12 +85,12 @@ fn judge<R: Print>(
     let came = run(plan, choice)?;
     let found = differences(plan.alloc, wanted.lines(), came.lines())?;
     tally.count(found.is_empty());
-    if found.is_empty() {
+    if found.is_empty() || tally.failed_here > IN_FULL {
         return Ok(());
     }
     let name = show_words(plan.alloc, &plan.name)?;
     let failing = choice_text(plan, choice)?;
-    println!(rt; "run {name}{failing}")?;
+    println!(rt; "{}: run {name}{failing}", plan.line)?;
     print_differences(rt, plan.alloc, &found)
 }
 
