@@ -3,7 +3,7 @@
 # Where procmail 3.22 is installed, the same mails give the same files there.
 set -eu
 . "$(dirname "$0")/common.bash"
-examples=$(dirname "$programs")/examples
+examples=$top/examples
 mails=$folder/mails
 mkdir "$mails" stand-ins
 
@@ -115,33 +115,54 @@ mail rust rust-bounces@lists.example.org 'To: rust@lists.example.org' 'Subject: 
 mail gardens ann@x.example 'To: bob@x.example,' ' gardeners@example.org' 'Subject: roses' '' 'hello'
 mail bulk shop@x.example 'Precedence: bulk' 'Subject: buy' '' 'hello'
 mail climbing bad@x.example 'List-Id: <../../.procmailrc>' 'Subject: climb' '' 'hello'
+mail hidden bad@x.example 'List-Id: <.procmailrc>' 'Subject: hide' '' 'hello'
+mail several bad@x.example 'List-Id: <rust ../.procmailrc>' 'Subject: several' '' 'hello'
 mail not_gardens ann@x.example 'To: not-gardeners@example.org' 'Subject: weeds' '' 'hello'
 lists() {
     begin lists Mail Mail/lists
-    deliver rust gardens bulk plain climbing not_gardens rust
-    has Mail/lists/rust rust rust
+    deliver rust gardens bulk plain climbing hidden several not_gardens rust
+    has Mail/lists/rust rust several rust
     has Mail/lists/gardeners gardens
     has Mail/lists/other bulk
-    has Mail/inbox plain climbing not_gardens
+    has Mail/inbox plain climbing hidden not_gardens
     only Mail/lists/{rust,gardeners,other} Mail/inbox
     logged Mail/log "$(abstract rust lists/rust; abstract gardens lists/gardeners; abstract bulk lists/other
-        abstract plain inbox; abstract climbing inbox; abstract not_gardens inbox; abstract rust lists/rust)"
+        abstract plain inbox; abstract climbing inbox; abstract hidden inbox; abstract several lists/rust
+        abstract not_gardens inbox; abstract rust lists/rust)"
 }
 
+# Mails without a line `From `: a whole one, one that has a head alone, and one whose lines end with CRLF.
+printf 'Subject: bare\n\nhello\n' > "$mails/bare"
+printf 'Subject: head alone\n' > "$mails/head"
+printf 'Subject: crlf\r\n\r\nhello\r\nFrom here\r\n' > "$mails/crlf"
 maildir() {
-    begin maildir
+    begin maildir Maildir
     deliver plain quoting rust
-    # A mail's file is the mail without its line `From `, and no line is escaped.
-    for mail in plain quoting; do sed 1d "$mails/$mail"; done | sort > want
-    sort "$home"/Maildir/new/* | cmp -s - want || wrong "Maildir has $(cat "$home"/Maildir/new/*)"
-    for mail in plain quoting; do
-        sed 1d "$mails/$mail" > want
+    [ "$agent" = 3.22 ] || deliver bare head crlf
+    # A mail's file is the mail without its line `From `, and no line is escaped. formail ends a head that has no empty
+    # line with one, and to procmail a mail with CRLF is all head.
+    local count=0 mails_here="plain quoting bare head crlf"
+    [ "$agent" != 3.22 ] || mails_here="plain quoting"
+    for mail in $mails_here; do
+        { sed '1{/^From /d}' "$mails/$mail"; grep -q '^$' "$mails/$mail" || echo; } > want
         cmp -s want "$(grep -l "$(grep Subject: want)" "$home"/Maildir/new/*)" || wrong "no file has $mail alone"
+        count=$((count + 1))
     done
+    [ "$(find "$home"/Maildir/new -type f | wc -l)" -eq "$count" ] || wrong "Maildir has $(cat "$home"/Maildir/new/*)"
     sed 1d "$mails/rust" | cmp -s - "$home"/Maildir/.Lists/new/* || wrong "Lists has another mail"
-    [ "$(find "$home" -type f ! -path "$home/bin/*" | wc -l)" -eq 5 ] || wrong "there are other files"
+    [ "$(find "$home" -type f ! -path "$home/bin/*" | wc -l)" -eq $((count + 3)) ] || wrong "there are other files"
     [ "$(cd "$home" && echo Maildir/{tmp,cur}/* Maildir/.Lists/{tmp,cur}/*)" = \
         'Maildir/tmp/* Maildir/cur/* Maildir/.Lists/tmp/* Maildir/.Lists/cur/*' ] || wrong "tmp or cur has a file"
+    # A filter that fails, is killed or writes half of it loses no mail: that has its line then, but under 3.22.
+    [ "$agent" != 3.22 ] || return 0
+    local broken
+    for broken in 'exit 3' 'head -c 20; exit 3' 'cat > /dev/null; kill -9 $$'; do
+        rm "$home"/Maildir/new/* "$home/bin/formail"
+        printf '#!/bin/sh\n%s\n' "$broken" > "$home/bin/formail"
+        chmod +x "$home/bin/formail"
+        deliver plain
+        cmp -s "$mails/plain" "$home"/Maildir/new/* || wrong "'$broken' as the filter left $(cat "$home"/Maildir/new/*)"
+    done
 }
 
 mail spam shop@x.example 'To: joe@example.org' 'Subject: win' '' 'money for nothing'
@@ -244,15 +265,25 @@ scores() {
 }
 
 mail again_by_list l@x.example 'Message-ID: <1@x.example>' 'Subject: lunch?' 'List-Id: <a.x>' '' 'today?'
+mail two_fields l@x.example 'Message-ID: <3@x.example>' 'Message-ID: <1@x.example>' 'Subject: two' '' 'today?'
+mail empty_field l@x.example 'Message-ID:' 'Subject: empty' '' 'today?'
 duplicates() {
+    # 3.22 writes its cache in another way.
+    [ "$agent" != 3.22 ] || return 0
     begin duplicates Mail
-    deliver ask again plain again_by_list plain ask
-    has Mail/inbox ask again plain plain
-    has Mail/duplicates again_by_list ask
-    [ "$agent" = 3.22 ] || says Mail/msgid.cache $'<1@x.example>\n<2@x.example>'
-    only Mail/inbox Mail/duplicates Mail/msgid.cache
+    deliver ask again plain again_by_list plain ask two_fields empty_field empty_field two_fields
+    has Mail/inbox ask again plain plain two_fields empty_field empty_field
+    says Mail/msgid.cache $'<1@x.example>\n<2@x.example>\n<3@x.example>'
+    only Mail/inbox Mail/msgid.cache
     logged Mail/log "$(abstract ask inbox; abstract again inbox; abstract plain inbox
-        abstract again_by_list duplicates; abstract plain inbox; abstract ask duplicates)"
+        dropped again_by_list; abstract plain inbox; dropped ask; abstract two_fields inbox; abstract empty_field inbox
+        abstract empty_field inbox; dropped two_fields)"
+}
+
+# dropped MAIL: what the log says of a mail of which /dev/null got the head.
+dropped() {
+    printf '%s\n Subject: %s\n  Folder: /dev/null %s\n' "$(head -n 1 "$mails/$1")" \
+        "$(sed -n '/^$/q; s/^Subject: //p' "$mails/$1")" "$(sed '/^$/q' "$mails/$1" | wc -c)"
 }
 
 all() {
@@ -268,7 +299,7 @@ if other=$(command -v procmail) && "$other" -v 2>&1 < /dev/null | grep -q 'v3\.2
     spool=/var/mail/$(id -un)
     [ -e "$spool" ] || trap 'rm -rf "$folder"; [ -s "$spool" ] || rm -f "$spool"' EXIT
     all 3.22 "$other"
-    echo "examples: the 9 rcfiles deliver as they say, and procmail 3.22 makes the same files by them"
+    echo "examples: the 9 rcfiles deliver as they say, and procmail 3.22 makes the same files by them but duplicates.rc"
 else
-    echo "examples: the 9 rcfiles deliver as they say; procmail 3.22 isn't installed, so it was not compared"
+    echo "examples: the 9 rcfiles deliver as they say; the comparison with procmail 3.22, which isn't installed: skipped"
 fi

@@ -4,7 +4,7 @@
 # are scripts of this test.
 set -eu
 . "$(dirname "$0")/common.bash"
-pages=$(dirname "$programs")/man
+pages=$top/man
 
 # The displays that have a colon line, each as a file, with the page and the title above it as its name.
 mkdir rcs
@@ -40,10 +40,10 @@ procmailsc.5_EXAMPLES_3|short-or-links|Subject: hi
 procmailex.5_The_first_rcfile|Mail/newsletters|newsletter
 procmailex.5_The_first_rcfile|Mail/inbox|Subject: hi
 procmailex.5_The_first_rcfile|Mail/log|Folder: newsletters
-procmailex.5_Mailing_lists_into_folders|dev-list|Subject: list
-procmailex.5_Mailing_lists_into_folders|list-other|Subject: other
-procmailex.5_Maildir_for_an_IMAP_server|Maildir/new/*|Subject: hi
-procmailex.5_Maildir_for_an_IMAP_server|Maildir/.lists.other/new/*|Subject: other
+procmailex.5_Mailing_lists_into_mailboxes|dev-list|Subject: list
+procmailex.5_Mailing_lists_into_mailboxes|list-other|Subject: other
+procmailex.5_Maildirs_for_an_IMAP_server|Maildir/new/*|Subject: hi
+procmailex.5_Maildirs_for_an_IMAP_server|Maildir/.lists.other/new/*|Subject: other
 procmailex.5_Copies|archive|Subject: hi
 procmailex.5_Copies|sent|phone@example.net
 procmailex.5_Copies|invoices|an invoice
@@ -68,11 +68,13 @@ procmailex.5_Mail_for_an_address_that_is_gone|default|Subject: hi
 procmailex.5_Duplicates|msgid.cache|hi@example.org
 procmailex.5_Duplicates_2|duplicates|Subject: hi
 procmailex.5_Scores|important|X-Score: 25
-procmailex.5_A_list_of_all_heads|senders|from ann@example.org
+procmailex.5_A_list_of_all_senders|senders|from ann@example.org
 procmailex.5_What_was_done_with_the_mail|with-subject|Subject: hi
 procmailex.5_What_was_done_with_the_mail|folders.log|with-subject
 procmailex.5_A_filter_of_the_mail_server|team/info|Subject: sales
 procmailex.5_A_filter_of_the_mail_server|team/team-sales|Subject: hi
+procmailex.5_A_filter_in_a_pipe|printed|MIME-Version: 1.0
+procmailex.5_A_filter_in_a_pipe|printed|Subject: hi
 TABLE
 cut -d '|' -f 1 wanted | sort -u > named
 ls rcs | sort > there
@@ -114,6 +116,15 @@ SH
 chmod +x stubs/*
 export PATH=$folder/stubs:$programs:$PATH LOGNAME=joe
 
+# A mail whose sender in the envelope is another one than in its header, an automatic answer, and names that are to make
+# no file elsewhere: with a dot, a slash and a blank.
+mail 15 'From: Sue <header@example.com>\nTo: joe@example.org\nSubject: bounced by\n\na\n'
+sed -i '1s/ [^ ]* / envelope@example.com /' mails/15
+mail 16 'From: bot@example.com\nTo: joe@example.org\nAuto-Submitted: auto-replied\nSubject: away\n\na\n'
+mail 17 'From: bob@example.com\nTo: x@example.org\nSubject: dot\nList-Id: <.forward>\n\na\n'
+mail 18 'From: bob@example.com\nTo: x@example.org\nSubject: slash\nList-Id: <../../up>\n\na\n'
+mail 19 'From: bob@example.com\nTo: x@example.org\nSubject: blank\nList-Id: <rust .forward>\n\na\n'
+
 # stands TEXT PATTERN: the text stands in a file that the pattern names.
 stands() {
     for file in $2; do
@@ -137,7 +148,7 @@ for rc in rcs/*; do
         [ "$about/${mail##*/}" != procmailex.5_Mail_for_an_address_that_is_gone/10 ] || wanted=67
         status=0
         "$program" -a sales "SENDMAIL=$folder/stubs/sendmail" "DEFAULT=$HOME/default" "ORGMAIL=$HOME/orgmail" ./rc \
-            < "$mail" 2>> said || status=$?
+            < "$mail" >> printed 2>> said || status=$?
         [ "$status" -eq "$wanted" ] || fail "$about ended with status $status over the mail ${mail##*/}: $(cat said)"
     done
     if cat said Mail/log Maildir/log 2> /dev/null | grep '^procmail: ' > told; then
@@ -153,13 +164,27 @@ for rc in rcs/*; do
     cd "$folder"
 done
 
-# A double isn't delivered, a sender is answered once, and no reply or copy goes to a daemon, a list or a loop.
+# A duplicate isn't delivered, a sender is answered once, and no reply or copy goes to a daemon, a list or a loop.
 cd "$folder/homes/procmailex.5_Duplicates"
-[ "$(grep -c '^Subject: hi' default)" -eq 1 ] || fail "a double was delivered"
+[ "$(grep -c '^Subject: hi' default)" -eq 1 ] || fail "a duplicate was delivered"
+[ "$(wc -l < msgid.cache)" -eq 1 ] || fail "the cache is $(cat msgid.cache)"
 cd "$folder/homes/procmailex.5_A_vacation_reply"
 [ "$(grep -c '^To: ann@example.org' sent)" -eq 1 ] || fail "ann got $(grep -c '^To: ann@example.org' sent) replies"
-! grep -q 'MAILER-DAEMON' sent || fail "a daemon got a reply"
-[ "$(grep -c '^Subject: ' default)" -eq 13 ] || fail "the vacation's mails weren't all delivered"
+! grep -q -e MAILER-DAEMON -e 'To: header@' -e 'To: bot@' sent || fail "a daemon, a header or a robot got a reply"
+# bob got one for another mail than that with our X-Loop, and the reply goes to the address in the cache.
+[ "$(sed -n 's/^To: //p' sent | sort)" = "$(sort vacation.cache)" ] || fail "the replies aren't to those of the cache"
+grep -qx 'To: envelope@example.com' sent || fail "the envelope's sender got no reply"
+! grep -q '^Subject: Re: loop' sent || fail "a mail that came back was answered"
+[ "$(grep -c '^X-Loop: joe@example.org' sent)" -eq "$(grep -c '^To: ' sent)" ] || fail "a reply lacks X-Loop"
+[ "$(grep -c '^Subject: ' default)" -eq 18 ] || fail "the vacation's mails weren't all delivered"
+
+# No name of a mail makes a file elsewhere, and no file in a maildir begins with the line of a mailbox.
+for list in Mailing_lists_into_mailboxes Maildirs_for_an_IMAP_server; do
+    cd "$folder/homes/procmailex.5_$list"
+    [ ! -e .forward ] && [ ! -e up ] && [ ! -e ../up ] && [ ! -e Maildir/up ] || fail "$list: a mail named a file elsewhere"
+done
+! grep -l '^From [^ ]* Thu' Maildir/new/* Maildir/.lists*/new/* || fail "these files have the line of a mailbox"
+[ "$(cat Maildir/new/* Maildir/.lists*/new/* | grep -c '^Subject: ')" -eq 18 ] || fail "a maildir lacks a mail"
 cd "$folder/homes/procmailex.5_Forwarding_without_loops"
 ! grep -q '^Subject: loop' sent || fail "a mail that came back was forwarded again"
 echo "$name: passed, with $(ls "$folder/rcs" | wc -l) rcfiles of the pages"

@@ -14,10 +14,11 @@ fail() {
 }
 
 if command -v mandoc > /dev/null; then
-    mandoc -T lint man/*.[15] > "$folder/lint" 2> "$folder/said" || true
+    # The footers name the release and not the system, which mandoc notes as a matter of style.
+    mandoc -T lint man/*.[15] 2> "$folder/said" | grep -v 'STYLE: operating system explicitly specified' > "$folder/lint" || true
     [ ! -s "$folder/lint" ] || fail "mandoc finds: $(cat "$folder/lint")"
 else
-    echo "$name: no mandoc here: the form of the pages isn't looked at"
+    echo "$name: no mandoc here: the form of the pages: skipped"
 fi
 
 # In an example a caret, a quote, a backquote, a tilde and a hyphen are escaped, so that they can be copied anywhere.
@@ -87,8 +88,8 @@ sed -n 's/.*codes "procmail: \(.*\)\\n".*/\1/p' crates/pm_top/specs/*.antt >> "$
 section procmail.1 DIAGNOSTICS | sed -n 's/^\.It //p' | sed 's/\\&//g; s/\\(dq/"/g' > "$folder/named"
 same "log lines" procmail.1
 
-# No other file of definitions has a log line of procmail's.
-grep -l 'codes "procmail: ' crates/*/specs/*.antt | grep -v -e "$texts" -e crates/pm_top/ > "$folder/files" || true
+# No other file of definitions has a log line of procmail's, but for a worked run.
+grep -l 'codes "procmail: ' crates/*/specs/*.antt | grep -v -e "$texts" -e crates/pm_top/ -e crates/pm_machine/specs/Clones.antt > "$folder/files" || true
 [ ! -s "$folder/files" ] || fail "log lines stand elsewhere too: $(cat "$folder/files")"
 
 sed -n 's/.*codes "lockfile: \([^"\\]*\)\\"".*/\1"NAME"/p' crates/lockfile_top/specs/*.antt > "$folder/defined"
@@ -128,6 +129,18 @@ done
 sed -n 's/^macro_name [A-Za-z]* = codes "\(.*\)"/\1/p' crates/pm_regex/specs/Macros.antt > "$folder/defined"
 section procmailrc.5 Macros | items Li | sed 's/\\(ha/^/' > "$folder/named"
 same "macros" procmailrc.5
+
+# Their texts, which the page has in displays, and the definitions in pieces.
+awk '/^macro_text [A-Za-z]* =/ { if (text != "") { print text } text = ""; inside = 1 }
+    /^$/ { inside = 0 }
+    inside { line = $0; while (match(line, /codes "([^"\\]|\\.)*"/)) {
+        text = text substr(line, RSTART + 7, RLENGTH - 8); line = substr(line, RSTART + RLENGTH) } }
+    END { print text }' crates/pm_regex/specs/Macros.antt | sed 's/\\t/<TAB>/g; s/\\\\/\\/g' > "$folder/defined"
+section procmailrc.5 Macros |
+    awk '/^\.Bd -literal/ { inside = 1; text = ""; next } /^\.Ed/ { inside = 0; print text } inside { text = text $0 }' |
+    sed 's/\\(ha/^/g; s/\\-/-/g; s/\\e/\\/g' > "$folder/named"
+[ "$(wc -l < "$folder/defined")" -eq 4 ] || fail "the macros are defined in another way now"
+same "texts of macros" procmailrc.5
 
 # Options of procmail. A number is written by N here.
 words=crates/pm_words/specs/Words.antt

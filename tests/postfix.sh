@@ -1,70 +1,33 @@
 #!/usr/bin/env bash
-# A postfix of its own on the loopback hands 50 mails to procmail, by mailbox_command and by a pipe transport: each is
-# delivered, deferred or returned as docs/SERVERS.md says, and none is lost. It wants to be root, and postfix installed;
-# the machine's own postfix isn't touched, and no mail leaves the machine.
+# A postfix of its own on the loopback hands 57 mails to procmail, by mailbox_command and by a pipe transport: each is
+# delivered, deferred or returned as docs/SERVERS.md says, none is lost, and all that is delivered belongs to the user.
+# It wants to be root, and postfix installed.
 set -eu
-if [ "$(id -u)" -ne 0 ]; then
-    echo "postfix: this isn't root: skipped"
-    exit 0
-fi
-for command in postfix postconf useradd userdel; do
-    if ! PATH=$PATH:/usr/sbin:/sbin command -v "$command" > /dev/null; then
-        echo "postfix: $command isn't installed: skipped"
-        exit 0
-    fi
-done
-PATH=$PATH:/usr/sbin:/sbin
+. "$(dirname "$0")/servers.bash"
+go_apart postfix postconf ip
 if ! postconf -d maillog_file > /dev/null 2>&1 || [ -z "$(postconf -dh maillog_file_prefixes 2> /dev/null)" ]; then
-    echo "postfix: this postfix is older than 3.4 and can't log to a file: skipped"
-    exit 0
+    skip "this postfix is older than 3.4 and can't log to a file"
 fi
 . "$(dirname "$0")/common.bash"
+make_user
 
-user=pmtest$$
 config=$folder/config
 queue=$folder/queue
-home=$folder/home
 log=$folder/maillog
-made_user=
 started=
 mounted=
 
-# within SECONDS COMMAND..: tries the command until it succeeds.
-within() {
-    local end=$((SECONDS + $1))
-    until "${@:2}"; do
-        [ "$SECONDS" -lt "$end" ] || return 1
-        sleep 0.2
-    done
-}
-
-# Ends postfix and what still runs as the user, and takes the user and all files away; each step is bounded.
-remove_user() {
-    local process
-    for process in $(ps -o pid= -u "$user" 2> /dev/null); do kill -KILL "$process" 2> /dev/null || true; done
-    userdel "$user" > /dev/null 2>&1
-}
+# Ends postfix and the small file system; each step is bounded.
 clean_up() {
-    local master
-    if [ -n "$started" ]; then
-        master=$(tr -dc 0-9 2> /dev/null < "$queue/pid/master.pid" || true)
-        timeout 30 postfix -c "$config" stop > /dev/null 2>&1 || true
-        [ -z "$master" ] || within 10 eval "! kill -0 $master 2> /dev/null" || kill -KILL "$master" 2> /dev/null || true
-    fi
-    [ -z "$made_user" ] || within 10 remove_user || echo "postfix: the user $user is left" >&2
+    [ -z "$started" ] || timeout 30 postfix -c "$config" stop > /dev/null 2>&1 || true
     [ -z "$mounted" ] || umount "$home/small" 2> /dev/null || umount -l "$home/small" 2> /dev/null || true
     rm -rf "$folder"
 }
 trap clean_up EXIT
 trap 'exit 1' INT TERM HUP
 
-# A user of its own, its programs, and its rcfile.
-chmod 755 "$folder"
-mkdir -p "$config" "$queue" "$folder/data" "$folder/bin" "$home/Mail" "$home/small" "$home/pipe.test.invalid"
-cp "$programs/procmail" "$programs/formail" "$folder/bin/"
-useradd --system --user-group --no-create-home --home-dir "$home" --shell /bin/sh "$user" > /dev/null 2>&1 ||
-    { echo "postfix: no user can be made here: skipped"; exit 0; }
-made_user=yes
+# The user's rcfiles.
+mkdir -p "$config" "$queue" "$folder/data" "$home/Mail" "$home/small" "$home"/{pipe,lines}.test.invalid
 cat > "$home/.procmailrc" << 'RC'
 PATH=$HOME/../bin:/usr/bin:/bin
 MAILDIR=$HOME/Mail
@@ -84,6 +47,9 @@ ADDRESS=$1
 {
     :0 c:
     archive
+
+    :0 c
+    | id -un >> who; cat > /dev/null
 
     :0:
     copied
@@ -126,21 +92,11 @@ nowhere
 * ! ^Subject: never
 repaired
 RC
-cat > "$home/piped" << 'RC'
-LOGFILE=Mail/log
-PATH=../bin:/usr/bin:/bin
-ADDRESS="$2/$1"
+block postfix 6 | sed 's,^PATH=.*,PATH=../bin:/usr/bin:/bin,; s,^LOGFILE=.*,LOGFILE=Mail/log,' > "$home/piped"
 
-:0 fhw
-| formail -f -I 'From '
-
-:0
-* ADDRESS ?? ^^[a-z0-9][-_.a-z0-9]*/[a-z0-9][-_.a-z0-9]*^^
-$ADDRESS/
-
-:0 E
-{ EXITCODE=67 }
-RC
+# The same without a filter, for a transport that writes no line From.
+awk '/^:0 fhw/ { skip = 3 } skip > 0 { skip--; next } 1' "$home/piped" > "$home/unlined"
+! grep -q formail "$home/unlined" || fail "the filter is still in the rcfile"
 
 # A file system of 128 kB, which is full where a mail of 300 kB comes; else a folder that the user may not write to.
 if mount -t tmpfs -o "size=128k,mode=755" tmpfs "$home/small" 2> /dev/null; then
@@ -174,7 +130,7 @@ inet_protocols = ipv4
 myhostname = mail.test.invalid
 mydomain = test.invalid
 myorigin = test.invalid
-mydestination = test.invalid
+mydestination = test.invalid, stock.test.invalid
 mynetworks = 127.0.0.0/8
 smtpd_relay_restrictions = reject_unauth_destination
 smtpd_recipient_restrictions =
@@ -184,20 +140,19 @@ relay_transport = error:no mail leaves this machine
 alias_maps =
 alias_database =
 local_recipient_maps =
-virtual_mailbox_domains = pipe.test.invalid, missing.test.invalid
+virtual_mailbox_domains = pipe.test.invalid, lines.test.invalid, missing.test.invalid
 virtual_mailbox_maps =
 virtual_transport = procmail
-transport_maps = inline:{missing.test.invalid=no-rcfile:}
+transport_maps = inline:{missing.test.invalid=no-rcfile:, lines.test.invalid=unlined:, stock.test.invalid=stock:}
 forward_path =
 recipient_delimiter = +
 biff = no
 notify_classes =
-mailbox_command = $folder/bin/procmail -a "\$EXTENSION" LOCKSLEEP=1 DEFAULT="\$HOME/mbox" ORGMAIL= || exit 75
-mailbox_size_limit = 0
-command_time_limit = 9000s
+$(block postfix 2 | sed 's/ DEFAULT=/ LOCKSLEEP=1&/')
 procmail_destination_recipient_limit = 1
 procmail_time_limit = 9000s
 no-rcfile_destination_recipient_limit = 1
+unlined_destination_recipient_limit = 1
 CF
 } > "$config/main.cf"
 cat > "$config/master.cf" << CF
@@ -214,9 +169,13 @@ proxymap unix - - n - - proxymap
 error unix - - n - - error
 retry unix - - n - - error
 local unix - n n - - local
+stock unix - n n - - local
+  -o { $(block postfix 1 | sed "s,procmail -a,$folder/bin/&,") } -o { forward_path = \$home/.forward }
 anvil unix - - n - 1 anvil
-procmail unix - n n - - pipe
-  flags=FRhu user=$user directory=$home argv=$folder/bin/procmail -t -m LOCKSLEEP=1 $home/piped \${user} \${domain}
+$(block postfix 4 |
+    sed "s,vmail directory=/var/vmail,$user directory=$home,; s,-m /etc/procmail-rc,-m LOCKSLEEP=1 $home/piped,")
+unlined unix - n n - - pipe
+  flags=Rhu user=$user directory=$home argv=$folder/bin/procmail -t -m LOCKSLEEP=1 $home/unlined \${user} \${domain}
 no-rcfile unix - n n - - pipe
   flags=FRhu user=$user directory=$home argv=$folder/bin/procmail -t -m $home/no-such-rcfile
 CF
@@ -265,8 +224,8 @@ send_all() {
 
 # has FILE..: each mail from $first to $last is in these files, once in each, and nowhere else. A maildir is its folder.
 has() {
-    (cd "$home" && grep -rx "message [0-9]*" Mail small mbox pipe.test.invalid 2> /dev/null || true) |
-        sed 's,/new/[^:]*:,/new:,; s/message //' | awk -F: -v first="$first" -v last="$last" \
+    (cd "$home" && grep -rx "message [0-9]*" Mail small mbox ./*.test.invalid 2> /dev/null || true) |
+        sed 's,^\./,,; s,/new/[^:]*:,/new:,; s/message //' | awk -F: -v first="$first" -v last="$last" \
         '$2 >= first && $2 <= last { print $2 ":" $1 }' | sort > found
     for number in $(seq "$first" "$last"); do printf "$number:%s\n" "$@"; done | sort | cmp -s - found
 }
@@ -290,6 +249,7 @@ send_all 10 "$user@test.invalid" 0
 within 60 has Mail/inbox || wrong "the rcfile's default mailbox"
 send_all 5 "$user+copy@test.invalid" 0
 within 60 has Mail/archive Mail/copied || wrong "a copy"
+[ "$(sort "$home/Mail/who" | uniq -c | tr -s ' ')" = " 5 $user" ] || wrong "the user of a program"
 send_all 5 "$user+filter@test.invalid" 0
 within 60 has Mail/filtered || wrong "a filter"
 [ "$(grep -cx 'X-Filtered: yes' "$home/Mail/filtered")" -eq 5 ] || wrong "a filter's field"
@@ -300,6 +260,10 @@ send_all 5 "Anyone@pipe.test.invalid" 0
 within 60 has pipe.test.invalid/anyone/new || wrong "a pipe transport"
 [ "$(head -qn 1 "$home"/pipe.test.invalid/anyone/new/* | cut -d ' ' -f 1 | sort -u)" = Return-Path: ] ||
     wrong "the first lines by a pipe transport"
+send_all 3 "Anyone@lines.test.invalid" 0
+within 60 has lines.test.invalid/anyone/new || wrong "a pipe transport without the flag F"
+[ "$(head -qn 1 "$home"/lines.test.invalid/anyone/new/* | cut -d ' ' -f 1 | sort -u)" = Return-Path: ] ||
+    wrong "the first lines by a pipe transport without the flag F"
 
 # Returned: the sender has the notices, with the mail in them.
 send_all 5 "_refused@pipe.test.invalid" 0
@@ -321,7 +285,20 @@ done
 rm "$home/.procmailrc"
 send_all 3 "$user@test.invalid" 0
 within 60 has mbox || wrong "no rcfile at all"
+# Debian's own mailbox_command names no DEFAULT: without an rcfile the mail is returned.
+send_all 2 "$user@stock.test.invalid" 0
+within 60 has mbox || wrong "no rcfile, by the stock line"
+told bounced "$user@stock.test.invalid" 2 5.2.0 || wrong "the status of the stock line without an rcfile"
 mv "$home/good" "$home/.procmailrc"
+
+# .forward takes the place of mailbox_command.
+forward_line postfix > "$home/.forward"
+chown "$user:$user" "$home/.forward"
+send_all 2 "$user@stock.test.invalid" 0
+within 60 has Mail/inbox || wrong "a mail by .forward"
+grep -q "to=<$user@stock.test.invalid>.*status=sent (delivered to command: .* || exit 75)" "$log" ||
+    wrong "the log of .forward"
+rm "$home/.forward"
 
 # A full disk: the mails wait, the mailbox is as it was; and once there is room, they are delivered.
 send_all 5 "$user+full@test.invalid" 300000
@@ -341,11 +318,12 @@ printf 'QUIT\r\n' >&3
 answered 221
 exec 3>&-
 within 60 queued 0 || wrong "the queue at the end"
-[ "$sent" -eq 50 ] || fail "$sent mails were sent"
+[ "$sent" -eq 57 ] || fail "$sent mails were sent"
 # Each mailbox has as many mails as it was sent, each with its line `From ` and with the other one escaped.
-for pair in Mail/inbox:10 Mail/archive:5 Mail/copied:5 Mail/filtered:5 Mail/repaired:5 mbox:3 small/mbox:6; do
+for pair in Mail/inbox:12 Mail/archive:5 Mail/copied:5 Mail/filtered:5 Mail/repaired:5 mbox:5 small/mbox:6; do
     [ "$(grep -c '^From ' "$home/${pair%:*}")" -eq "${pair#*:}" ] || wrong "the mails of ${pair%:*}"
 done
 ! grep -q 'bytes left' "$home/Mail/log" || wrong "the user's log tells of bytes that are left"
 [ -z "$(find "$home" -name '*.lock')" ] || wrong "a lock file is left"
-echo "postfix: 50 mails over SMTP by postfix $(postconf -dh mail_version): delivered, deferred and returned, none lost"
+all_users || wrong "these belong to somebody else: $(find "$home" ! -user "$user" -o ! -group "$user")"
+echo "postfix: postfix $(postconf -dh mail_version) got 57 mails: delivered as the user, deferred, returned; none lost"
