@@ -39,12 +39,12 @@ rm a b
 # A lock that stays, with no retry, with one, and with two behind a sleep of a second.
 touch a
 sorry='lockfile: Sorry, giving up on "a"'
-takes 0 1 ends 73 "$sorry" a -r0 a
-takes 1 3 ends 73 "$sorry" a -1 -r1 a
-takes 2 4 ends 73 "$sorry" a -1 -r 2 a
+takes 0 6 ends 73 "$sorry" a -r0 a
+takes 1 6 ends 73 "$sorry" a -1 -r1 a
+takes 2 7 ends 73 "$sorry" a -1 -r 2 a
 # It is got once it is gone.
 (sleep 2; rm a) &
-takes 1 5 ends 0 "$none" a -1 -r9 a
+takes 1 8 ends 0 "$none" a -1 -r9 a
 wait
 
 # The first is removed where the second can't be made, and no later one is tried.
@@ -58,7 +58,7 @@ rm b
 
 # A setting holds for the names behind it.
 touch b
-takes 0 1 ends 73 'lockfile: Sorry, giving up on "b"' b -3 a -r0 b
+takes 0 2 ends 73 'lockfile: Sorry, giving up on "b"' b -3 a -r0 b
 rm b
 
 # Both statuses are exchanged by -!, wherever it stands.
@@ -69,7 +69,7 @@ rm a
 # A lock file older than the limit is removed by force, and the next try comes after the suspension. One of more than
 # 16 bytes is never forced, and neither is a newer one.
 touch -d '10 minutes ago' a
-takes 1 3 ends 0 'lockfile: Forcing lock on "a"' a -l 60 -s 1 a
+takes 1 6 ends 0 'lockfile: Forcing lock on "a"' a -l 60 -s 1 a
 printf '12345678901234567' > a
 touch -d '10 minutes ago' a
 ends 73 "$sorry" a -r0 -l60 -s1 a

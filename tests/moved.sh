@@ -21,7 +21,7 @@ cat old piece > both
 meanwhile() {
     cp old "$1/mbox"
     printf ':0:\n%s/mbox\n' "$1" > rc
-    strace -f -qq -o /dev/null -e inject=write:delay_enter=20000 "$program" -m rc < message 2> said &
+    strace -f -qq -o /dev/null -e inject=write:delay_enter=60000 "$program" -m rc < message 2> said &
     one=$!
     until [ "$(wc -c < "$1/mbox")" -gt 4200 ]; do
         kill -0 "$one" 2> /dev/null || fail "$about: the delivery ended before its middle"
