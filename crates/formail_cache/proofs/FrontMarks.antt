@@ -42,7 +42,7 @@ left_same most bytes h false long =
 pub next_same : (most : ℕ) (bytes id : List ℕ) → most ≤ 2097152 → next_of most (front bytes) id ≡ next_of most bytes id
 next_same most bytes id h = ap (λ l. l ++ addition_to l id) (left_same most bytes h (nat_le (length bytes) 2097152) refl)
 
--- the marks of some mails behind one whose identifier was seen or wasn't
+-- the marks of some mails after one whose identifier was seen or wasn't
 abbrev marks_then : Bool → ℕ → List ℕ → List ℕ → List (Option (List ℕ)) → Marks
 marks_then seen most bytes id ids = mark_before (not seen) (marks_of most (if seen then bytes else next_of most bytes id) ids)
 

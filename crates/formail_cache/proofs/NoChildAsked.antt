@@ -55,17 +55,17 @@ read_child name CacheLooking call answer k asks = ap (λ c. after_child c answer
 read_child name (CacheOn so_far) call answer k asks = ap (λ c. after_child c answer k) asks.is
 read_child name (CacheEnded end) call answer k asks = absurd asks
 
--- behind a taking of a lock runs what ran before it
+-- after a taking of a lock runs what ran before it
 pub takes_child : (rule : LockRule) (name : List ℕ) (end : LockEnd) (before after : HostView) → TakesLock rule name end before after → after.child ≡ before.child
 takes_child rule name end before after t =
     t.ran.child ∙ machine_child (LockAsks name) (lock_heard rule) (lock_child name) t.calls (Trying no_tally) t.group.last before.child t.group.walk
 
--- behind an append too
+-- after an append too
 pub appends_child : (name piece : List ℕ) (sync : Bool) (end : AppendEnd) (before after : HostView) → Appends name piece sync end before after → after.child ≡ before.child
 appends_child name piece sync end before after a =
     a.ran.child ∙ machine_child (AppendAsks name piece sync) append_heard (append_child name piece sync) a.calls Looking a.group.last before.child a.group.walk
 
--- and behind a reading
+-- and after a reading
 pub reads_child : (name : List ℕ) (at : CacheState) (before after : HostView) → ReadsTo name at before after → after.child ≡ before.child
 reads_child name at before after r =
     r.ran.child ∙ machine_child (CacheAsks name) cache_heard (read_child name) r.calls CacheLooking at before.child r.walk

@@ -79,7 +79,7 @@ look_found name w (AnswerLook Nothing) fits right = nothing_there (w.nodes name)
 look_found name w (AnswerLook LookFailed) fits right = tt
 look_found name w other fits right = absurd fits
 
--- a part that comes behind a front is the front's continuation
+-- a part that comes after a front is the front's continuation
 longer_front : (so_far part whole : List ℕ) → so_far ≡ take (length so_far) whole → part ≡ take (length part) (drop (length so_far) whole)
     → so_far ++ part ≡ take (length (so_far ++ part)) whole
 longer_front so_far part whole front behind =

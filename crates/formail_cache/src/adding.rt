@@ -38,7 +38,7 @@ fn add<H: Host>(host: &mut H, name: &Name, piece: &[u8]) -> Written
     ensures adds { Adds name.now piece.now result (H.told host.old) (H.told host.new) }
     ensures child { (H.told host.new).child ≡ (H.told host.old).child }
 {
-    how_ended(append_whole(host, name, piece, true))
+    how_ended(append_whole(host, name, piece))
 }
 
 // Adds the line of an identifier to a cache of these bytes, and to the bytes.

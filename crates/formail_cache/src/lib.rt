@@ -1,4 +1,4 @@
-//! The cache of seen identifiers is read and added to through a host, under its lock (formail(1), option -D).
+//! The cache of seen identifiers, read and added to under its lock (formail(1), option -D).
 #![tactic(auto)]
 
 mod adding;

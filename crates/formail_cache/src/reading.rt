@@ -10,7 +10,7 @@ use pm_host::{Got, Host, Looked};
 pub enum CacheRead {
     /// The bytes of the whole file.
     Whole(Blob),
-    /// The first 2,097,152 bytes, behind which others may stand.
+    /// The first 2,097,152 bytes, after which others may stand.
     Front(Blob),
     Missing,
     Folder,

@@ -15,9 +15,19 @@ use crate::space::{Space, reserve};
 use formail_extra::{Kept, Room};
 use pm_bytes::{Blob, Memory, Name};
 use pm_host::{Host, Removed};
-use pm_journal::{LockEnd, LockRule};
+use pm_journal::LockEnd;
 use pm_locks::take_lock;
 use std::alloc::Global;
+
+// The seconds of sleep after a lost try, the age after which a lock file is removed by force, the sleep after that, and
+// how many tries there are.
+const SLEEP: u64 = 8;
+
+const LIMIT: u64 = 1024;
+
+const SUSPEND: u64 = 16;
+
+const TRIES: u32 = 1000;
 
 /// Where identifiers are remembered.
 #[derive(Drop)]
@@ -42,17 +52,6 @@ pub enum CacheEnd {
     Failed,
     /// Others made a file at the cache's name, although they don't hold its lock.
     Raced,
-}
-
-fn rule() -> LockRule
-    ensures { result ≡ cache_rule }
-{
-    LockRule {
-        sleep: 8,
-        limit: 1024,
-        suspend: 16,
-        tries: 1000,
-    }
 }
 
 fn ended(written: Written, kept: Kept) -> CacheEnd
@@ -139,7 +138,7 @@ fn take<H: Host>(host: &mut H, lock: &Name) -> LockEnd
     ensures takes { TakesLock cache_rule lock.now result (H.told host.old) (H.told host.new) }
     ensures child { (H.told host.new).child ≡ (H.told host.old).child }
 {
-    take_lock(host, lock, rule())
+    take_lock(host, lock, SLEEP, LIMIT, SUSPEND, TRIES)
 }
 
 // The lock is taken, and the cache is used under it.

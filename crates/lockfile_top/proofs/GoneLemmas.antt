@@ -1,4 +1,4 @@
--- What stands behind removals that were tried.
+-- What stands after removals that were tried.
 use Rattle.std.proofs.Common.{◌≡◌, true, false, cond, Some, None, Option, List, ℕ, [], ◌∷◌, ◌++◌, refl, sym, ap, subst, bytes_eq}
 use Rattle.pm_host.specs.Told.{Tells}
 use Rattle.pm_host.specs.World.{World, after_remove, RemovesRight}
@@ -17,12 +17,12 @@ use Rattle.pm_journal.specs.declared.acts.Act.TheVariants.{Unlock, SayErr}
 use Rattle.pm_journal.specs.declared.acts.Entry.{Entry}
 use Rattle.lockfile_top.specs.Ends.{IfRemoved, AllGone, StopsFrom}
 
--- the rest of the calls is right behind the first ones
+-- the rest of the calls is right after the first ones
 right_behind : (cs ds : List Logged) (w : World) → AllRight (cs ++ ds) w → AllRight ds (after_calls cs w)
 right_behind [] ds w h = h
 right_behind (c ∷ cs) ds w h = right_behind cs ds _ h.1
 
--- where nothing stands, nothing stands behind a removal
+-- where nothing stands, nothing stands after a removal
 none_stays : (removed : Removed) (name q : List ℕ) (w : World) → w.nodes q ≡ None → (after_remove (AnswerRemove removed) name w).nodes q ≡ None
 none_stays RemovedDone name q w h = elim (bytes_eq name q) as (λ b. cond b None (w.nodes q) ≡ None) [ true ↦ refl | false ↦ h ]
 none_stays Absent name q w h = h
@@ -38,7 +38,7 @@ none_left RemovedDone name w r k = ap (λ b. cond b None (w.nodes name)) (same_n
 none_left Absent name w r k = none_there (w.nodes name) r
 none_left RemoveFailed name w r k = absurd k
 
--- the tree behind the first of these groups, where it is a removal
+-- the tree after the first of these groups, where it is a removal
 behind_first : (name : List ℕ) (answer : Removed) (g cs : List Logged) (w : World) → g ≡ logged (Remove name) (AnswerRemove answer) ∷ [] → after_calls (g ++ cs) w ≡ after_calls cs (after_remove (AnswerRemove answer) name w)
 behind_first name answer g cs w e = ap (λ c. after_calls (c ++ cs) w) e
 
@@ -73,7 +73,7 @@ gone_behind (n ∷ ns) (e ∷ es) line text (g ∷ gs) w u l h r =
     subst (AllGone (e ∷ es)) (sym (behind_first n one.removed g (joined gs) w one.call))
     (subst (λ a. IfRemoved a e.reply (after_calls (joined gs) v)) (sym u.0) here, gone_behind ns es line text gs v u.1 l h.1 right.1)
 
--- what holds behind the last entries holds behind all
+-- what holds after the last entries holds after all
 behind_front : (front rest : List Entry) (P : World → Type 0) → ((gs : List (List Logged)) (w : World) → Honest rest gs → AllRight (joined gs) w → P (after_calls (joined gs) w))
     → (gs : List (List Logged)) (w : World) → Honest (front ++ rest) gs → AllRight (joined gs) w → P (after_calls (joined gs) w)
 behind_front [] rest P k gs w h r = k gs w h r

@@ -27,7 +27,7 @@ one_name = refl
 no_retries : asked_by (codes "-r0" ∷ codes "a" ∷ codes "b" ∷ []) ≡ Some (Take (codes "a") (lock_rule 8 0 16 1) ∷ Take (codes "b") (lock_rule 8 0 16 1) ∷ [])
 no_retries = refl
 
--- `lockfile a -3 -r 5 -l 1024 -s9 b`: a setting holds for the names behind it
+-- `lockfile a -3 -r 5 -l 1024 -s9 b`: a setting holds for the names after it
 settings_behind : asked_by (codes "a" ∷ codes "-3" ∷ codes "-r" ∷ codes "5" ∷ codes "-l" ∷ codes "1024" ∷ codes "-s9" ∷ codes "b" ∷ [])
     ≡ Some (Take (codes "a") (lock_rule 8 0 16 1000000) ∷ Take (codes "b") (lock_rule 3 1024 9 6) ∷ [])
 settings_behind = refl

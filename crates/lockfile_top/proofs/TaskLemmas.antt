@@ -17,7 +17,7 @@ use Rattle.pm_journal.proofs.ActPlans.{act_executes}
 use Rattle.pm_journal.proofs.FirstActs.{first_act}
 use Rattle.pm_journal.proofs.PlanLeads.{leads_on, leads_to_end}
 use Rattle.pm_journal.proofs.WantsMemory.{executes_nothing}
-use Rattle.pm_acts.specs.Acts.{NotesSaid}
+use Rattle.pm_append.specs.Saying.{NotesSaid}
 use Rattle.lockfile_top.specs.Lines.{forcing_line, sorry_line}
 use Rattle.lockfile_top.specs.Doing.{name_of, with_name, say_then, after_take, after_give, one_task, remove_each, give_up, do_tasks}
 use Rattle.lockfile_top.specs.Jobs.{tasks_of, made_by}
@@ -30,7 +30,7 @@ use Rattle.lockfile_top.specs.declared.jobs.Job.{Job}
 pub said : {R : Type 0} (text : List ℕ) (end : R) (x y : JournalState) (a b : View) → NotesSaid None text x y a b → Executes (say_then text end) end x y a b
 said text end x y a b h = first_act (SayErr text) (λ reply. Ends end) h.reply end x x y y a b b refl h.notes (executes_nothing end y y b refl)
 
--- a line that is said only behind a removal by force
+-- a line that is said only after a removal by force
 pub said_where : {R : Type 0} (quiet : Bool) (text : List ℕ) (end : R) (x y : JournalState) (a b : View) → quiet ≡ false → NotesSaid None text x y a b
     → Executes (if quiet then Ends end else say_then text end) end x y a b
 said_where quiet text end x y a b e h = subst (λ q. Executes (if q then Ends end else say_then text end) end x y a b) (sym e) (said text end x y a b h)
@@ -74,7 +74,7 @@ pub all_removed : (whole : Plan Ending) (text : List ℕ) (names : List (List �
 all_removed whole text names x y z a b c h e n =
     leads_to_end whole (say_then text GaveUp) GaveUp x y z a b c (subst (λ l. LeadsTo whole (remove_each (reverse l) (say_then text GaveUp)) x y a b) e h) (said text GaveUp y z b c n)
 
--- what comes behind a task
+-- what comes after a task
 abbrev pub behind : Task → List Task → List (List ℕ) → Option (List (List ℕ)) → Plan Ending
 behind task tasks made = λ now. elim now [ Some names ↦ do_tasks tasks names | None ↦ give_up (name_of task) made ]
 

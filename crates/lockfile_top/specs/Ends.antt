@@ -16,7 +16,7 @@ made_from (Lock name sleep limit suspend tries) (Held sleeps forced) names = wit
 made_from (Unlock name) Removed names = without_name name names
 made_from act reply names = names
 
--- the same behind these entries
+-- the lock files that were made and not removed, after these entries
 abbrev pub made_after : List (List ℕ) → List Entry → List (List ℕ)
 made_after names [] = names
 made_after names (e ∷ es) = made_after (made_from e.act e.reply names) es
@@ -39,7 +39,7 @@ abbrev pub IfRemoved : Act → Reply → World → Type 0
 IfRemoved (Unlock name) reply w = IsRemoval reply → w.nodes name ≡ None
 IfRemoved act reply w = Unit {0}
 
--- the same of each of these entries
+-- after each of these entries that removed a file, nothing has its name
 abbrev pub AllGone : List Entry → World → Type 0
 AllGone [] w = Unit {0}
 AllGone (e ∷ es) w = IfRemoved e.act e.reply w × AllGone es w

@@ -65,7 +65,7 @@ pub record Leaves (run : Run) (h : DoesTasks run) : Type 0 where
   -- where one wasn't, the lock files that were made are removed again
   pub stopped : h.ending ≡ GaveUp → Stopped run h
 
--- the same, by how a run went
+-- what a run leaves, by how it went
 abbrev pub LeavesRight : (run : Run) → Outcome run → Type 0
 LeavesRight run (does_tasks h) = Leaves run h
 LeavesRight run other = Unit {0}
@@ -84,7 +84,7 @@ pub record Did (tasks : List Task) (ending : Ending) (before after : View) : Typ
   pub plays : Plays (do_tasks tasks []) entries ending
   pub accounts : Accounts entries before after
 
--- the same run for all words that ask for this
+-- the run of every command line that asks for these tasks
 abbrev pub RunsLine : CommandLine → ℕ → View → View → Type 0
 RunsLine line status before after =
     (words : List (List ℕ)) (env : Environ) → command_line env words ≡ Some line

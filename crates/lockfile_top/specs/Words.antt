@@ -16,7 +16,7 @@ use Rattle.lockfile_top.specs.declared.tasks.CommandLine.{CommandLine}
 use Rattle.lockfile_top.specs.declared.words.Word.{Word}
 use Rattle.lockfile_top.specs.declared.words.Word.TheVariants.{Sets, Awaits, Takes, TakesMailbox, GivesMailbox, Unread}
 
--- a sleep of 8 seconds, no lock is forced, 16 seconds behind one that is, and 1,000,000 tries
+-- a sleep of 8 seconds, no lock is forced, 16 seconds after one that is, and 1,000,000 tries
 abbrev pub first_rule : LockRule
 first_rule = lock_rule 8 0 16 1000000
 
@@ -91,7 +91,7 @@ IsNoName other = Unit {0}
 abbrev pub mailbox_lock : Environ → List ℕ
 mailbox_lock env = codes "/var/mail/" ++ login_name env ++ codes ".lock"
 
--- what the words ask for by this one and those behind it, where these ask for that by their settings
+-- what the words ask for by this one and those after it, where these ask for that by their settings
 abbrev pub by_word : List ℕ → LockRule → List ℕ → (LockRule → Option Setting → Option (List Task)) → Word
     → Option (List Task)
 by_word mailbox rule word behind (Sets now) = behind now None
@@ -102,7 +102,7 @@ by_word mailbox rule word behind GivesMailbox = option_map (λ tasks. Give mailb
 by_word mailbox rule word behind Unread = None
 
 -- What the words ask for, in order, where these are the settings and this one waits for its value; None where a word
--- isn't read. Each setting holds for the names behind it.
+-- isn't read. Each setting holds for the names after it.
 abbrev pub tasks_in : List ℕ → LockRule → Option Setting → List (List ℕ) → Option (List Task)
 tasks_in mailbox rule None [] = Some []
 tasks_in mailbox rule (Some setting) [] = None
@@ -134,7 +134,7 @@ all_bytes words = map (λ word. string_bytes word) words
 abbrev pub asked : List ℕ → LockRule → Option Setting → List Task → List (List ℕ) → Option (List Task)
 asked mailbox rule waiting tasks words = option_map (λ more. tasks ++ more) (tasks_in mailbox rule waiting words)
 
--- The first of the words was read, and now the settings and what was asked for are those behind it; or it isn't read.
+-- The first of the words was read, and now the settings and what was asked for are those after it; or it isn't read.
 abbrev pub ReadsOn : List ℕ → List ℕ → Bool → LockRule → Option Setting → List Task
     → LockRule → Option Setting → List Task → Type 0
 ReadsOn mailbox word is_read rule waiting tasks rule' waiting' tasks' =

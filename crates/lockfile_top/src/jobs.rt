@@ -1,4 +1,4 @@
-//! Tasks with all that is wanted for them, made before the first is done: no memory can be wanting behind a lock file
+//! Tasks with all that is wanted for them, made before the first is done: no memory can be wanting after a lock file
 //! that was made.
 ghost use Rattle.std.specs.Prelude.{◌≡◌, ◌++◌, ◌+◌, ◌*◌, map, codes, IfOk};
 ghost use Rattle.lockfile_top.specs.Jobs.{AllFit, IsReadyFor};

@@ -1,5 +1,5 @@
-//! The program lockfile without its machine (lockfile(1)): the words are read, lock files are made and removed through
-//! the host that is handed in, and what can't be done is told.
+//! The program lockfile without its machine (lockfile(1)): it reads the arguments, makes and removes lock files by the
+//! host that it is given, and reports what can't be done.
 #![tactic(auto)]
 
 pub mod doing;

@@ -6,8 +6,8 @@ use pm_journal::LockRule;
 use std::collections::VecDeque;
 use std::marker::Model;
 
-/// A setting that holds for the names behind it: the seconds of the sleep, the retries (`-r`), the seconds past which a
-/// lock file is removed by force (`-l`), and the seconds of the suspension behind that (`-s`).
+/// A setting that holds for the names after it: the seconds of the sleep, the retries (`-r`), the seconds past which a
+/// lock file is removed by force (`-l`), and the seconds of the suspension after that (`-s`).
 #[derive(Clone, Copy)]
 pub enum Setting {
     Sleep,
@@ -39,14 +39,14 @@ impl Model for Tasks {
 }
 
 impl Tasks {
-    /// The same tasks, from a queue. It takes no memory.
+    /// The tasks of a queue. It allocates nothing.
     pub fn from_queue(items: VecDeque<Task>) -> Tasks
         ensures { result ≡ items.items }
     {
         Tasks { items }
     }
 
-    /// The same tasks as a queue. It takes no memory.
+    /// The tasks as a queue. It allocates nothing.
     pub fn into_queue(self) -> VecDeque<Task>
         ensures { result.items ≡ self }
     {

@@ -1,4 +1,4 @@
-//! The words of the command line (lockfile(1)): settings, each of which holds for the names behind it, and names.
+//! The words of the command line (lockfile(1)): settings, each of which holds for the names after it, and names.
 ghost use Rattle.std.specs.Prelude.{◌≡◌, ◌≤◌, IfOk, IfSome, option_map, option_and_then};
 ghost use Rattle.pm_bytes.specs.Name.{has_zero};
 ghost use Rattle.pm_bytes.specs.Number.{number_of};

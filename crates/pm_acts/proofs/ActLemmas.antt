@@ -25,7 +25,8 @@ use Rattle.pm_journal.proofs.FirstActs.{act_after_room}
 use Rattle.pm_journal.proofs.KeepingActs.{IsPlain, keeping_plain, keeping_unlock}
 use Rattle.pm_journal.proofs.KeepsJoin.{keeping_same}
 use Rattle.pm_journal.proofs.WantsMemory.{out_left_off}
-use Rattle.pm_acts.specs.Acts.{say_act, NotesRead, ReadsWhole, LeavesAct, NotesPlace, Places, NotesRun, Runs, place_act, after_taking}
+use Rattle.pm_append.specs.Saying.{say_act}
+use Rattle.pm_acts.specs.Acts.{NotesRead, ReadsWhole, LeavesAct, NotesPlace, Places, NotesRun, Runs, place_act, after_taking}
 use Rattle.pm_acts.specs.declared.outside.Filing.{Filing}
 
 last_missing-end : (es : List Entry) (e : Entry) → last_missing (es ++ e ∷ []) ≡ is_missing e.reply
@@ -146,7 +147,7 @@ giving_over names left x y a b h was = record {
 pub keeping_first : (names rest : List (List ℕ)) (name : List ℕ) (reply : Reply) (x y : JournalState) (a b : View) → Keeping x names → names ≡ name ∷ rest → NotesAct (Unlock name) reply x y a b → Keeping y rest
 keeping_first names rest name reply x y a b h was u = keeping_unlock name reply x y rest a b (subst (Keeping x) was h) u
 
--- the held locks behind the taking of a lock are those that its reply leaves
+-- the held locks after the taking of a lock are those that its reply leaves
 pub taken_held : (name : List ℕ) (rule : LockRule) (end : LockEnd) (names : List (List ℕ)) → after_taking end name names ≡ held_by (lock_act name rule) (lock_reply end) names
 taken_held name rule (Held sleeps forced) names = refl
 taken_held name rule Busy names = refl

@@ -8,26 +8,17 @@ use Rattle.pm_journal.specs.Executed.{Executes, UnfinishedCalls, TakesCalls}
 use Rattle.pm_journal.specs.Noted.{NotesAct}
 use Rattle.pm_journal.specs.Plan.{ask}
 use Rattle.pm_journal.specs.declared.acts.Act.{Act}
-use Rattle.pm_journal.specs.declared.acts.Act.TheVariants.{ReadFile, Place, Run, SayFile, SayErr}
+use Rattle.pm_journal.specs.declared.acts.Act.TheVariants.{ReadFile, Place, Run, SayErr}
 use Rattle.pm_journal.specs.declared.acts.Reply.{Reply}
 use Rattle.pm_journal.specs.declared.locking.LockEnd.{LockEnd}
 use Rattle.pm_journal.specs.declared.locking.LockEnd.TheVariants.{Held}
 use Rattle.pm_append.specs.ReadsFile.{content_of}
+use Rattle.pm_append.specs.Saying.{say_act}
 use Rattle.pm_host.specs.declared.command.Command.{Command}
 use Rattle.pm_journal.specs.Outcomes.{run_end, output_in, last_output, folder_end, file_in, last_file, is_missing, last_missing}
 use Rattle.pm_journal.specs.declared.children.RunEnd.{RunEnd}
 use Rattle.pm_journal.specs.declared.placing.FolderEnd.{FolderEnd}
 use Rattle.pm_acts.specs.declared.outside.Filing.{Filing}
-
--- a text goes to a file, or to `err`
-abbrev pub say_act : Option (List ℕ) → List ℕ → Act
-say_act (Some name) text = SayFile name text
-say_act None text = SayErr text
-
--- the text was said, with some reply, and noted
-pub record NotesSaid (to : Option (List ℕ)) (text : List ℕ) (old new : JournalState) (before after : View) : Type 0 where
-  pub reply : Reply
-  pub notes : NotesAct (say_act to text) reply old new before after
 
 -- the file was read, with some reply that has this content, and noted
 pub record NotesRead (name : List ℕ) (content : Option (List ℕ)) (old new : JournalState) (before after : View) : Type 0 where
@@ -88,7 +79,7 @@ pub record LeavesAct (act : Act) (before after : View) : Type 0 where
   pub unfinished : UnfinishedCalls act calls
   pub took : TakesCalls calls before after
 
--- the held locks behind the taking of a lock
+-- the held locks after the taking of a lock
 abbrev pub after_taking : LockEnd → List ℕ → List (List ℕ) → List (List ℕ)
 after_taking (Held sleeps forced) name names = name ∷ names
 after_taking other name names = names

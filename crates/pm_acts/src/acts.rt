@@ -12,7 +12,8 @@ ghost use Rattle.pm_journal.specs.Noted.{NotesAct};
 ghost use Rattle.pm_journal.specs.Executed.{Carries, OutOfMemory, GivesEach};
 ghost use Rattle.pm_journal.specs.Held.{Keeping, holds_name, held_by, without};
 ghost use Rattle.pm_journal.specs.Plan.{ask};
-ghost use Rattle.pm_acts.specs.Acts.{Says, SaysTo, ReadsWhole, Places, Runs, say_act, place_act, after_taking};
+ghost use Rattle.pm_append.specs.Saying.{say_act};
+ghost use Rattle.pm_acts.specs.Acts.{Says, SaysTo, ReadsWhole, Places, Runs, place_act, after_taking};
 
 use crate::{Filing, Outside};
 use pm_append::WriteEnd;

@@ -1,5 +1,5 @@
-//! The acts of a run: each is done by the calls of its protocol, and noted in the journal as the one new entry, with
-//! room kept for the unlocks of the locks that are held.
+//! The acts of a run: each makes the calls of its protocol and adds one entry to the journal, which keeps room for the
+//! unlocks of all held locks.
 #![tactic(auto)]
 
 pub mod acts;

@@ -11,7 +11,7 @@ ghost use Rattle.pm_pipe.specs.Runs.{child_reply};
 ghost use Rattle.pm_acts.specs.Acts.{AreReply};
 
 use crate::{Filing, Outside};
-use pm_append::{AppendEnd, ReadEnd, WriteEnd, append_whole, read_file, write_text};
+use pm_append::{AppendEnd, ReadEnd, WriteEnd, append_by, append_whole, read_file, write_text};
 use pm_bytes::{Blob, Memory, Name};
 use pm_folders::{PlaceEnd, place};
 use pm_host::{Command, Host, Looked, Removed, Sink};
@@ -28,7 +28,7 @@ pub struct Objects<'a, H: Host, O: Sink, E: Sink> {
     pub err: &'a mut E,
 }
 
-/// Lends a host and two sinks to their acts. Whoever lends them gets the same ones back.
+/// Lends a host and two sinks to the acts of a run. The caller gets the three objects back.
 pub fn lend<'a, H: Host, O: Sink, E: Sink>(
     host: &'a mut H,
     out: &'a mut O,
@@ -64,7 +64,7 @@ impl<'a, H: Host, O: Sink, E: Sink> Outside for Objects<'a, H, O, E> {
 
     fn append(&mut self, journal: &mut Journal, name: Name, piece: Blob) -> AppendEnd {
         let before = self.counts();
-        let end = append_whole(&mut *self.host, &name, piece.as_slice(), true);
+        let end = append_whole(&mut *self.host, &name, piece.as_slice());
         let after = self.counts();
         journal.note(Entry {
             act: Act::Append { name, piece },
@@ -159,7 +159,7 @@ impl<'a, H: Host, O: Sink, E: Sink> Outside for Objects<'a, H, O, E> {
         let before = self.counts();
         match to {
             Some(name) => {
-                let end = append_whole(&mut *self.host, &name, text.as_slice(), false);
+                let end = append_by(&mut *self.host, &name, text.as_slice(), false);
                 let after = self.counts();
                 journal.note(Entry {
                     act: Act::SayFile { name, text },
@@ -228,7 +228,14 @@ impl<'a, H: Host, O: Sink, E: Sink> Outside for Objects<'a, H, O, E> {
 
     fn lock(&mut self, journal: &mut Journal, name: Name, rule: LockRule) -> LockEnd {
         let before = self.counts();
-        let end = take_lock(&mut *self.host, &name, rule);
+        let end = take_lock(
+            &mut *self.host,
+            &name,
+            rule.sleep,
+            rule.limit,
+            rule.suspend,
+            rule.tries,
+        );
         let after = self.counts();
         journal.note(Entry {
             act: Act::Lock {

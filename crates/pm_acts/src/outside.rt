@@ -7,7 +7,8 @@ ghost use Rattle.pm_journal.specs.Noted.{NotesAct};
 ghost use Rattle.pm_append.specs.ReadsFile.{FitsFile};
 ghost use Rattle.pm_append.specs.Writing.{say_reply};
 ghost use Rattle.pm_journal.specs.declared.acts.Act.TheVariants.{ReadFile, Run};
-ghost use Rattle.pm_acts.specs.Acts.{NotesSaid, NotesRead, NotesPlace, NotesRun, LeavesAct, place_act};
+ghost use Rattle.pm_append.specs.Saying.{NotesSaid};
+ghost use Rattle.pm_acts.specs.Acts.{NotesRead, NotesPlace, NotesRun, LeavesAct, place_act};
 
 use pm_append::{AppendEnd, WriteEnd};
 use pm_bytes::{Blob, Memory, Name};
@@ -31,7 +32,7 @@ pub trait Outside {
     /// What the host and the sinks tell.
     ghost told: { Self → View };
 
-    /// Appends the piece to the file, whole and brought to the store, or cut back.
+    /// Appends the piece to the file, whole and synced to disk, or cut back.
     fn append(&mut self, journal: &mut Journal, name: Name, piece: Blob) -> AppendEnd
         requires { 0 < journal.old.room }
         ensures { NotesAct (Act.Append name piece) (append_reply result)

@@ -1,6 +1,6 @@
 //! The taking of a lock without a host: what to ask next, and how to go on after the answer.
 ghost use Rattle.std.specs.Prelude.{◌≡◌, ◌<◌, ◌≤◌, ◌+◌, ◌-◌, ◌*◌, IsTrue};
-ghost use Rattle.pm_journal.specs.Locking.{lock_step, lock_heard, lock_left, lock_within, lose as try_lost};
+ghost use Rattle.pm_journal.specs.Locking.{lock_step, lock_heard, lock_left, lock_within, lock_rule, lose as try_lost};
 ghost use Rattle.pm_locks.specs.Machine.{taking, taking_heard};
 ghost use Rattle.pm_locks.specs.Steps.{as_answer, IsAnswerToLock};
 
@@ -38,12 +38,19 @@ impl Model for LockCore {
 }
 
 impl LockCore {
-    /// The taking of a lock that begins.
-    pub fn new(rule: LockRule) -> LockCore
-        requires some { 1 ≤ rule.tries }
-        requires few { rule.tries ≤ 1000000 }
-        ensures { result ≡ taking rule }
+    /// The taking of a lock that begins, by these seconds of sleep, of the oldest age, and of the sleep after a
+    /// removal by force, and with so many tries.
+    pub fn new(sleep: u64, limit: u64, suspend: u64, tries: u32) -> LockCore
+        requires some { 1 ≤ tries }
+        requires few { tries ≤ 1000000 }
+        ensures { result ≡ taking (lock_rule sleep limit suspend tries) }
     {
+        let rule = LockRule {
+            sleep,
+            limit,
+            suspend,
+            tries,
+        };
         LockCore {
             rule,
             at: LockState::Trying(Tally {

@@ -34,7 +34,7 @@ use Rattle.pm_turns.specs.declared.writers.Place.TheVariants.{Locking, Appending
 use Rattle.pm_turns.specs.declared.writers.Will.{Will}
 use Rattle.pm_turns.specs.declared.writers.Will.TheVariants.{Serve, Fail}
 use Rattle.pm_turns.specs.declared.writers.Writer.{Writer}
-use Rattle.pm_turns.specs.Turning.{Turning, Event, lock_answer, append_answer, part_of, lock_place, append_place, delivery, place_by, mailbox_by, outcome_by, is_over, put, place_turn, turn, happens, run, begun}
+use Rattle.pm_turns.specs.Turning.{Turning, Event, lock_answer, append_answer, part_of, lock_place, append_place, delivery, place_by, mailbox_by, outcome_by, is_over, put, place_turn, turn, happens, run, begun, rule_of}
 use Rattle.pm_turns.specs.Calls.{lock_call, append_call, call_by, call_of, made, calls_of, Appended, BringTo}
 use Rattle.pm_turns.specs.Laws.{Opening, opened}
 use Rattle.pm_turns.proofs.Deliveries.{get_set_same, get_set_other}
@@ -371,15 +371,15 @@ run_goes lock name rule piece w (e ∷ es) calls s h =
     subst (λ c. Stands lock name rule piece w c (run (e ∷ es) s)) (append_assoc calls (cond (nat_eq e.writer w) (made lock name s e) []) (calls_of lock name w es (happens s e)))
     (run_goes lock name rule piece w es (calls ++ cond (nat_eq e.writer w) (made lock name s e) []) (happens s e) (event_goes lock name rule piece w calls s e h))
 
-begins_so : (lock name : List ℕ) (ws : List Writer) (w : ℕ) (writer : Writer) (d : Delivery) → slice_get ws w ≡ Some writer → slice_get (map begun ws) w ≡ Some d → StandsSo lock name writer.rule writer.piece [] d
+begins_so : (lock name : List ℕ) (ws : List Writer) (w : ℕ) (writer : Writer) (d : Delivery) → slice_get ws w ≡ Some writer → slice_get (map begun ws) w ≡ Some d → StandsSo lock name (rule_of writer) writer.piece [] d
 begins_so lock name [] w writer d e f = absurd (cc)
 begins_so lock name (x ∷ ws) zero writer d e f =
     let same : x ≡ writer = cc in let g : begun x ≡ d = cc in
-    subst (λ y. StandsSo lock name writer.rule writer.piece [] y) (ap begun (sym same) ∙ g) (record { same = refl; so = record { ruled = refl; begins = tt; walk = refl } })
+    subst (λ y. StandsSo lock name (rule_of writer) writer.piece [] y) (ap begun (sym same) ∙ g) (record { same = refl; so = record { ruled = refl; begins = tt; walk = refl } })
 begins_so lock name (x ∷ ws) (suc w) writer d e f = begins_so lock name ws w writer d e f
 
 pub each_delivers : (lock name : List ℕ) (o : Opening) (events : List Event) (w : ℕ) (writer : Writer) (d : Delivery) → slice_get o.writers w ≡ Some writer → slice_get (run events (opened o)).writers w ≡ Some d
-    → BringTo lock name writer.rule writer.piece d.place (calls_of lock name w events (opened o))
+    → BringTo lock name (rule_of writer) writer.piece d.place (calls_of lock name w events (opened o))
 each_delivers lock name o events w writer d e f =
-    let s = run_goes lock name writer.rule writer.piece w events [] (opened o) (λ x g. begins_so lock name o.writers w writer x e g) d f in
-    brings lock name writer.rule writer.piece d.place (calls_of lock name w events (opened o)) s.so
+    let s = run_goes lock name (rule_of writer) writer.piece w events [] (opened o) (λ x g. begins_so lock name o.writers w writer x e g) d f in
+    brings lock name (rule_of writer) writer.piece d.place (calls_of lock name w events (opened o)) s.so

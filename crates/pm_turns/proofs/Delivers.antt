@@ -15,11 +15,11 @@ use Rattle.pm_turns.specs.declared.writers.Place.TheVariants.{Locking, Appending
 use Rattle.pm_turns.specs.declared.writers.Will.{Will}
 use Rattle.pm_turns.specs.declared.writers.Will.TheVariants.{Serve}
 use Rattle.pm_turns.specs.declared.writers.Writer.{Writer}
-use Rattle.pm_turns.specs.Turning.{Turning, Event, event, part_of, append_answer, mailbox_after, text, append_place, at_step, delivery, place_by, mailbox_by, outcome_by, is_over, put, turn, happens, run, begun}
+use Rattle.pm_turns.specs.Turning.{Turning, Event, event, part_of, append_answer, mailbox_after, text, append_place, at_step, delivery, place_by, mailbox_by, outcome_by, is_over, put, turn, happens, run, begun, rule_of}
 use Rattle.pm_turns.proofs.Listed.{nat_other}
 use Rattle.pm_turns.specs.Laws.{Opening, opened, AllDelivered, all_pieces}
 
--- writers before, this one, and writers behind it
+-- writers before, this one, and writers after it
 abbrev among : List Delivery → List Delivery → List ℕ → Place → Option (List ℕ) → Bool → List ℕ → Turning
 among ds rest piece place mailbox locked order = record { mailbox = mailbox; locked = locked; writers = ds ++ delivery piece place ∷ rest; order = order; forced = false }
 
@@ -167,7 +167,7 @@ all (w ∷ ws) ds mailbox order h =
     let later = all ws (ds ++ d ∷ []) (Some (text mailbox ++ w.piece)) (order ++ length ds ∷ []) (one_more ds d h refl) in
     let there = subst (λ xs. Reaches (record { mailbox = Some (text mailbox ++ w.piece); locked = false; writers = xs; order = order ++ length ds ∷ []; forced = false }) (Ready (ds ++ d ∷ []) ((text mailbox ++ w.piece) ++ all_pieces ws)))
     (append_assoc ds (d ∷ []) (map begun ws)) later in
-    delivers ds (map begun ws) w.piece w.rule mailbox order (Ready ds (text mailbox ++ (w.piece ++ all_pieces ws))) (
+    delivers ds (map begun ws) w.piece (rule_of w) mailbox order (Ready ds (text mailbox ++ (w.piece ++ all_pieces ws))) (
       there.0,
       record {
         unforced = there.1.unforced;

@@ -2,7 +2,6 @@
 use Rattle.std.proofs.Common.{◌≡◌, true, false, ℕ, List, [], ◌∷◌, ◌++◌, Option, Some, None, codes, refl, slice_get}
 use Rattle.pm_host.specs.declared.answers.Removed.TheVariants.{Removed as RemovedDone}
 use Rattle.pm_journal.specs.Appending.{append_step}
-use Rattle.pm_journal.specs.Locking.{lock_rule}
 use Rattle.pm_journal.specs.declared.appending.AppendEnd.TheVariants.{Done, Undone}
 use Rattle.pm_journal.specs.declared.appending.AppendStep.{AppendStep}
 use Rattle.pm_journal.specs.declared.appending.AppendStep.TheVariants.{Cut}
@@ -16,7 +15,7 @@ use Rattle.pm_turns.specs.declared.writers.Writer.{Writer}
 use Rattle.pm_turns.specs.Turning.{Turning, Event, event, opens, happens, run, stepped, has_ended}
 
 abbrev writer : List ℕ → ℕ → Writer
-writer piece limit = record { piece = piece; rule = lock_rule 1 limit 1 3 }
+writer piece limit = record { piece = piece; sleep = 1; limit = limit; suspend = 1; tries = 3 }
 
 abbrev two : Turning
 two = opens (Some (codes "x")) false (writer (codes "aa") 0 ∷ writer (codes "b") 0 ∷ [])

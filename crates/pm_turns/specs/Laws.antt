@@ -8,7 +8,7 @@ use Rattle.pm_turns.specs.declared.writers.Delivery.{Delivery}
 use Rattle.pm_turns.specs.declared.writers.Place.{Place}
 use Rattle.pm_turns.specs.declared.writers.Place.TheVariants.{Gone}
 use Rattle.pm_turns.specs.declared.writers.Writer.{Writer}
-use Rattle.pm_turns.specs.Turning.{Turning, Event, text, opens, run}
+use Rattle.pm_turns.specs.Turning.{Turning, Event, text, rule_of, opens, run}
 use Rattle.pm_turns.specs.Calls.{BringTo, calls_of}
 use Rattle.pm_turns.specs.Trees.{Has, AllMayAnswer, all_calls}
 use Rattle.pm_turns.specs.Order.{InOrder, AtRest, IsBetween, IsClean, IsPrefixOf, some_keeps, got_lock, is_among, IsOnce}
@@ -80,7 +80,7 @@ SomeDeliversAll = (o : Opening) → o.locked ≡ false → (events : List Event)
 abbrev pub EachDelivers : Type 0
 EachDelivers = (lock name : List ℕ) (o : Opening) (events : List Event) (w : ℕ) (writer : Writer) (d : Delivery)
     → slice_get o.writers w ≡ Some writer → slice_get (run events (opened o)).writers w ≡ Some d
-    → BringTo lock name writer.rule writer.piece d.place (calls_of lock name w events (opened o))
+    → BringTo lock name (rule_of writer) writer.piece d.place (calls_of lock name w events (opened o))
 
 -- in a tree of files with this mailbox and this lock the calls of a schedule are answered as a host may answer them, and
 -- leave the mailbox and the lock of the schedule's end

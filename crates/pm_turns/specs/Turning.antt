@@ -11,10 +11,11 @@ use Rattle.pm_host.specs.declared.answers.Synced.TheVariants.{Synced, Failed as 
 use Rattle.pm_host.specs.declared.calls.Answer.{Answer}
 use Rattle.pm_host.specs.declared.calls.Answer.TheVariants.{Look as AnswerLook, Create as AnswerCreate, Append as AnswerAppend, Cut as AnswerCut, Remove as AnswerRemove, Age as AnswerAge, Sync as AnswerSync, Slept, Failed as AnswerFailed}
 use Rattle.pm_journal.specs.Appending.{append_step}
-use Rattle.pm_journal.specs.Locking.{lock_step}
+use Rattle.pm_journal.specs.Locking.{lock_rule, lock_step}
 use Rattle.pm_journal.specs.declared.appending.AppendStep.{AppendStep}
 use Rattle.pm_journal.specs.declared.appending.AppendStep.TheVariants.{Look as AskLook, Create as AskCreate, Append as AskAppend, Sync as AskSync, Cut as AskCut, Remove as AskRemove, Finish as AppendFinish}
 use Rattle.pm_journal.specs.declared.locking.LockEnd.TheVariants.{Held}
+use Rattle.pm_journal.specs.declared.locking.LockRule.{LockRule}
 use Rattle.pm_journal.specs.declared.locking.LockStep.{LockStep}
 use Rattle.pm_journal.specs.declared.locking.LockStep.TheVariants.{Create, Age, Look, Remove, Sleep, Finish}
 use Rattle.pm_append.specs.Machine.{Machine as Append, appending, appending_heard}
@@ -77,7 +78,7 @@ lock_outcome (AnswerCreate MadeNew) locked = record { locked = true; got = true;
 lock_outcome (AnswerRemove RemovedDone) locked = record { locked = false; got = false; forced = true }
 lock_outcome other locked = unchanged locked
 
--- whether the lock is there behind a writer's own removal
+-- whether the lock is there after a writer's own removal
 abbrev pub still_locked : Removed → Bool → Bool
 still_locked RemovedDone locked = false
 still_locked other locked = locked
@@ -216,9 +217,13 @@ abbrev pub run : List Event → Turning → Turning
 run [] s = s
 run (e ∷ es) s = run es (happens s e)
 
+-- by which rule a writer takes the lock
+abbrev pub rule_of : Writer → LockRule
+rule_of w = lock_rule w.sleep w.limit w.suspend w.tries
+
 -- a writer before its first call
 abbrev pub begun : Writer → Delivery
-begun w = delivery w.piece (Locking (taking w.rule))
+begun w = delivery w.piece (Locking (taking (rule_of w)))
 
 -- no writer has asked anything
 abbrev pub opens : Option (List ℕ) → Bool → List Writer → Turning

@@ -13,7 +13,7 @@ pub record Workable (writers : List Delivery) (shelf : Shelf) (orders most : ℕ
 
 -- its tries are from 1 to 1,000,000
 abbrev pub IsTriable : Writer → Type 0
-IsTriable w = (1 ≤ w.rule.tries) × (w.rule.tries ≤ 1000000)
+IsTriable w = (1 ≤ w.tries) × (w.tries ≤ 1000000)
 
 -- the bytes of its piece
 abbrev pub piece_len : Writer → ℕ

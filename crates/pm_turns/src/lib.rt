@@ -1,5 +1,5 @@
-//! Many deliveries to one mailbox under one lock, in any order of their calls: how they go, event by event, and the law
-//! that they leave what they would leave one after another.
+//! Many deliveries to one mailbox under one lock, in any order of their calls: the events, and the law that the mailbox
+//! is as if the deliveries had been made one after the other.
 #![tactic(auto)]
 
 pub mod laws;

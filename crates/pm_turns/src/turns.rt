@@ -150,8 +150,9 @@ fn begin(writer: Writer) -> Delivery
     requires { IsTriable writer }
     ensures { result ≡ begun_is writer }
 {
+    let core = LockCore::new(writer.sleep, writer.limit, writer.suspend, writer.tries);
     Delivery {
         piece: writer.piece,
-        place: Place::Locking(LockCore::new(writer.rule)),
+        place: Place::Locking(core),
     }
 }

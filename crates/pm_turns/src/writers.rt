@@ -2,14 +2,19 @@
 use pm_append::AppendCore;
 use pm_bytes::Blob;
 use pm_host::Removed;
-use pm_journal::{AppendEnd, LockEnd, LockRule};
+use pm_journal::{AppendEnd, LockEnd};
 use pm_locks::LockCore;
 
-/// A delivery of a piece, under a lock that is taken by the rule.
+/// A delivery of a piece, under a lock that is taken as these numbers say: after a lost try it sleeps so many
+/// seconds, a lock file that is older than `limit` seconds is removed by force (if that isn't 0) and `suspend`
+/// seconds of sleep follow, and after so many lost tries it gives up.
 #[derive(Debug, Drop)]
 pub struct Writer {
     pub piece: Blob,
-    pub rule: LockRule,
+    pub sleep: u64,
+    pub limit: u64,
+    pub suspend: u64,
+    pub tries: u32,
 }
 
 /// How the next call of a writer is taken: as the mailbox and the lock have it, or it fails without an effect. The

@@ -4,7 +4,7 @@ use Rattle.pm_acts.proofs.objects.ObjectsOutside.say.Goals as goal
 pub returns-in-Some : goal.returns-in-Some
 returns-in-Some g c =
     let e = rw (c.append_reply_of.ensures, c.counts-before.ensures, c.counts-after.ensures) at c.note.ensures.entries in
-    let h = rw c.as_slice.ensures at c.append_whole-end.ensures.appends in
+    let h = rw c.as_slice.ensures at c.append_by-end.ensures.appends in
     rw c.in-Some.is (record { reply = _; notes = say_file_notes _ _ _ _ _ _ _ _ _ _ h e c.note.ensures.room })
 
 pub returns-in-None : goal.returns-in-None
