@@ -25,7 +25,7 @@ use Rattle.pm_conds.specs.Weighing.{sought_outcome, weighed_size, end_at}
 abbrev pub word_length : List ℕ → ℕ
 word_length text = position_or_len is_blank_byte text
 
--- the number that a word writes, where nothing but blanks stands behind it
+-- the number that a word writes, where nothing but blanks stands after it
 abbrev pub word_number : List ℕ → Option ℕ
 word_number text = if list_all is_blank_byte (drop (word_length text) text) then count_of (take (word_length text) text) else None
 
@@ -36,7 +36,7 @@ number_between text = word_number (behind_blanks text)
 -- the length that is compared: the mail's, or the area's that `??` names
 abbrev pub compared_length : Scope → Sight → ℕ
 compared_length scope.Flags sight = length sight.message.head + length sight.message.body
-compared_length (scope.Mail part) sight = length (area_in (scope.Mail part) sight)
+compared_length (scope.Mail place) sight = length (area_in (scope.Mail place) sight)
 compared_length (scope.Variable name) sight = length (area_in (scope.Variable name) sight)
 
 -- the condition holds where the test does, or the other way round
@@ -70,7 +70,7 @@ abbrev pub exit_outcome : Option Factors → Bool → ℕ → Outcome
 exit_outcome None inverted code = holds_if (inverted_if inverted (nat_eq code 0))
 exit_outcome (Some weight) inverted code = Exited weight inverted code
 
--- the same for what stands before the program
+-- the outcome of a program's code for a condition with this weight and these `!`
 abbrev pub exited : Question → ℕ → Outcome
 exited question code = exit_outcome question.weight question.inverted code
 
@@ -82,7 +82,7 @@ is_expanded text = starts_with nat_eq text (codes "$")
 abbrev pub is_program : List ℕ → Bool
 is_program text = starts_with nat_eq text (codes "?")
 
--- nothing was read yet behind this weight
+-- nothing was read yet after this weight
 abbrev pub unasked_by : Option Factors → Question
 unasked_by weight = record { weight = weight; inverted = false; scope = scope.Flags }
 
@@ -97,7 +97,7 @@ question_by (weight.Some w (negsuc x)) = None
 abbrev pub with_match : List ℕ → Table → Table
 with_match bytes vars = record vars { variables = with_value (codes "MATCH") bytes vars.variables }
 
--- the same where there are such bytes
+-- the variables with MATCH, if the condition sets it
 abbrev pub with_matched : Option (List ℕ) → Table → Table
 with_matched None vars = vars
 with_matched (Some bytes) vars = with_match bytes vars
@@ -108,7 +108,7 @@ pub record Course : Type 0 where
   pub total : ℤ
   pub vars : Table
 
--- the same of its parts
+-- a course with these parts
 abbrev pub course_of : Option Verdict → ℤ → Table → Course
 course_of end total vars = record { end = end; total = total; vars = vars }
 

@@ -3,7 +3,7 @@ use Rattle.std.specs.Prelude.{◌≡◌, ℕ, zero, suc, ◌||◌, ◌&&◌, Boo
 use Rattle.std.specs.List.{starts_with, position_or_len}
 use Rattle.std.proofs.Common.{refl}
 use Rattle.pm_bytes.specs.Letter.{is_blank_byte, is_name_start, is_name_byte}
-use Rattle.pm_message.specs.declared.areas.Part.TheVariants as part
+use Rattle.pm_message.specs.declared.areas.Place.TheVariants as place
 use Rattle.pm_conds.specs.declared.question.Scope.{Scope}
 use Rattle.pm_conds.specs.declared.question.Scope.TheVariants.{Flags, Mail, Variable}
 use Rattle.pm_conds.specs.declared.question.Factors.{Factors}
@@ -30,7 +30,7 @@ begins_name (byte ∷ rest) = is_name_start byte
 abbrev pub name_length : List ℕ → ℕ
 name_length text = if begins_name text then position_or_len ends_name text else 0
 
--- what stands behind the name and blanks
+-- what stands after the name and blanks
 abbrev pub behind_name : List ℕ → List ℕ
 behind_name text = behind_blanks (drop (name_length text) text)
 
@@ -41,9 +41,9 @@ is_named text = begins_name text && starts_with nat_eq (behind_name text) (codes
 -- where a condition looks that names this
 abbrev pub scope_of : List ℕ → Scope
 scope_of name =
-    if bytes_eq name (codes "H") then Mail part.Head
-    else if bytes_eq name (codes "B") then Mail part.Body
-    else if bytes_eq name (codes "HB") || bytes_eq name (codes "BH") then Mail part.Both
+    if bytes_eq name (codes "H") then Mail place.H
+    else if bytes_eq name (codes "B") then Mail place.B
+    else if bytes_eq name (codes "HB") || bytes_eq name (codes "BH") then Mail place.Hb
     else Variable name
 
 -- a text, and what was asked for before it
@@ -51,7 +51,7 @@ pub record Asking : Type 0 where
   pub text : List ℕ
   pub question : Question
 
--- the same of its parts
+-- an asking with these parts
 abbrev pub asking_of : List ℕ → Question → Asking
 asking_of text question = record { text = text; question = question }
 
@@ -68,7 +68,7 @@ next_asking asking =
     })
     else None
 
--- where the test begins, behind at most so many of these
+-- where the test begins, after at most so many of these
 abbrev pub asked_within : ℕ → Asking → Asking
 asked_within zero asking = asking
 asked_within (suc n) asking = elim (next_asking asking) [ Some next ↦ asked_within n next | None ↦ asking ]
@@ -77,7 +77,7 @@ asked_within (suc n) asking = elim (next_asking asking) [ Some next ↦ asked_wi
 abbrev pub asked : Asking → Asking
 asked asking = asked_within (length asking.text) asking
 
--- before anything is read behind the weight
+-- before anything is read after the weight
 abbrev pub unasked : Option Factors → List ℕ → Asking
 unasked weight text = record { text = text; question = record { weight = weight; inverted = false; scope = Flags } }
 

@@ -5,8 +5,8 @@ use Rattle.std.proofs.Common.{◌⊎◌, inl, inr, refl}
 use Rattle.pm_message.specs.Area.{area_of}
 use Rattle.pm_message.specs.Split.{whole_of}
 use Rattle.pm_message.specs.declared.head.Message.{Message}
-use Rattle.pm_message.specs.declared.areas.Part.{Part}
-use Rattle.pm_message.specs.declared.areas.Part.TheVariants as part
+use Rattle.pm_message.specs.declared.areas.Place.{Place}
+use Rattle.pm_message.specs.declared.areas.Place.TheVariants as place
 use Rattle.pm_regex.specs.Re.{Whole}
 use Rattle.pm_regex.specs.Reading.{Reads, HasNoReading}
 use Rattle.pm_regex.proofs.ReadOrNot.{read_or_not}
@@ -26,13 +26,13 @@ pub record Sight : Type 0 where
   pub message : Message
   pub vars : Table
 
--- the same of its parts
+-- a sight with these parts
 abbrev pub sight_of : Flags → Message → Table → Sight
 sight_of flags message vars = record { flags = flags; message = message; vars = vars }
 
 -- the flags H and B: the head where neither is given
-abbrev pub part_of : Flags → Part
-part_of flags = if flags.search_body then (if flags.search_head then part.Both else part.Body) else part.Head
+abbrev pub part_of : Flags → Place
+part_of flags = if flags.search_body then (if flags.search_head then place.Hb else place.B) else place.H
 
 -- the value of a variable, empty where it isn't set
 abbrev pub value_or_empty : Option (List ℕ) → List ℕ
@@ -42,19 +42,19 @@ value_or_empty (Some value) = value
 -- the bytes that a condition searches
 abbrev pub area_in : Scope → Sight → List ℕ
 area_in scope.Flags sight = area_of sight.message (part_of sight.flags)
-area_in (scope.Mail part) sight = area_of sight.message part
+area_in (scope.Mail place) sight = area_of sight.message place
 area_in (scope.Variable name) sight = value_or_empty (value_of name sight.vars.variables)
 
 -- the bytes of a part of the mail as they stand
-abbrev pub bytes_in : Message → Part → List ℕ
-bytes_in message part.Head = message.head
-bytes_in message part.Body = message.body
-bytes_in message part.Both = whole_of message
+abbrev pub bytes_in : Message → Place → List ℕ
+bytes_in message place.H = message.head
+bytes_in message place.B = message.body
+bytes_in message place.Hb = whole_of message
 
 -- the bytes that a condition's program gets
 abbrev pub input_in : Scope → Sight → List ℕ
 input_in scope.Flags sight = bytes_in sight.message (part_of sight.flags)
-input_in (scope.Mail part) sight = bytes_in sight.message part
+input_in (scope.Mail place) sight = bytes_in sight.message place
 input_in (scope.Variable name) sight = value_or_empty (value_of name sight.vars.variables)
 
 -- the expression of a reading, where the text has one
@@ -87,7 +87,7 @@ abbrev pub holds_if : Bool → Outcome
 holds_if true = Holds
 holds_if false = Fails
 
--- behind a `\/` MATCH gets the bytes
+-- after a `\/` MATCH gets the bytes
 abbrev pub match_outcome : List ℕ → Option ℕ → ℕ → Outcome
 match_outcome area None end = Holds
 match_outcome area (Some cut) end = Matched (match_text area cut end)
@@ -103,7 +103,7 @@ abbrev pub search_outcome : Bool → Bool → List ℕ → Option Whole → Outc
 search_outcome inverted distinguish area None = Defective
 search_outcome inverted distinguish area (Some e) = found_outcome inverted area (match_in distinguish e area)
 
--- a match doesn't end before its cut, nor behind the area
+-- a match doesn't end before its cut, nor after the area
 abbrev pub IsWithin : List ℕ → Found → Type 0
 IsWithin area found = IfSome found.cut (λ cut. (cut ≤ found.end) × (found.end ≤ length area))
 

@@ -7,7 +7,7 @@ ghost use Rattle.pm_conds.specs.Leads.{Asking, next_asking, asked, asking_of};
 
 use crate::question::{Question, Scope};
 use pm_bytes::{Blob, Memory, begins_name, continues_name, is_blank};
-use pm_message::Part;
+use pm_message::Place;
 use std::alloc::Global;
 
 /// The place of the first byte that is no blank.
@@ -58,7 +58,7 @@ fn name_length(text: &[u8]) -> usize
     if has_name(text) { name_stop(text) } else { 0 }
 }
 
-/// What stands behind the name at the front and blanks.
+/// What stands after the name at the front and blanks.
 fn past_name(text: &[u8]) -> &[u8]
     ensures value { result.now ≡ behind_name text.now }
     ensures shorter { length result.now ≤ length text.now }
@@ -71,13 +71,13 @@ fn scope_of(alloc: Global, name: &[u8]) -> Result<Scope, Memory>
     ensures { IfOk result (λ scope. scope ≡ scope_named name.now) }
 {
     if name == b"H".as_slice() {
-        return Ok(Scope::Mail(Part::Head));
+        return Ok(Scope::Mail(Place::H));
     }
     if name == b"B".as_slice() {
-        return Ok(Scope::Mail(Part::Body));
+        return Ok(Scope::Mail(Place::B));
     }
     if name == b"HB".as_slice() || name == b"BH".as_slice() {
-        return Ok(Scope::Mail(Part::Both));
+        return Ok(Scope::Mail(Place::Hb));
     }
     Ok(Scope::Variable(Blob::from_slice(alloc, name)?))
 }

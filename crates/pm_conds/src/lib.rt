@@ -1,4 +1,4 @@
-//! The conditions of a recipe: what each asks for, where it is looked for, and what comes of all of them in order
+//! The conditions of a recipe: what each asks for, what it searches, and the result of evaluating all of them in order
 //! (procmailrc(5), "Conditions").
 #![tactic(auto)]
 

@@ -1,12 +1,12 @@
 //! What a condition asks for, and what comes of it.
 use pm_bytes::Blob;
-use pm_message::Part;
+use pm_message::Place;
 
 /// Where a condition looks: where the recipe's flags say, in a part of the mail that it names, or in a variable.
 #[derive(Drop)]
 pub enum Scope {
     Flags,
-    Mail(Part),
+    Mail(Place),
     Variable(Blob),
 }
 

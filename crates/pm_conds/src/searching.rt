@@ -14,22 +14,22 @@ use crate::question::{Outcome, Question, Scope};
 use crate::sizes::outcome_if;
 use pm_bytes::{Blob, Memory};
 use pm_match::{Engine, Found};
-use pm_message::{Mail, Part};
+use pm_message::{Mail, Place};
 use pm_recipe::Flags;
 use pm_regex::{Expr, ReadRefused, read};
 use pm_vars::Vars;
 use std::alloc::Global;
 
 /// The part that the flags H and B ask for.
-fn searched_part(flags: Flags) -> Part
+fn searched_part(flags: Flags) -> Place
     ensures { result ≡ part_of flags }
 {
     if !flags.search_body {
-        Part::Head
+        Place::H
     } else if flags.search_head {
-        Part::Both
+        Place::Hb
     } else {
-        Part::Body
+        Place::B
     }
 }
 
@@ -149,13 +149,13 @@ fn search_part(
     distinguish: bool,
     text: &[u8],
     mail: &mut Mail,
-    part: Part,
+    place: Place,
 ) -> Result<Outcome, Memory>
     ensures outcome { let asked = question.now in IfOk result (λ come.
-        come ≡ sought_outcome asked.weight asked.inverted distinguish (area_of mail.old part) (expression_of text.now)) }
+        come ≡ sought_outcome asked.weight asked.inverted distinguish (area_of mail.old place) (expression_of text.now)) }
     ensures same { mail.new ≡ mail.old }
 {
-    let area = mail.area(alloc, part)?;
+    let area = mail.area(alloc, place)?;
     search_area(alloc, question, distinguish, text, area.as_slice())
 }
 
@@ -183,7 +183,7 @@ pub fn search(
             mail,
             searched_part(flags),
         ),
-        Scope::Mail(part) => search_part(alloc, question, distinguish, text, mail, *part),
+        Scope::Mail(place) => search_part(alloc, question, distinguish, text, mail, *place),
         Scope::Variable(name) => search_area(
             alloc,
             question,
@@ -195,13 +195,13 @@ pub fn search(
 }
 
 /// A part of the mail as it stands.
-fn part_bytes(alloc: Global, mail: &Mail, part: Part) -> Result<Blob, Memory>
-    ensures { IfOk result (λ bytes. bytes ≡ bytes_in mail.now part) }
+fn part_bytes(alloc: Global, mail: &Mail, place: Place) -> Result<Blob, Memory>
+    ensures { IfOk result (λ bytes. bytes ≡ bytes_in mail.now place) }
 {
-    match part {
-        Part::Head => mail.parts().head.copy(alloc),
-        Part::Body => mail.parts().body.copy(alloc),
-        Part::Both => mail.whole(alloc),
+    match place {
+        Place::H => mail.parts().head.copy(alloc),
+        Place::B => mail.parts().body.copy(alloc),
+        Place::Hb => mail.whole(alloc),
     }
 }
 
@@ -217,17 +217,17 @@ pub fn program_input(
 {
     match scope {
         Scope::Flags => part_bytes(alloc, mail, searched_part(flags)),
-        Scope::Mail(part) => part_bytes(alloc, mail, *part),
+        Scope::Mail(place) => part_bytes(alloc, mail, *place),
         Scope::Variable(name) => Blob::from_slice(alloc, value_in(vars, name.as_slice())),
     }
 }
 
 /// How many bytes a part of the mail has, as it is searched.
-fn part_length(alloc: Global, mail: &mut Mail, part: Part) -> Result<u64, Memory>
-    ensures size { IfOk result (λ size. size ≡ length (area_of mail.old part)) }
+fn part_length(alloc: Global, mail: &mut Mail, place: Place) -> Result<u64, Memory>
+    ensures size { IfOk result (λ size. size ≡ length (area_of mail.old place)) }
     ensures same { mail.new ≡ mail.old }
 {
-    let area = mail.area(alloc, part)?;
+    let area = mail.area(alloc, place)?;
     Ok(area.len() as u64)
 }
 
@@ -248,7 +248,7 @@ pub fn length_of(
             let parts = mail.parts();
             Ok(parts.head.as_slice().len() as u64 + parts.body.as_slice().len() as u64)
         }
-        Scope::Mail(part) => part_length(alloc, mail, *part),
+        Scope::Mail(place) => part_length(alloc, mail, *place),
         Scope::Variable(name) => Ok(value_in(vars, name.as_slice()).len() as u64),
     }
 }

@@ -26,7 +26,7 @@ fn is_all_blank(text: &[u8]) -> bool
     text.iter().all(|byte| is_blank(*byte))
 }
 
-/// The number that a word writes, where nothing but blanks stands behind it.
+/// The number that a word writes, where nothing but blanks stands after it.
 fn word_number(text: &[u8]) -> Option<u64>
     ensures { result ≡ number_of_word text.now }
 {

@@ -57,7 +57,7 @@ start_read [] (p ∷ ps) fits reads = absurd (omega (arith, fits))
 start_read (b ∷ bs) (p ∷ ps) fits reads =
     start_on p b ps bs (sym (reads 0 (omega arith))) ∙ start_read bs ps (omega (arith, fits)) (λ j less. reads (suc j) (omega (arith, less)))
 
--- the needle behind one byte more
+-- the needle after one byte more
 occurs_on : (b : ℕ) (bs : List ℕ) (k : ℕ) → OccursAt bs needle k → OccursAt (b ∷ bs) needle (suc k)
 occurs_on b bs k o = record {
   fits = (let h = o.fits in omega (arith, h));
@@ -70,7 +70,7 @@ occurs_off b bs k o = record {
   reads = λ j less. (let e : suc k + j ≡ suc (k + j) = omega arith in sym (ap (λ i. slice_index (b ∷ bs) i) e) ∙ o.reads j less);
 }
 
--- the needle is a newline with the sign behind it
+-- the needle is a newline with the sign after it
 occurs_first : (bs : List ℕ) → starts_with nat_eq bs sign ≡ true → OccursAt (10 ∷ bs) needle 0
 occurs_first bs e =
     let rest = reads_start bs sign e in
@@ -136,7 +136,7 @@ marked bs starts = rw starts refl
 unmarked : (bs : List ℕ) → (starts_with nat_eq bs sign ≡ true → ⊥) → mark bs ≡ []
 unmarked bs never = ⊎_elim (λ h. absurd (never h)) (λ e. rw e refl) (cases_Bool (starts_with nat_eq bs sign))
 
--- without the needle nothing is escaped behind the first line
+-- without the needle nothing is escaped after the first line
 rest_plain : (bs : List ℕ) → ((k : ℕ) → OccursAt bs needle k → ⊥) → rest_escaped bs ≡ bs
 rest_plain [] none = refl
 rest_plain (b ∷ bs) none =
@@ -148,7 +148,7 @@ rest_plain (b ∷ bs) none =
     (λ ne. rest_on b bs ne ∙ ap (λ t. b ∷ t) later)
     (cases_eq b 10)
 
--- at the first needle the line behind it is escaped
+-- at the first needle the line after it is escaped
 rest_found : (bs : List ℕ) (k : ℕ) → OccursAt bs needle k → ((j : ℕ) → j < k → OccursAt bs needle j → ⊥) →
     rest_escaped bs ≡ take (suc k) bs ++ (codes ">" ++ rest_escaped (drop (suc k) bs))
 rest_found [] k o none = absurd (let h = o.fits in omega (arith, h))
@@ -164,7 +164,7 @@ rest_found (b ∷ bs) (suc k) o none =
     (λ ne. rest_on b bs ne ∙ ap (λ t. b ∷ t) later)
     (cases_eq b 10)
 
--- a part of a text and the mark behind it come behind what there is
+-- a part of a text and the mark after it come after what there is
 pub escaped_on : (whole text rest : List ℕ) (place : ℕ) → text ++ rest_escaped rest ≡ whole →
     NoneBefore (OccursAt rest needle) 0 (length rest + 1) place × OccursAt rest needle place →
     ((text ++ take (place + 1) rest) ++ codes ">") ++ rest_escaped (drop (place + 1) rest) ≡ whole

@@ -21,7 +21,7 @@ line_stays (byte ∷ line) rest none =
     let both = or_none (byte == 10) (list_any is_newline line) none in
     stays byte (line ++ rest) both.0 ∙ ap (λ t. byte ∷ t) (line_stays line rest both.1)
 
--- a newline before nothing stays, and so does nothing behind it
+-- a newline before nothing stays, and so does nothing after it
 pub ends : unfolded (10 ∷ []) ≡ 10 ∷ []
 ends = refl
 
@@ -33,7 +33,7 @@ folds blank rest is = rw is refl
 pub breaks : (next : ℕ) (rest : List ℕ) → is_blank_byte next ≡ false → unfolded (10 ∷ next ∷ rest) ≡ 10 ∷ unfolded (next ∷ rest)
 breaks next rest other = rw other refl
 
--- a line and what was put for its newline come behind the text so far
+-- a line and what was put for its newline come after the text so far
 pub folded_on : (whole text rest line behind put more : List ℕ) → text ++ unfolded rest ≡ whole → rest ≡ line ++ 10 ∷ behind →
     list_any is_newline line ≡ false → unfolded (10 ∷ behind) ≡ put ++ unfolded more → ((text ++ line) ++ put) ++ unfolded more ≡ whole
 folded_on whole text rest line behind put more so_far cut none goes =

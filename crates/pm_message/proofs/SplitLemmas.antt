@@ -23,7 +23,7 @@ twice_behind : (b : ℕ) (t before : List ℕ) → b ∷ t ≡ before ++ codes "
 twice_behind b t [] e = inl (cc, cc)
 twice_behind b t (x ∷ xs) e = inr (xs, cc)
 
--- what an ending says of the bytes behind the first
+-- what an ending says of the bytes after the first
 behind : (fresh : Bool) (b : ℕ) (t : List ℕ) → EndsAt fresh (b ∷ t) → ((fresh ≡ true) × (b ≡ 10)) ⊎ (((b ≡ 10) × (t ≡ codes "\n")) ⊎ EndsTwice t)
 behind fresh b t e = ⊎_elim (λ w. inl (w.0, (let h : b ∷ t ≡ 10 ∷ [] = w.1 in cc))) (λ w. inr (twice_behind b t w.0 w.1)) e
 

@@ -48,7 +48,7 @@ date_of seconds =
 abbrev pub last_moment : ℕ
 last_moment = 253_370_764_799
 
--- a moment before 1970 counts as 1970's first second, and one behind the last as the last
+-- a moment before 1970 counts as 1970's first second, and one after the last as the last
 abbrev pub moved : ℤ → ℕ
 moved (pos seconds) = min seconds last_moment
 moved (negsuc before) = 0

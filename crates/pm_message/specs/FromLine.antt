@@ -39,7 +39,7 @@ ends_word byte = is_blank_byte byte || is_newline byte
 abbrev pub behind_blanks : List ℕ → List ℕ
 behind_blanks bytes = drop (position_or_len is_no_blank bytes) bytes
 
--- the sender of a line `From `: the bytes behind `From ` and blanks, up to the next blank or newline
+-- the sender of a line `From `: the bytes after `From ` and blanks, up to the next blank or newline
 abbrev pub sender_of : List ℕ → List ℕ
 sender_of bytes = before_first ends_word (behind_blanks (drop 5 bytes))
 

@@ -1,6 +1,7 @@
 pub mod Area
 pub mod Calendar
 pub mod Date
+pub mod Examples
 pub mod Field
 pub mod FromLine
 pub mod Kept

@@ -22,7 +22,7 @@ chosen message Both = message.head ++ message.body
 chosen message Head = message.head
 chosen message Body = message.body
 
--- the same, with each line of the body escaped
+-- the chosen parts of a mail, with each `From ` line of the body escaped
 abbrev pub escaped_chosen : Message → Feed → List ℕ
 escaped_chosen message feed = chosen (record message { body = escaped message.body }) feed
 

@@ -9,7 +9,7 @@ abbrev pub head_lines : List (List ℕ) → List (List ℕ)
 head_lines [] = []
 head_lines (line ∷ rest) = if bytes_eq line (codes "\n") then line ∷ [] else line ∷ head_lines rest
 
--- the lines behind the first empty one
+-- the lines after the first empty one
 abbrev pub body_lines : List (List ℕ) → List (List ℕ)
 body_lines [] = []
 body_lines (line ∷ rest) = if bytes_eq line (codes "\n") then rest else body_lines rest
@@ -18,7 +18,7 @@ body_lines (line ∷ rest) = if bytes_eq line (codes "\n") then rest else body_l
 abbrev pub head_of : List ℕ → List ℕ
 head_of bytes = concat (head_lines (lines bytes))
 
--- the lines behind them
+-- the lines after them
 abbrev pub body_of : List ℕ → List ℕ
 body_of bytes = concat (body_lines (lines bytes))
 

@@ -11,15 +11,18 @@ use memchr::memchr;
 use pm_bytes::{Blob, Memory, is_blank};
 use std::alloc::Global;
 
-/// Which parts of the mail are searched.
+/// What of a mail is searched, as the flags `H` and `B` of procmailrc(5) say.
 #[derive(Clone, Copy)]
-pub enum Part {
-    Head,
-    Body,
-    Both,
+pub enum Place {
+    /// The head, without the newline of its empty line, where each folded field is one line.
+    H,
+    /// The body as it is.
+    B,
+    /// The area of `H`, a newline, and the body.
+    Hb,
 }
 
-/// The bytes before the first newline, and those behind it.
+/// The bytes before the first newline, and those after it.
 fn cut_at_newline(bytes: &[u8]) -> Option<(&[u8], &[u8])>
     ensures cut { IfSome result (λ cut. (bytes.now ≡ cut.0.now ++ LF ∷ cut.1.now)
         × (list_any is_newline cut.0.now ≡ false)) }
@@ -31,7 +34,7 @@ fn cut_at_newline(bytes: &[u8]) -> Option<(&[u8], &[u8])>
     Some((&bytes[..place], &bytes[place + 1..]))
 }
 
-/// What goes on behind a newline and the blank there; None where no blank stands there.
+/// What goes on after a newline and the blank there; None where no blank stands there.
 fn past_blank(behind: &[u8]) -> Option<&[u8]>
     ensures folds { IfSome result (λ more. unfolded (LF ∷ behind.now) ≡ codes " " ++ unfolded more.now) }
     ensures shorter { IfSome result (λ more. length more.now < length behind.now) }
@@ -43,7 +46,7 @@ fn past_blank(behind: &[u8]) -> Option<&[u8]>
     }
 }
 
-/// Each newline with the blank behind it as one space.
+/// Each newline with the blank after it as one space.
 #[tactic(auto, using(crate::proofs::FoldLemmas::folded_on, crate::proofs::FoldLemmas::folded_end))]
 fn unfold(alloc: Global, bytes: &[u8]) -> Result<Blob, Memory>
     ensures { IfOk result (λ text. text ≡ unfolded bytes.now) }
@@ -78,7 +81,7 @@ fn without_empty_line(head: &[u8]) -> &[u8]
     }
 }
 
-/// The area of the head, in which each newline reads as one space together with the blank behind it, so that a folded
+/// The area of the head, in which each newline reads as one space together with the blank after it, so that a folded
 /// field is one line.
 pub fn head_area(alloc: Global, message: &Message) -> Result<Blob, Memory>
     ensures { IfOk result (λ area. area ≡ area_of_head message.now) }
@@ -89,7 +92,7 @@ pub fn head_area(alloc: Global, message: &Message) -> Result<Blob, Memory>
 /// The area of both parts: that of the head, a newline, and the body.
 pub fn both_areas(alloc: Global, head_area: &[u8], message: &Message) -> Result<Blob, Memory>
     requires { head_area.now ≡ area_of_head message.now }
-    ensures { IfOk result (λ area. area ≡ area_of message.now Part.Both) }
+    ensures { IfOk result (λ area. area ≡ area_of message.now Place.Hb) }
 {
     let body = message.body.as_slice();
     let mut text = Vec::with_capacity(alloc, head_area.len() + 1 + body.len())?;
@@ -97,4 +100,18 @@ pub fn both_areas(alloc: Global, head_area: &[u8], message: &Message) -> Result<
     text.extend_from_slice(b"\n")?;
     text.extend_from_slice(body)?;
     Ok(Blob::from_vec(text))
+}
+
+/// The bytes of a mail that a condition searches. `Memory` is the only error.
+pub fn area(alloc: Global, message: &Message, place: Place) -> Result<Blob, Memory>
+    ensures { IfOk result (λ area. area ≡ area_of message.now place) }
+{
+    match place {
+        Place::H => head_area(alloc, message),
+        Place::B => message.body.copy(alloc),
+        Place::Hb => {
+            let head = head_area(alloc, message)?;
+            both_areas(alloc, head.as_slice(), message)
+        }
+    }
 }

@@ -13,6 +13,17 @@ pub struct Message {
     pub body: Blob,
 }
 
+impl Message {
+    /// The same mail. Parts that share their memory share it with the copy too. `Memory` is the only error.
+    pub fn copy(&self, alloc: Global) -> Result<Message, Memory>
+        ensures { IfOk result (λ copy. copy ≡ self.now) }
+    {
+        let head = self.head.copy(alloc)?;
+        let body = self.body.copy(alloc)?;
+        Ok(Message { head, body })
+    }
+}
+
 /// How many bytes the head has, in one search.
 fn head_length(bytes: &[u8]) -> usize
     ensures within { result ≤ length bytes.now }
@@ -28,7 +39,7 @@ fn head_length(bytes: &[u8]) -> usize
     }
 }
 
-/// The head and the body of a mail, in the memory that the mail has. A mail without an empty line is all head.
+/// The head and the body of a mail, as `split` has them, in the memory that the mail has.
 pub fn divide(alloc: Global, mut mail: Blob) -> Result<Message, Memory>
     ensures parts { IfOk result (λ message. message ≡ split_of mail) }
     ensures shortest { IfOk result (λ message. IsSplit mail message) }
@@ -39,4 +50,22 @@ pub fn divide(alloc: Global, mut mail: Blob) -> Result<Message, Memory>
     let head = mail.part(alloc, 0, length)?;
     let body = mail.part(alloc, length, mail.len())?;
     Ok(Message { head, body })
+}
+
+/// The head and the body of a mail. A mail without an empty line is all head. `Memory` is the only error.
+pub fn split(alloc: Global, bytes: &[u8]) -> Result<Message, Memory>
+    ensures parts { IfOk result (λ message. message ≡ split_of bytes.now) }
+    ensures shortest { IfOk result (λ message. IsSplit bytes.now message) }
+    ensures whole { IfOk result (λ message. whole_of message ≡ bytes.now) }
+{
+    divide(alloc, Blob::from_slice(alloc, bytes)?)
+}
+
+/// The head and the body in one piece. `Memory` is the only error.
+pub fn whole(alloc: Global, message: &Message) -> Result<Blob, Memory>
+    ensures { IfOk result (λ bytes. bytes ≡ whole_of message.now) }
+{
+    let mut bytes = message.head.copy(alloc)?;
+    bytes.push_slice(message.body.as_slice())?;
+    Ok(bytes)
 }

@@ -5,7 +5,7 @@ ghost use Rattle.pm_message.specs.Piece.{piece_of, chosen as chosen_of};
 ghost use Rattle.pm_message.specs.Split.{split_of, whole_of};
 
 use crate::areas::{both_areas, head_area};
-use crate::{Feed, Kind, Message, Part, divide, piece};
+use crate::{Feed, Kind, Message, Place, divide, piece};
 use pm_bytes::{Blob, Memory};
 use std::alloc::Global;
 use std::marker::Model;
@@ -64,15 +64,15 @@ impl Mail {
         &self.parts
     }
 
-    /// The area of a part of the mail, which is made once; later ones have the same memory.
-    pub fn area(&mut self, alloc: Global, part: Part) -> Result<Blob, Memory>
-        ensures area { IfOk result (λ area. area ≡ area_of self.old part) }
+    /// What of the mail is searched, as `area` has it. It is made once; later ones have the same memory.
+    pub fn area(&mut self, alloc: Global, place: Place) -> Result<Blob, Memory>
+        ensures area { IfOk result (λ area. area ≡ area_of self.old place) }
         ensures same { self.new ≡ self.old }
     {
-        match part {
-            Part::Body => self.parts.body.copy(alloc),
-            Part::Head => self.area_of_head(alloc),
-            Part::Both => self.area_of_both(alloc),
+        match place {
+            Place::B => self.parts.body.copy(alloc),
+            Place::H => self.area_of_head(alloc),
+            Place::Hb => self.area_of_both(alloc),
         }
     }
 
@@ -88,7 +88,7 @@ impl Mail {
     }
 
     fn area_of_both(&mut self, alloc: Global) -> Result<Blob, Memory>
-        ensures area { IfOk result (λ area. area ≡ area_of self.old Part.Both) }
+        ensures area { IfOk result (λ area. area ≡ area_of self.old Place.Hb) }
         ensures same { self.new ≡ self.old }
     {
         if let Some(area) = &self.both_areas {
@@ -117,7 +117,8 @@ impl Mail {
         }
     }
 
-    /// What a mailbox gets of the mail. The last one that was made is kept; one like it has the same memory.
+    /// What a mailbox gets of the mail. The last piece is kept, and a call that asks for an equal one shares its
+    /// memory.
     pub fn mailbox_piece(&mut self, alloc: Global, feed: Feed, raw: bool) -> Result<Blob, Memory>
         ensures piece { IfOk result (λ piece. piece ≡ piece_of self.old feed Kind.MailboxFile raw) }
         ensures same { self.new ≡ self.old }
@@ -148,14 +149,12 @@ impl Mail {
         }
     }
 
-    /// The same mail, with what was made of it.
+    /// A copy of the mail, with the areas and the piece that were made of it.
     pub fn copy(&self, alloc: Global) -> Result<Mail, Memory>
         ensures { IfOk result (λ mail. mail ≡ self.now) }
     {
-        let head = self.parts.head.copy(alloc)?;
-        let body = self.parts.body.copy(alloc)?;
         Ok(Mail {
-            parts: Message { head, body },
+            parts: self.parts.copy(alloc)?,
             whole: self.whole.copy(alloc)?,
             head_area: copy_kept(alloc, &self.head_area)?,
             both_areas: copy_kept(alloc, &self.both_areas)?,

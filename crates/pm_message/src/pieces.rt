@@ -2,7 +2,7 @@
 ghost use Rattle.std.specs.Prelude.{◌≡◌, ◌++◌, IfOk, OnOk};
 ghost use Rattle.pm_message.specs.Piece.{piece_of, chosen, escaped, escaped_chosen, ended};
 
-use crate::Message;
+use crate::{Message, whole};
 use memchr::memmem;
 use pm_bytes::{Blob, Memory};
 use std::alloc::Global;
@@ -30,15 +30,11 @@ fn plain(alloc: Global, message: &Message, feed: Feed) -> Result<Blob, Memory>
     match feed {
         Feed::Head => message.head.copy(alloc),
         Feed::Body => message.body.copy(alloc),
-        Feed::Both => {
-            let mut text = message.head.copy(alloc)?;
-            text.push_slice(message.body.as_slice())?;
-            Ok(text)
-        }
+        Feed::Both => whole(alloc, message),
     }
 }
 
-/// The text with the lines behind it, each that would begin a mail in a mailbox with `>` before it.
+/// The text with the lines after it, each that would begin a mail in a mailbox with `>` before it.
 #[tactic(auto, using(crate::proofs::EscapeLemmas::escaped_on, crate::proofs::EscapeLemmas::escaped_end))]
 fn with_escaped(mut text: Blob, lines: &[u8]) -> Result<Blob, Memory>
     ensures { IfOk result (λ whole. whole ≡ text ++ escaped lines.now) }
@@ -68,7 +64,7 @@ fn for_mailbox(alloc: Global, message: &Message, feed: Feed) -> Result<Blob, Mem
     }
 }
 
-/// Ends the last line, and puts an empty line behind it.
+/// Ends the last line, and puts an empty line after it.
 fn end(text: &mut Blob) -> Result<(), Memory>
     ensures { OnOk result (text.new ≡ ended text.old) }
 {

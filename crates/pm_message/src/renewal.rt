@@ -1,10 +1,10 @@
 //! The line `From ` in front of a mail, as mailboxes and the options `-f` and `-r` ask.
-ghost use Rattle.std.specs.Prelude.{◌≡◌, ◌≤◌, false, length, position, IfOk};
+ghost use Rattle.std.specs.Prelude.{◌≡◌, ◌≤◌, false, true, length, position, IfOk};
 ghost use Rattle.std.specs.List.{before_first};
-ghost use Rattle.pm_message.specs.FromLine.{has_from_line, makes_line, is_newline, without_line, is_no_blank, ends_word, behind_blanks, sender_of, who_of, prepared_of};
+ghost use Rattle.pm_message.specs.FromLine.{has_from_line, makes_line, is_newline, without_line, is_no_blank, ends_word, behind_blanks, sender_of, who_of, renewed_of, prepared_of};
 ghost use Rattle.pm_message.specs.Split.{split_of};
 
-use crate::{Mail, from_line};
+use crate::{Mail, Message, divide, from_line, split};
 use pm_bytes::{Blob, Memory, is_blank};
 use std::alloc::Global;
 
@@ -106,9 +106,43 @@ fn new_sender<'a>(bytes: &'a [u8], renew: &'a Renew, logname: &'a [u8]) -> &'a [
     }
 }
 
-/// The mail with its line `From ` as it is asked for (procmail(1), option -f). A line that is made for want of another sender
-/// is from `logname`. `moment` is in seconds since 1970, in UTC. `Memory` is the only error.
+/// The mail with a new line `From `, in memory of its own.
+fn with_line(
+    alloc: Global,
+    bytes: &[u8],
+    renew: &Renew,
+    logname: &[u8],
+    moment: i64,
+) -> Result<Blob, Memory>
+    requires { makes_line bytes.now renew.now ≡ true }
+    ensures { IfOk result (λ mail. mail ≡ renewed_of bytes.now renew.now logname.now moment) }
+{
+    let who = new_sender(bytes, renew, logname);
+    let mut renewed = from_line(alloc, who, moment)?;
+    renewed.push_slice(behind_line(bytes))?;
+    Ok(renewed)
+}
+
+/// The head and the body of a mail with its line `From ` as it is asked for (procmail(1), option -f). A line that is made
+/// for want of another sender is from `logname`. `moment` is in seconds since 1970, in UTC. `Memory` is the only error.
 pub fn prepare(
+    alloc: Global,
+    bytes: &[u8],
+    renew: &Renew,
+    logname: &[u8],
+    moment: i64,
+) -> Result<Message, Memory>
+    ensures prepared { IfOk result (λ message. message ≡ prepared_of bytes.now renew.now logname.now moment) }
+    ensures kept { makes_line bytes.now renew.now ≡ false → IfOk result (λ message. message ≡ split_of bytes.now) }
+{
+    if !needs_line(bytes, renew) {
+        return split(alloc, bytes);
+    }
+    divide(alloc, with_line(alloc, bytes, renew, logname, moment)?)
+}
+
+/// The mail that `prepare` gives, in the memory that it has where no line is made.
+pub fn prepare_mail(
     alloc: Global,
     bytes: Blob,
     renew: &Renew,
@@ -121,8 +155,6 @@ pub fn prepare(
     if !needs_line(bytes.as_slice(), renew) {
         return Mail::split(alloc, bytes);
     }
-    let who = new_sender(bytes.as_slice(), renew, logname);
-    let mut renewed = from_line(alloc, who, moment)?;
-    renewed.push_slice(behind_line(bytes.as_slice()))?;
+    let renewed = with_line(alloc, bytes.as_slice(), renew, logname, moment)?;
     Mail::split(alloc, renewed)
 }

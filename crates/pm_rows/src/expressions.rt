@@ -1,6 +1,6 @@
 //! Rows of texts and the expressions that they are read as. An expression is written in postfix order: `0`
-//! for no bytes, a byte behind `'`, `A` and `Z` for the area's start and end, `&` for two expressions one
-//! behind the other, `[]` and `[^]` behind their ranges.
+//! for no bytes, a byte after `'`, `A` and `Z` for the area's start and end, `&` for two expressions one
+//! after the other, `[]` and `[^]` after their ranges.
 use crate::searching::read_expr;
 use case_file::{Refused, Words, one_word, only_word};
 use pm_regex::{Atom, Expr, Op, Times};

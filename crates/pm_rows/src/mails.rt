@@ -1,13 +1,15 @@
-//! Rows of mails: their parts, what of them goes to a mailbox, and their From line.
+//! Rows of mails: their parts, what of them is searched or goes to a mailbox, and their From line.
 use case_file::{Refused, Words, one_word, only_word, text_of};
 use pm_bytes::{Blob, Memory};
-use pm_message::{Feed, Kind, Mail, Renew, from_line, needs_line, piece, prepare};
+use pm_message::{
+    Feed, Kind, Message, Place, Renew, area, from_line, needs_line, piece, prepare, split, whole,
+};
 use std::alloc::Global;
 
-/// The head and the body of a mail, and behind them the whole of both where that isn't the mail.
+/// The head and the body of a copy of a mail, and after them the whole of both where that isn't the mail.
 pub fn parts(alloc: Global, mail: &[u8]) -> Result<Words, Memory> {
-    let message = split(alloc, mail)?;
-    let joined = message.whole(alloc)?;
+    let message = split(alloc, mail)?.copy(alloc)?;
+    let joined = whole(alloc, &message)?;
     let mut words = parts_of(alloc, &message)?;
     if joined.as_slice() != mail {
         words.push(joined.into_vec(alloc)?)?;
@@ -25,7 +27,14 @@ pub fn piece_of(
 ) -> Result<Words, Refused> {
     let message = split(alloc, mail)?;
     let raw = raw_of(raw)?;
-    let text = piece(alloc, message.parts(), feed_of(feed)?, kind_of(kind)?, raw)?;
+    let text = piece(alloc, &message, feed_of(feed)?, kind_of(kind)?, raw)?;
+    Ok(only_word(alloc, text.into_vec(alloc)?)?)
+}
+
+/// What of a mail is searched.
+pub fn area_of(alloc: Global, place: &[u8], mail: &[u8]) -> Result<Words, Refused> {
+    let message = split(alloc, mail)?;
+    let text = area(alloc, &message, place_of(place)?)?;
     Ok(only_word(alloc, text.into_vec(alloc)?)?)
 }
 
@@ -54,25 +63,19 @@ pub fn prepared(
     mail: &[u8],
 ) -> Result<Words, Refused> {
     let renew = renew_of(alloc, renew)?;
-    let bytes = Blob::from_slice(alloc, mail)?;
-    let message = prepare(alloc, bytes, &renew, logname, moment)?;
+    let message = prepare(alloc, mail, &renew, logname, moment)?;
     Ok(parts_of(alloc, &message)?)
 }
 
-fn split(alloc: Global, mail: &[u8]) -> Result<Mail, Memory> {
-    Mail::split(alloc, Blob::from_slice(alloc, mail)?)
-}
-
 // The head and the body.
-fn parts_of(alloc: Global, mail: &Mail) -> Result<Words, Memory> {
-    let parts = mail.parts();
+fn parts_of(alloc: Global, message: &Message) -> Result<Words, Memory> {
     let mut words = Vec::new(alloc);
-    words.push(parts.head.as_slice().to_vec(alloc)?)?;
-    words.push(parts.body.as_slice().to_vec(alloc)?)?;
+    words.push(message.head.as_slice().to_vec(alloc)?)?;
+    words.push(message.body.as_slice().to_vec(alloc)?)?;
     Ok(words)
 }
 
-/// The same mail in one piece.
+/// The mail in one piece.
 pub fn prepared_whole(
     alloc: Global,
     renew: &[u8],
@@ -81,9 +84,8 @@ pub fn prepared_whole(
     mail: &[u8],
 ) -> Result<Words, Refused> {
     let renew = renew_of(alloc, renew)?;
-    let bytes = Blob::from_slice(alloc, mail)?;
-    let message = prepare(alloc, bytes, &renew, logname, moment)?;
-    Ok(only_word(alloc, message.whole(alloc)?.into_vec(alloc)?)?)
+    let message = prepare(alloc, mail, &renew, logname, moment)?;
+    Ok(only_word(alloc, whole(alloc, &message)?.into_vec(alloc)?)?)
 }
 
 fn feed_of(word: &[u8]) -> Result<Feed, Refused> {
@@ -92,6 +94,15 @@ fn feed_of(word: &[u8]) -> Result<Feed, Refused> {
         "head" => Ok(Feed::Head),
         "body" => Ok(Feed::Body),
         _ => Err(Refused::Misread("both, head or body is fed")),
+    }
+}
+
+fn place_of(word: &[u8]) -> Result<Place, Refused> {
+    match text_of(word) {
+        "H" => Ok(Place::H),
+        "B" => Ok(Place::B),
+        "HB" => Ok(Place::Hb),
+        _ => Err(Refused::Misread("H, B or HB is searched")),
     }
 }
 
@@ -111,7 +122,7 @@ fn raw_of(word: &[u8]) -> Result<bool, Refused> {
     }
 }
 
-// A sender stands behind `from:`.
+// A sender stands after `from:`.
 fn renew_of(alloc: Global, word: &[u8]) -> Result<Renew, Refused> {
     match text_of(word) {
         "keep" => Ok(Renew::Keep),

@@ -1,4 +1,4 @@
-//! Rows: a line that asks one question, with the answer that is wanted behind an arrow.
+//! Rows: a line that asks one question, with the answer that is wanted after an arrow.
 use crate::variables::State;
 use crate::{expressions, mails, names, searching, starting, statements, substituting};
 use case_file::{Refused, Words, read_i64, read_u64, read_usize, text_of};
@@ -59,6 +59,7 @@ fn values_answer(
 fn mail_answer(alloc: Global, key: &str, words: &[Vec<u8>]) -> Result<Words, Refused> {
     match (key, words) {
         ("split", [mail]) => Ok(mails::parts(alloc, mail)?),
+        ("area", [place, mail]) => mails::area_of(alloc, place, mail),
         ("piece", [feed, kind, raw, mail]) => mails::piece_of(alloc, feed, kind, raw, mail),
         ("needs-line", [renew, mail]) => mails::line_needed(alloc, renew, mail),
         ("from-line", [who, moment]) => Ok(mails::line_of(alloc, who, read_i64(moment)?)?),

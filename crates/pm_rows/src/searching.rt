@@ -41,7 +41,7 @@ pub fn found(alloc: Global, text: &[u8], area: &[u8]) -> Result<Words, Refused> 
     Ok(one_word(alloc, answer)?)
 }
 
-/// How many matches stand one behind the other.
+/// How many matches stand one after the other.
 pub fn count(alloc: Global, text: &[u8], area: &[u8], fold: bool) -> Result<Words, Refused> {
     let Some(expr) = read_expr(alloc, text)? else {
         return Ok(one_word(alloc, "defect")?);

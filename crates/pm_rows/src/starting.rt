@@ -56,7 +56,7 @@ pub fn environment(alloc: Global, entries: &[Vec<u8>]) -> Result<Words, Memory> 
     Ok(words)
 }
 
-/// The words behind the first of a program that is started with these.
+/// The words after the first of a program that is started with these.
 pub fn started(alloc: Global, given: &[Vec<u8>]) -> Result<Words, Refused> {
     let env = Given {
         words: copy_of(alloc, given)?,

@@ -1,5 +1,5 @@
 //! Rows of rcfiles with their statements, each a word: `NAME=VALUE`, `-NAME` for an unsetting, `!LINE TEXT`
-//! for a line that isn't understood, and for a recipe `:FLAGS:LOCK`, its conditions, each behind `*`, and
+//! for a line that isn't understood, and for a recipe `:FLAGS:LOCK`, its conditions, each after `*`, and
 //! its action: `>` before a mailbox, `|` before a program, `@` before addresses, `stdout`, or `{}` for a
 //! block.
 use case_file::{Refused, Words, number_word, one_word, word_of};
@@ -10,7 +10,7 @@ use pm_recipe::{
 };
 use std::alloc::Global;
 
-/// All statements of a text, those of a block behind it between `{` and `}`.
+/// All statements of a text, those of a block after it between `{` and `}`.
 pub fn whole(alloc: Global, text: &[u8]) -> Result<Words, Refused> {
     match read_rc(alloc, text) {
         Ok(rc) => Ok(nested(alloc, &rc.statements)?),
@@ -45,10 +45,10 @@ pub fn counted(alloc: Global, text: &[u8]) -> Result<Words, Refused> {
         Ok(rc) => rc,
         Err(refused) => return refusal(alloc, refused),
     };
-    let copy = copy_statements(alloc, &rc.statements)?;
+    let copy = copy_statements(alloc, rc.statements.as_slice())?;
     let mut words = Vec::new(alloc);
     words.push(number_word(alloc, text.len() as u64)?)?;
-    words.push(number_word(alloc, copy.as_slice().len() as u64)?)?;
+    words.push(number_word(alloc, copy.len() as u64)?)?;
     Ok(words)
 }
 

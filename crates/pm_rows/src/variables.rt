@@ -66,7 +66,7 @@ impl State {
         self.vars.add_argument(value)
     }
 
-    // Sets so many variables: a number from 1 on stands behind the name and behind the value.
+    // Sets so many variables: a number from 1 on stands after the name and after the value.
     fn set_each(&mut self, count: u64, name: &[u8], value: &[u8]) -> Result<(), Memory> {
         for number in 1..=count {
             let name = numbered(self.alloc, name, number)?;

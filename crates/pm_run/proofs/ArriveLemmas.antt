@@ -41,7 +41,7 @@ use Rattle.pm_run.proofs.ProcessLemmas.{reaches_reached}
 abbrev Onward : Type 0
 Onward = Next State Event
 
--- the words that set variables come behind the mail
+-- the words that set variables come after the mail
 abbrev starts : CommandLine → Environ → Mind → Onward
 starts line env p = Go (Setting line.values line (home_by line.values (home_folder env)) p)
 
@@ -106,7 +106,7 @@ word_out pair name value p x y a b e host n v h =
     (else_out (bytes_eq pair.name (codes "HOST")) (Ends (GoesOn (with_variable pair.name pair.value p))) (assigned pair.name pair.value p) x y a b host
     (subst (λ m. OutOfMemory (assigned m pair.value p) x y a b) n (subst (λ w. OutOfMemory (assigned name w p) x y a b) v h)))
 
--- the process behind a word
+-- the process after a word
 mind_behind : (way : Turned) (p : Mind) → mind_in (turn_in way p) ≡ p
 mind_behind turned.Goes p = refl
 mind_behind (turned.Halts end) p = refl
@@ -137,7 +137,7 @@ word_wants words items rest pair p q x y z a b c e h k = λ line home.
 pub words_set : (words items : List Pair) (p q : Mind) (x y : JournalState) (a b : View) → items ≡ [] → SetsTo words items p q x y a b → SetsTo words [] p q x y a b
 words_set words items p q x y a b e h = subst (λ l. SetsTo words l p q x y a b) e h
 
--- the home folder behind a word, and behind all
+-- the home folder after a word, and after all
 pub home_step : (items rest : List Pair) (pair : Pair) (home found behind : List ℕ) → items ≡ pair ∷ rest → found ≡ (if bytes_eq pair.name (codes "HOME") then pair.value else home) → home_by items home ≡ behind → home_by rest found ≡ behind
 home_step items rest pair home found behind e is h = ap (home_by rest) is ∙ (sym (ap (λ l. home_by l home) e) ∙ h)
 
@@ -148,7 +148,7 @@ home_over items found behind e h = sym (ap (λ l. home_by l found) e) ∙ h
 pub host_set : (pair : Pair) (name value : List ℕ) (p : Mind) (vars : Table) → vars ≡ record p.vars { variables = with_value name value p.vars.variables } → name ≡ pair.name → value ≡ pair.value → record p { vars = vars } ≡ with_variable pair.name pair.value p
 host_set pair name value p vars e n v = ap (λ (t : Table). record p { vars = t }) e ∙ (ap (λ m. with_variable m value p) n ∙ ap (λ w. with_variable pair.name w p) v)
 
--- the rcfiles behind the words
+-- the rcfiles after the words
 abbrev tried_in : CommandLine → List ℕ → Rule → List (List ℕ) → Mind → State
 tried_in line home rule names p = Opening (rule_of_opening rule) names p
 

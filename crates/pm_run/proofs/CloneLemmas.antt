@@ -66,7 +66,7 @@ module _ (trees : Trees) (items : List Item) (p : Mind) (x : JournalState) (a : 
       let c = now_at (others_of queue first) (Cloning trees items p) in
       interrupted_at_once advance c x x a a (out_anywhere (advance c) x x a refl)
 
-  -- the copy waits behind the others
+  -- the copy waits after the others
   pub clone_made : (queue later : Queue) (copy : Copy) (q : Mind) → queue.made < 16 → later.made ≡ queue.made + 1 → later.copies.items ≡ queue.copies.items ++ copy ∷ [] → task_of copy ≡ clone_of trees items p → q ≡ succeeded p
       → RunsOn queue later (Cloning trees items p) (Running items q) x x a a
   clone_made queue later copy q few count copies task mind = λ first.

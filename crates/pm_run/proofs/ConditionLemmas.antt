@@ -45,7 +45,7 @@ module _ (whole : Plan Judged) (weighted : Bool) (flags : Flags) (conditions : L
   abbrev IsNext : Type 0
   IsNext = (item ≡ get_or conditions i d) × (i < length conditions)
 
-  -- what comes behind it
+  -- what comes after it
   abbrev rest : Come → Plan Judged
   rest = λ come. judged_by weighted (judged_one item.text come.outcome total come.mind.vars) come.mind (λ score q. judge_each weighted flags (drop (i + 1) conditions) score q)
 
@@ -72,7 +72,7 @@ module _ (whole : Plan Judged) (weighted : Bool) (flags : Flags) (conditions : L
       abbrev HasCome : Type 0
       HasCome = (text ≡ item.text) × (judged_one text outcome total q.vars ≡ course_of end score vars)
 
-      -- what comes behind it by how it ended
+      -- what comes after it by how it ended
       abbrev rest_by : Option Verdict → Plan Judged
       rest_by e = judged_by weighted (course_of e score vars) q (λ s m. judge_each weighted flags (drop (i + 1) conditions) s m)
 
@@ -125,7 +125,7 @@ expanded_front (suc n) flags asking front p some is dollar =
     ∙ (ap (λ f. expanded (drop 1 f.text) f.question p (λ next q. comes_within n flags next q)) (sym is)
     ∙ if_yes (is_expanded (asked asking).text) (expanded (drop 1 (asked asking).text) (asked asking).question p (λ next q. comes_within n flags next q)) (tested flags (asked asking) p) (ap (λ f. is_expanded f.text) is ∙ dollar))
 
--- what comes behind the commands of such a text
+-- what comes after the commands of such a text
 abbrev pub behind_commands : List ℕ → Question → (Asking → Mind → Plan Come) → Outputs → Plan Come
 behind_commands text question go_on = λ ran. read_again text ran.outputs question ran.mind go_on
 
@@ -143,7 +143,7 @@ reads_too_long text size outputs question p go_on long is =
     ∙ if_yes (is_too_long Quoted text p.vars outputs) (Ends (come_with (TooLong (length_in Quoted text p.vars outputs)) p))
     (go_on (asking_of (behind_blanks (first_word (words_in Quoted p.vars outputs text))) question) p) long
 
--- what comes behind a program that was asked
+-- what comes after a program that was asked
 abbrev pub behind_program : List ℕ → Question → Mind → Reply → Plan Come
 behind_program text question p reply = tell_run (run_end reply) text (with_code reply p) (come_with (exited question (code_of (run_end reply))) (with_code reply p))
 
@@ -176,7 +176,7 @@ module _ (text : List ℕ) (question : Question) (end : RunEnd) (p q : Mind) (re
       subst (λ plan. OutOfMemory plan x y a b) (behind_is is)
       (subst (λ plan. OutOfMemory plan x y a b) (told_then (run_fault end text) q last) (out_front (tell_run end text q told) (λ _. Ends last) x y a b h))
 
--- the program was asked, and what comes behind it
+-- the program was asked, and what comes after it
 module _ (command : Command) (input text : List ℕ) (flags : Flags) (question : Question) (p : Mind) where
   -- the act, whatever its input
   abbrev asks : List ℕ → Plan Reply
@@ -198,7 +198,7 @@ module _ (command : Command) (input text : List ℕ) (flags : Flags) (question :
     pub program_then_out : (x y z : JournalState) (a b c : View) → input ≡ named → Executes (asks input) reply x y a b → OutOfMemory (behind_program text question p reply) y z b c → OutOfMemory (ask_program command text flags question p) x z a c
     program_then_out x y z a b c e h k = out_then (asks named) (behind_program text question p) reply x y z a b c (subst (λ i. Executes (asks i) reply x y a b) e h) k
 
--- what comes behind a program's line
+-- what comes after a program's line
 abbrev pub behind_line : List ℕ → Flags → Question → Read → Plan Come
 behind_line text flags question = λ read. by_line read.line text flags question read.mind
 
@@ -235,7 +235,7 @@ pub stopped_at : (n : ℕ) (flags : Flags) (asking front : Asking) (p : Mind) (x
 stopped_at n flags asking front p x s none is dollar =
     ends_same (Ends (come_with Defective p)) (comes_within n flags asking p) (come_with Defective p) x x s s (stopped_front n flags asking front p none is dollar) (executes_nothing (come_with Defective p) x x s refl)
 
--- a text behind `$` that expands to too much
+-- a text after `$` that expands to too much
 pub long_behind : (text : List ℕ) (size : ℕ) (outputs : List (List ℕ)) (question : Question) (p q : Mind) (go_on : Asking → Mind → Plan Come) (x y : JournalState) (a b : View)
     → Executes (outputs_of (commands_in Quoted text) p) (outputs_with outputs q) x y a b → is_too_long Quoted text q.vars outputs ≡ true → size ≡ length_in Quoted text q.vars outputs
     → Executes (expanded text question p go_on) (come_with (TooLong size) q) x y a b

@@ -62,7 +62,7 @@ over_wants end p x y a b h =
     let next : Onward = Go (Trapping end p) in
     interrupted_at_once step (Over end p) x y a b (out_front (tell_delivery end p) (λ done. Ends next) x y a b h)
 
--- what comes behind TRAP's program
+-- what comes after TRAP's program
 abbrev behind_trap : End → Trapped → Plan Onward
 behind_trap end = λ t. Ends (Go (Unlocking (ending_of end t.code t.mind) t.mind))
 
@@ -107,11 +107,11 @@ trap_runs end text p q e is with =
     ∙ (ap (trap_line (value_or [] (codes "TRAP") p.vars)) with
     ∙ if_yes (is_trapped end p) (trap_line (value_or [] (codes "TRAP") p.vars) (with_exit_status end p)) (Ends (trapped_with 127 p)) e)
 
--- what comes behind the line of TRAP's program
+-- what comes after the line of TRAP's program
 abbrev pub by_read : List ℕ → Read → Plan Trapped
 by_read text = λ read. trap_by read.line text read.mind
 
--- what comes behind its run
+-- what comes after its run
 abbrev pub behind_run : List ℕ → Mind → Reply → Plan Trapped
 behind_run text p reply = tell_run (run_end reply) text (with_code reply p) (trapped_with (code_of (run_end reply)) (with_code reply p))
 
@@ -141,7 +141,7 @@ module _ (text : List ℕ) (end : RunEnd) (p q : Mind) (reply : Reply) where
       subst (λ plan. OutOfMemory plan x y a b) (behind_is is)
       (subst (λ plan. OutOfMemory plan x y a b) (told_then (run_fault end text) q next) (out_front (tell_run end text q told) (λ _. Ends next) x y a b h))
 
--- the program was run, and what comes behind it
+-- the program was run, and what comes after it
 module _ (command : Command) (input text : List ℕ) (p : Mind) where
   pub trap_unrun : (x y : JournalState) (a b : View) → input ≡ whole_of p.message → OutOfMemory (ask (Run command input false)) x y a b → OutOfMemory (run_trap command text p) x y a b
   trap_unrun x y a b e h =

@@ -43,7 +43,7 @@ copies top p e = if_yes top.flags.copy (Ends (Clones p)) (enter top.lock p) e
 pub enters : (top : Top) (lock : Option (List ℕ)) (p : Mind) → top.flags.copy ≡ false → top.lock ≡ lock → enter lock p ≡ enter_block top p
 enters top lock p e is = ap (λ l. enter l p) (sym is) ∙ if_no top.flags.copy (Ends (Clones p)) (enter top.lock p) e
 
--- what comes of a text for a lock that isn't empty, behind its commands
+-- what comes of a text for a lock that isn't empty, after its commands
 abbrev pub locks_with : List ℕ → Outputs → Plan Turn
 locks_with text = λ ran. enter_with text ran.outputs ran.mind
 
@@ -87,7 +87,7 @@ is_free text value name p e is free =
     ∙ (if_no (holds_name p.locks (full_name p.base value)) (refuse_name text p) (asked (full_name p.base value) p) (ap (holds_name p.locks) (sym is) ∙ free)
     ∙ ap (λ b. if not b then refuse_name text p else named text value p) (sym e))
 
--- the lock was asked for, and what is told behind it comes
+-- the lock was asked for, and what is told after it comes
 pub lock_then : {A : Type 0} (name noted : List ℕ) (rule : LockRule) (end : LockEnd) (p : Mind) (to : A → Turn) (answer : Result A Memory) (x w y z : JournalState) (a b c : View) → noted ≡ name → rule ≡ rule_of p.vars → w.entries ≡ x.entries
     → NotesAct (lock_act noted rule) (lock_reply end) w y a b → Carries (got_block_lock name p (lock_reply end)) to answer y z b c → Carries (asked name p) to answer x z a c
 lock_then name noted rule end p to answer x w y z a b c same by e n h =

@@ -67,7 +67,7 @@ is_held global name shown p is same held =
 pub dropped : (p q : Mind) (x y : JournalState) (a b : View) → Executes (give_named p.global p) q x y a b → Executes (drop_lock p) (GoesOn q) x y a b
 dropped p q x y a b h = executes_then (give_named p.global p) (λ r. Ends (GoesOn r)) q (GoesOn q) x y y a b b h (executes_nothing (GoesOn q) y y b refl)
 
--- the lock was asked for, and what is told behind it comes
+-- the lock was asked for, and what is told after it comes
 pub lock_then : {A : Type 0} (name noted : List ℕ) (rule : LockRule) (end : LockEnd) (p : Mind) (to : A → Turn) (answer : Result A Memory) (x w y z : JournalState) (a b c : View) → noted ≡ name → rule ≡ rule_of p.vars → w.entries ≡ x.entries
     → NotesAct (lock_act noted rule) (lock_reply end) w y a b → Carries (got_lock name p (lock_reply end)) to answer y z b c → Carries (and_then (ask (lock_act name (rule_of p.vars))) (got_lock name p)) to answer x z a c
 lock_then name noted rule end p to answer x w y z a b c same by e n h =

@@ -35,7 +35,7 @@ acts_never (Defective text) p acts others e = refl
 acts_never (TooLong size) p acts others e = refl
 
 module _ (top : Top) (p : Mind) where
-  -- what comes behind the conditions
+  -- what comes after the conditions
   abbrev behind : (Mind → Plan Turn) → Judged → Plan Turn
   behind acts = λ judged. behind_conditions top.flags acts judged
 

@@ -60,7 +60,7 @@ module _ (s : State) (locks : List (Option (List ℕ))) (end : End) (p : Mind) (
       reaches_then step s (Leaving [] end p) (left_by end p) x y y a b b (subst (λ l. Reaches {X = Event} step s (Leaving l end p) x y a b) e h)
       (executes_nothing (Go (left_by end p)) y y b refl)
 
--- the same of the blocks of one rcfile, behind which these items are left
+-- the same of the blocks of one rcfile, after which these items are left
 module _ (s : State) (locks : List (Option (List ℕ))) (items : List Item) (p : Mind) (x y : JournalState) (a b : View) (h : Reaches {X = Event} step s (LeavingFile locks items p) x y a b) where
   in_block : (lock : Option (List ℕ)) (rest : List (Option (List ℕ))) → locks ≡ lock ∷ rest → Reaches {X = Event} step s (LeavingFile (lock ∷ rest) items p) x y a b
   in_block lock rest e = subst (λ l. Reaches {X = Event} step s (LeavingFile l items p) x y a b) e h
@@ -143,7 +143,7 @@ unlocked_out name p reply x y a b n =
     let r = without_lock name p in
     first_act_out (Unlock name) (after_giving name r) reply x x y y a b b refl n (out_anywhere (after_giving name r reply) y y b refl)
 
--- behind its blocks a process is over, unless it isn't on its host
+-- after its blocks a process is over, unless it isn't on its host
 over_by : (end : End) (p : Mind) → (end ≡ HostOff → ⊥) → left_by end p ≡ Over end p
 over_by Delivered p h = refl
 over_by FellOff p h = refl

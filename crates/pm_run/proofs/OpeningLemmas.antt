@@ -186,7 +186,7 @@ pub opens_out : (o : OpeningRule) (name : List ℕ) (p : Mind) (x y : JournalSta
 opens_out o name p x y a b few h =
     λ names. else_out (nat_le 256 p.openings) (say_many o name names p) (read_on o name names (opened p)) x y a b (is_few p.openings few) (h names)
 
--- the others are noted before or behind the entering
+-- the others are noted before or after the entering
 entered_by : (b : Bool) (name : List ℕ) (names : List (List ℕ)) (p : Mind)
     → with_later names (if b then with_base (codes ".") (with_variable (codes "MAILDIR") (codes ".") (with_rcfile name p)) else with_rcfile name p)
     ≡ (if b then with_base (codes ".") (with_variable (codes "MAILDIR") (codes ".") (with_rcfile name (with_later names p))) else with_rcfile name (with_later names p))

@@ -25,7 +25,7 @@ use Rattle.pm_run.proofs.RunLemmas.{RunsOn, Breaks, lifted, runs_run, runs_break
 abbrev After : Type 0
 After = Next Course Ending
 
--- all locks were given back, and the run comes to what stands behind its process
+-- all locks were given back, and the run comes to what stands after its process
 pub closes : (o : Others) (ending : Ending) (p : Mind) (x y : JournalState) (a b : View) → GivesEach p.locks x y a b
     → Executes {R = After} (advance (now_at o (Closing ending p))) (next_process o.queue o.made (first_end o.first ending) p.placed p.openings) x y a b
 closes o ending p x y a b k =

@@ -166,7 +166,7 @@ none_switched name rest p q x y a b h = reaches_once step (Switching name rest p
 pub none_falls : (n m : ℕ) (f : RcFrame) → n ≤ m → left_over m f ≤ left_over n f
 none_falls n m f h = omega (arith, h)
 
--- the statements of code that begins, with these rcfiles behind it
+-- the statements of code that begins, with these rcfiles after it
 begun_items : (g : RcFrame) (code : Code) (trees : Trees) → g.code ≡ code → g.place ≡ 0 → g.blocks.items ≡ [] → flats_of code.steps.items ≡ written 0 trees → ahead trees (outer_items g.outer.items) ≡ items_of g
 begun_items g code trees c k b w =
     let rest = outer_items g.outer.items in

@@ -63,7 +63,7 @@ lifted queue s t x y a b h = λ first. reaches_in_run (others_of queue first) s 
 pub lifted_out : (queue : Queue) (s : State) (x y : JournalState) (a b : View) → Interrupted {X = Event} step s x y a b → Breaks queue s x y a b
 lifted_out queue s x y a b h = λ first. interrupted_in_run (others_of queue first) s x y a b h
 
--- behind a stretch of the run comes another one
+-- after a stretch of the run comes another one
 pub runs_run : (queue middle later : Queue) (s t u : State) (x y z : JournalState) (a b c : View) → RunsOn queue middle s t x y a b → RunsOn middle later t u y z b c → RunsOn queue later s u x z a c
 runs_run queue middle later s t u x y z a b c h k = λ first.
     reaches_on advance (now_at (others_of queue first) s) (now_at (others_of middle first) t) (now_at (others_of later first) u) x y z a b c (h first) (k first)

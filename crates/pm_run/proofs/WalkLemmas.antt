@@ -195,7 +195,7 @@ module _ (f : RcFrame) (top : Top) (end : ℕ) (p : Mind) (e : drop f.place (ste
       ∙ ap (λ (k : RcFrame). Go (Cloning (first (lists_of (drop (f.place + 1) (steps_of k)))) (items_of g) (with_openings p.openings q))) (sym h.1)
       ∙ ap (λ m. Go (Cloning (block_at (f.place + 1) g) (items_of g) m)) (sym h.2) ∙ ap (λ t. Go (stands t g r)) (sym h.0)
 
-  -- the block at the place is over behind it
+  -- the block at the place is over after it
   pub gate_behind : (was : Gate) (s : Stepped) (g : RcFrame) (m n : Mind) → Jumps (steps_of f) f.place end more → Entered (end + 1) was s f g m n → IsBehind s g
   gate_behind gate.Passes s g m n j h = subst (λ t. IsBehind t g) (sym h.0) tt
   gate_behind (gate.Halts end) s g m n j h = subst (λ t. IsBehind t g) (sym h.0) tt

@@ -13,12 +13,12 @@ use Rattle.pm_run.specs.declared.opening.Halted.{Halted}
 use Rattle.pm_run.specs.declared.opening.Halted.TheVariants.{Over as HaltedOver, Resumes}
 use Rattle.pm_run.specs.declared.opening.Rule.{Rule}
 
--- where a process stands behind its statements: without an end nothing is left
+-- where a process stands after its statements: without an end nothing is left
 abbrev pub stands_at : Option End → Mind → State
 stands_at None p = Running [] p
 stands_at (Some end) p = Over end p
 
--- where it stands behind a statement that ends it
+-- where it stands after a statement that ends it
 abbrev pub halted : Halted → RcFrame → Mind → State
 halted (HaltedOver end) f p = stands_at end p
 halted Resumes f p = Running (items_of f) p

@@ -36,7 +36,7 @@ abbrev pub is_read : Opened → Bool
 is_read (Read code) = true
 is_read other = false
 
--- what the opening of the first of these rcfiles does, whatever stands behind it
+-- what the opening of the first of these rcfiles does, whatever stands after it
 abbrev pub OpensTo : OpeningRule → List ℕ → Mind → (List (List ℕ) → State) → JournalState → JournalState → View → View → Type 0
 OpensTo rule name p to x y a b = (names : List (List ℕ)) → Executes {R = Next State Event} (open_next rule (name ∷ names) p) (Go (to names)) x y a b
 

@@ -9,7 +9,7 @@ use Rattle.pm_frames.specs.Copies.{task_of}
 use Rattle.pm_frames.specs.declared.queue.Queue.{Queue}
 use Rattle.pm_run.specs.declared.process.Counts.{Counts}
 
--- what comes behind a process whose run has counted so much: the first of the copies, or the end
+-- what comes after a process whose run has counted so much: the first of the copies, or the end
 abbrev pub next_in : Queue → Ending → Counts → Next Course Ending
 next_in queue first counts = next_process (map task_of queue.copies.items) queue.made first counts.placed counts.openings
 

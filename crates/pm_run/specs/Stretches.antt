@@ -15,7 +15,7 @@ abbrev pub Walks : {A : Type 0} → State → (A → State) → Result A Memory 
 Walks s to answer old new before after =
     IfOk answer (λ a. Reaches {X = Event} step s (to a) old new before after) × OnErr answer (Interrupted {X = Event} step s old new before after)
 
--- the same of the run, whose first process ended so or goes on: other copies wait behind the stretch than before it
+-- the same of the run, whose first process ended so or goes on: other copies wait after the stretch than before it
 abbrev pub Proceeds : {A : Type 0} → Queue → Queue → State → (A → State) → Result A Memory → JournalState → JournalState → View → View → Type 0
 Proceeds queue later s to answer old new before after =
     (first : Option Ending) → IfOk answer (λ a. Reaches {X = Ending} advance (now_at (others_of queue first) s) (now_at (others_of later first) (to a)) old new before after)

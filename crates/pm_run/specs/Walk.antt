@@ -42,7 +42,7 @@ gate_turn (gate.Halts end) p = Halts end p
 gate_turn (gate.Enters lock) p = Enters lock p
 gate_turn gate.Clones p = Clones p
 
--- where the process stands behind an item
+-- where the process stands after an item
 abbrev pub stands : Stepped → RcFrame → Mind → State
 stands stepped.Went f p = Running (items_of f) p
 stands (stepped.Halts end) f p = Leaving (all_locks f) end p
@@ -72,7 +72,7 @@ pub record EndsAt (steps : List Flat) (place next : ℕ) : Type 0 where
   pub file : (rest : List Item) → weave (lists_of (drop place steps)) [] rest ≡ rest
   pub later : place ≤ next
 
--- how the frame and the mind are behind a gate
+-- how the frame and the mind are after a gate
 abbrev pub Entered : ℕ → Gate → Stepped → RcFrame → RcFrame → Mind → Mind → Type 0
 Entered behind gate.Passes s f g p q = (s ≡ stepped.Went) × (g ≡ record f { place = behind }) × (q ≡ p)
 Entered behind (gate.Halts end) s f g p q = (s ≡ stepped.Halts end) × (g ≡ f) × (q ≡ p)
@@ -93,7 +93,7 @@ IsBehind (stepped.Clones place) f =
     (blocks : List Open) (rest : List Item) → weave (others (lists_of (drop place (steps_of f)))) blocks rest ≡ weave (lists_of (drop f.place (steps_of f))) blocks rest
 IsBehind other f = Unit {0}
 
--- so much less is left behind it
+-- so much less is left after it
 abbrev pub less_by : Stepped → ℕ
 less_by stepped.Over = 0
 less_by (stepped.Halts end) = 0

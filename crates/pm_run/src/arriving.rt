@@ -25,7 +25,7 @@ use pm_bytes::{Blob, Environ, Memory, Name, Names, Pair};
 use pm_journal::{HeldLocks, Journal};
 use pm_machine::CommandLine;
 use pm_meaning::Process;
-use pm_message::{Mail, needs_line, prepare};
+use pm_message::{Mail, needs_line, prepare_mail};
 use std::alloc::Global;
 use std::collections::VecDeque;
 
@@ -51,7 +51,7 @@ pub fn arrive<D: Outside>(
         return begin(alloc, line, env, message);
     }
     let moment = ask_moment(&HeldLocks::new(alloc), outside, journal)?;
-    let message = prepare(alloc, bytes, &line.renew, login(env).as_bytes(), moment)?;
+    let message = prepare_mail(alloc, bytes, &line.renew, login(env).as_bytes(), moment)?;
     begin(alloc, line, env, message)
 }
 
@@ -150,7 +150,7 @@ fn sets_folder(values: &[Pair]) -> bool
     values.iter().any(|value| value.name.as_str().as_bytes() == b"MAILDIR".as_slice())
 }
 
-// The home folder behind these words.
+// The home folder after these words.
 fn home_by<'a>(values: &'a [Pair], home: &'a str) -> &'a str
     requires usable { has_zero home.now ≡ false }
     ensures same { result.now ≡ home_behind values.now home.now }
@@ -163,7 +163,7 @@ fn home_by<'a>(values: &'a [Pair], home: &'a str) -> &'a str
     found
 }
 
-// The home folder behind this word.
+// The home folder after this word.
 fn home_of<'a>(word: &'a Pair, home: &'a str) -> &'a str
     requires usable { has_zero home.now ≡ false }
     ensures same { result.now ≡ (if bytes_eq word.now.name (codes "HOME") then word.now.value else home.now) }

@@ -24,7 +24,7 @@ use std::alloc::Global;
 const MOST_COPIES: u64 = 16;
 
 /// A copy of the process is made for the block whose first statement stands at this place, unless the run has made 16,
-/// which is told. The process goes on behind the block.
+/// which is told. The process goes on after the block.
 pub fn make_clone<D: Outside>(
     alloc: Global,
     place: usize,

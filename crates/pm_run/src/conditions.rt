@@ -26,7 +26,7 @@ use std::alloc::Global;
 /// How often the text of a condition is expanded at most.
 const MOST_DOLLARS: u64 = 8;
 
-/// Judges the conditions in order, up to one that ends it. MATCH is set by each that matches behind a `\/`, `$?` by each
+/// Judges the conditions in order, up to one that ends it. MATCH is set by each that matches after a `\/`, `$?` by each
 /// program, and `$=` where one of them has a weight.
 pub fn judge<D: Outside>(
     alloc: Global,
@@ -89,7 +89,7 @@ fn outcome<D: Outside>(
     }
 }
 
-// What comes of a text behind a question; a `$` expands the rest, which is read again, `left` times at most.
+// What comes of a text after a question; a `$` expands the rest, which is read again, `left` times at most.
 fn ask<D: Outside>(
     alloc: Global,
     text: &[u8],

@@ -153,7 +153,7 @@ fn is_code_set(process: &Process) -> bool
     }
 }
 
-// The program line of TRAP is read behind its commands, and its program runs.
+// The program line of TRAP is read after its commands, and its program runs.
 fn trap_line<D: Outside>(
     alloc: Global,
     text: &[u8],

@@ -1,6 +1,6 @@
-//! A run: the mail is prepared, rcfiles are read, and their statements are carried out one after the other, in the first
-//! process and then in each copy of it that was made for a block. What each function asks of the outside is a part of the
-//! run's plan, and is noted; after want of memory the act that came next was left off, and the held locks are given back.
+//! A run: it prepares the mail, reads rcfiles, and executes their statements in order, in the first process and then in
+//! each clone for a block. What each function asks of the host is a part of the run's plan, and is noted. If memory
+//! runs out, the next act isn't done, and the held locks are released.
 #![tactic(auto)]
 
 mod arriving;
