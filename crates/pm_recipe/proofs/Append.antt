@@ -1,4 +1,4 @@
--- Lists of statements one behind another.
+-- Lists of statements one after another.
 use Rattle.std.proofs.Common.{◌≡◌, refl, ap, sym, ◌∙◌, List, [], ◌∷◌, ◌++◌, ℕ, ◌<◌, ◌+◌, length, take, get_or}
 use Rattle.std.proofs.lemmas.List.{take_more}
 use Rattle.pm_recipe.specs.declared.tree.Statement.{Statement}
@@ -20,3 +20,9 @@ assoc (cons tree trees) b c = ap (cons tree) (assoc trees b c)
 pub to_nil : (a : Trees) → a ⧺ nil ≡ a
 to_nil nil = refl
 to_nil (cons tree trees) = ap (cons tree) (to_nil trees)
+
+-- a copy more, of copies that are equal to these statements
+pub copied-more : (old new : List Statement) (copy one : Statement) (items more : List Statement) → new ≡ old ++ (copy ∷ []) → trees_of old ≡ trees_of items
+    → tree_of copy ≡ tree_of one → trees_of items ⧺ cons (tree_of one) nil ≡ trees_of more → trees_of new ≡ trees_of more
+copied-more old new copy one items more push same is next =
+    ap trees_of push ∙ trees_of-append old (copy ∷ []) ∙ ap (λ t. t ⧺ cons (tree_of copy) nil) same ∙ ap (λ t. trees_of items ⧺ cons t nil) is ∙ next

@@ -163,7 +163,7 @@ last-of true j k e = true-false e
 last-of false true k e = true-false e
 last-of false false k e = e
 
--- what a byte is with nothing behind it
+-- what a byte is with nothing after it
 alone : (a k : Bool) (byte : ℕ) (j : Bool) → (a || (nat_eq byte BACKSLASH && j) || k) ≡ false → (a || (nat_eq byte BACKSLASH && false) || k) ≡ false
 alone a k byte j h = by a (nat_eq byte BACKSLASH) j k h
   where

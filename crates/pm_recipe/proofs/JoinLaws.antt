@@ -42,7 +42,7 @@ plain (byte ∷ (next ∷ bytes)) h =
     cond-false (is_join byte (next ∷ bytes)) _ _ (no-join byte next bytes (no-line next bytes later).here)
     ∙ ap (λ xs. byte ∷ xs) (plain (next ∷ bytes) later)
 
--- blanks behind a join
+-- blanks after a join
 indent : (blanks : List ℕ) (byte : ℕ) (rest : List ℕ) → are_blank blanks ≡ true → is_blank_byte byte ≡ false
     → without_indents true (blanks ++ (byte ∷ rest)) ≡ without_indents false (byte ∷ rest)
 indent [] byte [] h i = cond-false (is_blank_byte byte) _ _ i

@@ -51,7 +51,7 @@ pub before-at : (bytes last : List ℕ) → before (bytes ++ last) last ≡ byte
 before-at bytes last =
     let size : length (bytes ++ last) - length last ≡ length bytes = omega (arith, length-append bytes last) in take_at bytes last _ (sym size)
 
--- a first byte, and what is left of those behind it
+-- a first byte, and what is left of those after it
 module _ (left : List ℕ) (byte : ℕ) (bytes : List ℕ) (h : IsLeft left bytes) where
   size : suc (length bytes - length left) ≡ length (byte ∷ bytes) - length left
   size = omega (arith, shorter left bytes h)

@@ -15,6 +15,7 @@ pub mod Taking
 pub mod Shapes
 pub mod Pieces
 pub mod OneCut
+pub mod Rows
 pub mod ColonText
 pub mod Unjoined
 pub mod JoinLaws

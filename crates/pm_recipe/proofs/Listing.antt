@@ -25,7 +25,7 @@ record IsActBefore (items : List Item) (act : Act) (more : List Item) : Type 0 w
   first_is : first (ahead_of (items ++ more)).lists ≡ first (ahead_of more).lists
   others_are : others (ahead_of (items ++ more)).lists ≡ others (ahead_of more).lists
 
--- the end of a recipe behind conditions
+-- the end of a recipe after conditions
 abbrev with_all : List Condition → Option Rest → Option Rest
 with_all conditions None = None
 with_all conditions (Some rest) = Some (record { conditions = conditions ++ rest.conditions; ending = rest.ending })

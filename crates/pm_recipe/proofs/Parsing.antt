@@ -40,7 +40,7 @@ record AreListed (items : List Item) : Type 0 where
   trees : Trees
   lists : Lists items trees
 
--- statements in a block, its brace, and what stands behind it
+-- statements in a block, its brace, and what stands after it
 record InBlock (Outer : List Item → Type 0) (items : List Item) : Type 0 where
   inner : List Item
   rest : List Item
@@ -49,12 +49,12 @@ record InBlock (Outer : List Item → Type 0) (items : List Item) : Type 0 where
   lists : Lists inner trees
   outer : Outer rest
 
--- statements, and behind each block that is open its brace and more statements
+-- statements, and after each block that is open its brace and more statements
 abbrev Parsed : ℕ → List Item → Type 0
 Parsed zero items = AreListed items
 Parsed (suc depth) items = InBlock (λ rest. Parsed depth rest) items
 
--- what ends a recipe, and statements behind it
+-- what ends a recipe, and statements after it
 data IsTail (depth : ℕ) (items : List Item) : Type 0 where
   Acted : (action more : List Item) (act : Act) → items ≡ action ++ more → Acts action act → Parsed depth more → IsTail depth items
   Broken : (line : ℕ) (text : List ℕ) (more : List Item) → items ≡ Fails line text ∷ more → Parsed depth more → IsTail depth items

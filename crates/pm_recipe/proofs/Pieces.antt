@@ -25,7 +25,7 @@ pieces-drop (suc skip) line situation (byte ∷ bytes) =
     pieces-drop skip (line_past byte line) situation bytes
     ∙ ap (λ n. pieces zero n situation (drop skip bytes)) (line-newlines byte line (take skip bytes))
 
--- the first piece, and the pieces behind it
+-- the first piece, and the pieces after it
 pub pieces-turn : (line : ℕ) (situation : Situation) (whole : List ℕ) → 0 < length whole → (let front = front_of situation whole in
     pieces zero line situation whole
     ≡ (record { span = span_of front line; bytes = before whole front.behind })
@@ -41,7 +41,7 @@ pieces-turn line situation (byte ∷ bytes) some =
     ∙ ap (λ xs. pieces zero (line + newlines xs) after (drop skip bytes)) (take-before front.behind byte bytes left)
     ∙ ap (λ xs. pieces zero (line + newlines (before (byte ∷ bytes) front.behind)) after xs) (drop-before front.behind byte bytes left))
 
--- what its span says, and what stands behind it
+-- what its span says, and what stands after it
 pub turned : (line : ℕ) (situation : Situation) (blocks : Blocks) (text : List ℕ) (front : Front) (line_now : ℕ) (situation_now : Situation)
     → 0 < length text → front ≡ front_of situation text
     → line_now ≡ line + newlines (before text front.behind) → situation_now ≡ situation_after front.kind situation
@@ -61,7 +61,7 @@ leaves situation (byte ∷ bytes) front some is =
     subst (λ f. IsLeft f.behind (byte ∷ bytes) × (length f.behind < length (byte ∷ bytes))) (sym is)
     (left-more _ byte bytes left, omega (arith, shorter _ bytes left))
 
--- the pieces behind bytes that are passed over cut what follows these
+-- the pieces after bytes that are passed over cut what follows these
 cut-behind : (skip line : ℕ) (situation : Situation) (text : List ℕ)
     → IsCut (line + newlines (take skip text)) situation (pieces skip line situation text) (drop skip text)
 cut-behind zero line situation [] = refl

@@ -42,7 +42,7 @@ module _ {Place : Type 0} {places : Places Place} where
             ∙ ap (λ e. cond e first (rest_of places false (places.after first byte) rest)) ends ∙ ap (λ p. rest_of places false p rest) after;
       }
 
--- a backslash outside quotes, and the byte behind it
+-- a backslash outside quotes, and the byte after it
 pub taken-on : (byte : ℕ) (rest : List ℕ) → Goes word_places InWord.Plain (BACKSLASH ∷ (byte ∷ rest)) InWord.Plain rest
 taken-on byte rest =
     on InWord.Plain InWord.Escaped InWord.Plain _ (byte ∷ rest) rest (byte-on InWord.Plain InWord.Escaped BACKSLASH (byte ∷ rest) refl refl refl)

@@ -23,7 +23,7 @@ pub once : (byte : ℕ) (x y : Bool) → ((nat_eq byte BACKSLASH && x) && not (y
 once byte x y = grind (arith, nat_tests)
 
 module _ (place : Run) where
-  -- how far the reader comes behind a byte
+  -- how far the reader comes after a byte
   abbrev pub far_behind : ℕ → List ℕ → ℕ
   far_behind before text = reach_of run_places (nat_eq before BACKSLASH && begins_with 10 text) place text
 

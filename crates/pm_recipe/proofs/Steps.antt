@@ -9,7 +9,7 @@ use Rattle.pm_recipe.specs.Reads.{item_of}
 use Rattle.pm_recipe.specs.Builder.{Suits}
 use Rattle.pm_recipe.specs.Steps.{Builds}
 
--- the builder goes on to the situation behind a span
+-- the builder goes on to the situation after a span
 pub suits-after : (old new : Builder) (span : Span) (sort : Kind) (situation : Situation) → Builds old new (item_of span sort) → Suits old situation
     → Suits new (situation_after sort situation)
 suits-after old new span kind.Gap situation t s = record { begun = t.begun ∙ s.begun; levels = t.depth ∙ s.levels }

@@ -23,7 +23,7 @@ kept-unjoined (byte ∷ (next ∷ bytes)) = by (is_join byte (next ∷ bytes)) (
     by true e f = e
     by false e f = ap (λ xs. byte ∷ xs) f
 
--- behind a join, or not
+-- after a join, or not
 record AreKept (text : List ℕ) : Type 0 where
   plain : kept true Text text ≡ without_indents false text
   indented : kept true Indent text ≡ without_indents true text

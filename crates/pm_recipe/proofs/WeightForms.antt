@@ -23,7 +23,7 @@ use Rattle.pm_recipe.proofs.Forms.{equal, no, and-left, and-right, begins-cons, 
 use Rattle.pm_recipe.proofs.WordRuns.{true-false}
 use Rattle.pm_recipe.proofs.Taking.{blanks-far}
 
--- a byte of a numeral behind its sign
+-- a byte of a numeral after its sign
 abbrev is_figure : ℕ → Bool
 is_figure byte = is_digit_byte byte || nat_eq byte DOT
 

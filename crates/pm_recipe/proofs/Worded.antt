@@ -272,7 +272,7 @@ mutual
         reads = q.reads;
       })
 
--- a text behind a word's parts
+-- a text after a word's parts
 marks-append : (marks : List Mark) (xs ys : List ℕ) → marks_text marks xs ++ ys ≡ marks_text marks (xs ++ ys)
 marks-append [] xs ys = refl
 marks-append (Mark.Plain byte ∷ marks) xs ys = ap (λ t. byte ∷ t) (marks-append marks xs ys)
@@ -296,7 +296,7 @@ parts-append (Part.Double inners ∷ parts) xs ys =
 parts-append (Part.Command marks ∷ parts) xs ys =
     ap (λ t. BACKQUOTE ∷ t) (marks-append marks (word_text parts xs) ys ∙ ap (λ t. marks_text marks t) (parts-append parts xs ys))
 
--- a word is what a reader reads, and no quote is open behind it
+-- a word is what a reader reads, and no quote is open after it
 pub record IsRead (word : List ℕ) (behind : List ℕ) : Type 0 where
   pub length_is : far word_places InWord.Plain (word ++ behind) ≡ length word
   pub closed : is_quote (rest_of word_places false InWord.Plain (word ++ behind)) ≡ false

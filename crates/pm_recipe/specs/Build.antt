@@ -71,7 +71,7 @@ acts act lists = record { recipe = Some (record { conditions = []; ending = Acts
 abbrev pub fails : ℕ → List ℕ → List Trees → Ahead
 fails line text lists = record { recipe = Some (record { conditions = []; ending = Breaks line text }); lists = lists }
 
--- what stands from an item on, of what stands behind it
+-- what stands from an item on, of what stands after it
 abbrev pub before : Item → Ahead → Ahead
 before Nothing ahead = ahead
 before (Begins head junk) ahead = plain (with_junk head junk (put (recipe_of head [] ahead.recipe) ahead.lists))

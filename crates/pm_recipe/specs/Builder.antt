@@ -39,7 +39,7 @@ abbrev pub settled : Option Begun → Ahead → List Trees
 settled None ahead = ahead.lists
 settled (Some begun) ahead = put (recipe_of begun.head begun.conditions ahead.recipe) ahead.lists
 
--- the open blocks, the statements behind them, and the recipe that has begun
+-- the open blocks, the statements after them, and the recipe that has begun
 pub record Built : Type 0 where
   pub levels : List Level
   pub done : Trees

@@ -35,7 +35,7 @@ begins_recipe text = begins_with COLON text && begins_with ZERO (behind run_plac
 abbrev pub behind_zero : List ℕ → List ℕ
 behind_zero text = drop 1 (behind run_places Run.Joins (drop 1 text))
 
--- the bytes behind the zero among which the flags stand
+-- the bytes after the zero among which the flags stand
 abbrev pub flags_part : List ℕ → List ℕ
 flags_part text = take (far flag_places InFlags.Word (behind_zero text)) (behind_zero text)
 
@@ -63,7 +63,7 @@ behind_colon text = if has_lock text then behind tail_places InTail.Fresh (behin
 abbrev pub lock_of : List ℕ → Option (List ℕ)
 lock_of text = if has_lock text then Some (take (word_length (lock_part text)) (lock_part text)) else None
 
--- another byte than a blank or a letter among the flags, or another text than a comment behind the lock
+-- another byte than a blank or a letter among the flags, or another text than a comment after the lock
 abbrev pub has_junk : List ℕ → Bool
 has_junk text =
     nat_lt (far run_places Run.Letters (flags_part text)) (length (flags_part text))

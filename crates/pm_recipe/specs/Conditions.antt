@@ -29,7 +29,7 @@ pub record IsNumeral (text : List ℕ) (minus : Bool) (digits : List ℕ) : Type
   pub are : are_digits digits ≡ true
   pub some : has_digit digits ≡ true
 
--- two numerals with a caret between them, and a blank or the end behind
+-- two numerals with a caret between them, and a blank or the end after
 pub record IsWeight (text : List ℕ) (minus : Bool) (digits : List ℕ) (less : Bool) (power : List ℕ) (rest : List ℕ) : Type 0 where
   pub w : List ℕ
   pub x : List ℕ
@@ -73,7 +73,7 @@ abbrev pub are_blank : List ℕ → Bool
 are_blank [] = true
 are_blank (byte ∷ bytes) = is_blank_byte byte && are_blank bytes
 
--- what can stand before an expression: blanks, `!`, and names with `??` behind them
+-- what can stand before an expression: blanks, `!`, and names with `??` after them
 pub data IsLead : List ℕ → Type 0 where
   None : IsLead []
   Blank : (byte : ℕ) (lead : List ℕ) → is_blank_byte byte ≡ true → IsLead lead → IsLead (byte ∷ lead)
@@ -101,7 +101,7 @@ abbrev pub ends_plain : List ℕ → Bool
 ends_plain [] = true
 ends_plain (byte ∷ bytes) = nat_eq byte DOLLAR
 
--- behind the first `$` the blanks after a join stay
+-- after the first `$` the blanks after a join stay
 pub record IsDollarLine (text : List ℕ) (line : List ℕ) : Type 0 where
   pub front : List ℕ
   pub last : List ℕ

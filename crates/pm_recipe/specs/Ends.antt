@@ -18,7 +18,7 @@ pub record Blocks : Type 0 where
 abbrev pub no_blocks : Blocks
 no_blocks = record { colon = 0; lines = []; stopped = false }
 
--- behind a span of this kind, which begins on this line
+-- after a span of this kind, which begins on this line
 abbrev pub blocks_after : Kind → ℕ → Blocks → Blocks
 blocks_after Colon line blocks = record { colon = line; lines = blocks.lines; stopped = blocks.stopped }
 blocks_after Open line blocks = record { colon = blocks.colon; lines = blocks.colon ∷ blocks.lines; stopped = blocks.stopped }
@@ -26,7 +26,7 @@ blocks_after TooDeep line blocks = record { colon = blocks.colon; lines = blocks
 blocks_after Close line blocks = record { colon = blocks.colon; lines = drop 1 blocks.lines; stopped = blocks.stopped }
 blocks_after _ line blocks = blocks
 
--- behind spans
+-- after spans
 abbrev pub blocks_behind : Blocks → List Span → Blocks
 blocks_behind blocks [] = blocks
 blocks_behind blocks (span ∷ spans) = blocks_behind (blocks_after span.kind span.line blocks) spans

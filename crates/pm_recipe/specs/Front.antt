@@ -15,7 +15,7 @@ use Rattle.pm_recipe.specs.declared.fronts.Situation.{Situation}
 use Rattle.pm_recipe.specs.declared.fronts.Kind.{Kind}
 use Rattle.pm_recipe.specs.declared.fronts.Kind.TheVariants.{Gap, Colon, Condition, Mailbox, Pipe, WriteOut, Capture, Forward, Open, TooDeep, Close, Assign, Unset, Skipped}
 
--- the front of a text: a span's kind, its name and its text, and what is behind the span
+-- the front of a text: a span's kind, its name and its text, and what is after the span
 pub record Front : Type 0 where
   pub kind : Kind
   pub name : List ℕ
@@ -30,7 +30,7 @@ front_in front = record { kind = front.kind; name = front.name.now; text = front
 abbrev pub before : List ℕ → List ℕ → List ℕ
 before text left = take (length text - length left) text
 
--- a span of this kind, with its name and its text, and what is behind it
+-- a span of this kind, with its name and its text, and what is after it
 abbrev pub piece : Kind → List ℕ → List ℕ → List ℕ → Front
 piece kind name text behind = record { kind = kind; name = name; text = text; behind = behind }
 
@@ -63,7 +63,7 @@ abbrev pub assignment : List ℕ → List ℕ → List ℕ → Front
 assignment text name value =
     if is_unclosed value then unclosed text else piece Assign name (take (word_length value) value) (drop (word_length value) value)
 
--- behind a name there is a blank, a newline or the end
+-- after a name there is a blank, a newline or the end
 abbrev pub ends_name : List ℕ → Bool
 ends_name [] = true
 ends_name (byte ∷ bytes) = is_space_byte byte
@@ -72,7 +72,7 @@ ends_name (byte ∷ bytes) = is_space_byte byte
 abbrev pub behind_name : List ℕ → List ℕ
 behind_name text = behind run_places Run.Blanks (behind run_places Run.Name text)
 
--- what follows the `=` behind a name, and its blanks
+-- what follows the `=` after a name, and its blanks
 abbrev pub behind_equals : List ℕ → List ℕ
 behind_equals text = behind run_places Run.Blanks (drop 1 (behind_name text))
 
@@ -108,7 +108,7 @@ ends_line (byte ∷ bytes) = nat_eq byte NEWLINE
 abbrev pub captures : List ℕ → Bool
 captures text = begins_with EQUALS (behind_name text) && begins_with BAR (behind_equals text)
 
--- a name, and the line behind the bar
+-- a name, and the line after the bar
 abbrev pub capture : List ℕ → Front
 capture text =
     let line = drop 1 (behind_equals text) in

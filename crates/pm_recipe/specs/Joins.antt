@@ -14,7 +14,7 @@ unjoined [] = []
 unjoined (byte ∷ []) = byte ∷ []
 unjoined (byte ∷ (next ∷ bytes)) = if is_join byte (next ∷ bytes) then unjoined bytes else byte ∷ unjoined (next ∷ bytes)
 
--- the same without the blanks behind each join; behind one, or not
+-- a text without its joins and the blanks after each join; the flag says whether a join is right before it
 abbrev pub without_indents : Bool → List ℕ → List ℕ
 without_indents behind [] = []
 without_indents behind (byte ∷ []) = if behind && is_blank_byte byte then [] else byte ∷ []

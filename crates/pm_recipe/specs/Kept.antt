@@ -8,7 +8,7 @@ use Rattle.pm_recipe.specs.Joins.{is_join, before_blanks}
 use Rattle.pm_recipe.specs.declared.joins.Side.{Side}
 use Rattle.pm_recipe.specs.declared.joins.Side.TheVariants.{Text, Newline, Indent}
 
--- whether a byte is dropped: one of a join, or a blank behind one
+-- whether a byte is dropped: one of a join, or a blank after one
 abbrev pub is_dropped : Side → ℕ → List ℕ → Bool
 is_dropped Text byte bytes = is_join byte bytes
 is_dropped Newline byte bytes = true
@@ -20,7 +20,7 @@ side_after indents Text byte bytes = if is_join byte bytes then Newline else Tex
 side_after indents Newline byte bytes = if indents then Indent else Text
 side_after indents Indent byte bytes = if is_blank_byte byte then Indent else if is_join byte bytes then Newline else Text
 
--- the bytes that are kept; the blanks behind a join are dropped too, where they are an indent
+-- the bytes that are kept; the blanks after a join are dropped too, where they are an indent
 abbrev pub kept : Bool → Side → List ℕ → List ℕ
 kept indents side [] = []
 kept indents side (byte ∷ bytes) =

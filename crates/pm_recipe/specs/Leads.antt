@@ -17,14 +17,14 @@ numeral_ends Digits byte = not (is_digit_byte byte || nat_eq byte DOT)
 abbrev pub numeral_places : Places InNumeral
 numeral_places = record { joins = λ place. false; ends = numeral_ends; after = λ place byte. Digits }
 
--- the bytes that belong to no blank, no `!` and no name with `??` behind it
+-- the bytes that belong to no blank, no `!` and no name with `??` after it
 abbrev pub lead_ends : InLead → ℕ → Bool
 lead_ends Before byte = not (is_blank_byte byte || nat_eq byte BANG || is_name_start byte)
 lead_ends Name byte = not (is_blank_byte byte || nat_eq byte QUESTION || is_name_byte byte)
 lead_ends Blanks byte = not (is_blank_byte byte || nat_eq byte QUESTION)
 lead_ends Mark byte = not (nat_eq byte QUESTION)
 
--- a name, the blanks behind it, and its two question marks
+-- a name, the blanks after it, and its two question marks
 abbrev pub lead_after : InLead → ℕ → InLead
 lead_after Before byte = if is_name_start byte then Name else Before
 lead_after Name byte = if nat_eq byte QUESTION then Mark else if is_blank_byte byte then Blanks else Name

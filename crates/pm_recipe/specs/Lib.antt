@@ -30,4 +30,5 @@ pub mod Says
 pub mod Lists
 pub mod Rc
 pub mod Listed
+pub mod Cuts
 pub mod Letters

@@ -10,7 +10,7 @@ use Rattle.pm_recipe.specs.Item.{Item}
 use Rattle.pm_recipe.specs.Reads.{items_of}
 use Rattle.pm_recipe.specs.Build.{tree_of_items}
 
--- the pieces behind so many bytes that are passed over
+-- the pieces after so many bytes that are passed over
 abbrev pub pieces : ℕ → ℕ → Situation → List ℕ → List Piece
 pieces skip line situation [] = []
 pieces (suc skip) line situation (byte ∷ bytes) = pieces skip (line_past byte line) situation bytes

@@ -4,7 +4,7 @@ use Rattle.pm_recipe.specs.Bytes.{begins_with}
 use Rattle.pm_bytes.specs.Alphabet.{NEWLINE, BACKSLASH}
 
 -- the places of one reader: where a backslash before a newline joins two lines, which bytes are no part any more of what is
--- read, and the place behind a byte that is part of it
+-- read, and the place after a byte that is part of it
 pub record Places (Place : Type 0) : Type 0 where
   pub joins : Place → Bool
   pub ends : Place → ℕ → Bool
@@ -14,7 +14,7 @@ pub record Places (Place : Type 0) : Type 0 where
 abbrev pub joins_before : {Place : Type 0} → Places Place → Place → ℕ → List ℕ → Bool
 joins_before places place byte bytes = places.joins place && nat_eq byte BACKSLASH && begins_with NEWLINE bytes
 
--- the place behind a byte; a join changes none
+-- the place after a byte; a join changes none
 abbrev pub place_behind : {Place : Type 0} → Places Place → Bool → Place → ℕ → List ℕ → Place
 place_behind places joined place byte bytes = if joined || joins_before places place byte bytes then place else places.after place byte
 
@@ -40,6 +40,6 @@ far places place text = reach_of places false place text
 abbrev pub passed : {Place : Type 0} → Places Place → Place → List ℕ → List ℕ
 passed places place text = take (far places place text) text
 
--- what stands behind there
+-- what stands after there
 abbrev pub behind : {Place : Type 0} → Places Place → Place → List ℕ → List ℕ
 behind places place text = drop (far places place text) text

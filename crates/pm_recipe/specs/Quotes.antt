@@ -1,4 +1,4 @@
--- A word of an rcfile in the words of the language: bytes, bytes behind a backslash, and quotes.
+-- A word of an rcfile in the words of the language: bytes, bytes after a backslash, and quotes.
 use Rattle.std.specs.Prelude.{ℕ, List, [], ◌∷◌, ◌++◌, ◌≡◌, nat_eq, Bool, true, false, not, ◌&&◌, ◌⊎◌}
 use Rattle.pm_bytes.specs.Letter.{is_space_byte}
 use Rattle.pm_recipe.specs.Bytes.{begins_with}

@@ -26,7 +26,7 @@ is_flag_or_blank byte = is_blank_byte byte || is_flag_letter byte
 abbrev pub AreFlags : List ℕ → Type 0
 AreFlags flags = IsRun is_flag_or_blank 0 flags []
 
--- behind a lock's text there are blanks, and then a newline, a comment or the end
+-- after a lock's text there are blanks, and then a newline, a comment or the end
 pub record IsQuiet (tail : List ℕ) : Type 0 where
   pub blanks : List ℕ
   pub rest : List ℕ

@@ -17,7 +17,7 @@ pub record Span : Type 0 where
 abbrev pub span_of : Front → ℕ → Span
 span_of front line = record { kind = front.kind; line = line; name = front.name; text = front.text }
 
--- the number of the line behind a byte
+-- the number of the line after a byte
 abbrev pub line_past : ℕ → ℕ → ℕ
 line_past byte line = if nat_eq byte NEWLINE then line + 1 else line
 
@@ -30,7 +30,7 @@ newlines (byte ∷ bytes) = if nat_eq byte NEWLINE then newlines bytes + 1 else 
 abbrev pub in_statements : ℕ → Situation
 in_statements depth = record { depth = depth; in_recipe = false }
 
--- the situation behind a span of this kind
+-- the situation after a span of this kind
 abbrev pub situation_after : Kind → Situation → Situation
 situation_after Gap situation = situation
 situation_after Condition situation = situation

@@ -17,12 +17,12 @@ pub data IsGap (bytes : List ℕ) (behind : List ℕ) : Type 0 where
   Join : bytes ≡ BACKSLASH ∷ NEWLINE ∷ [] → IsGap bytes behind
   Comment : (text : List ℕ) → bytes ≡ HASH ∷ text → IsRest text behind → IsGap bytes behind
 
--- a byte and the line behind it
+-- a byte and the line after it
 pub record IsMarked (mark : ℕ) (text : List ℕ) (bytes : List ℕ) (behind : List ℕ) : Type 0 where
   pub bytes_are : bytes ≡ mark ∷ text
   pub line : IsLine 0 text behind
 
--- behind an opening brace, and joins, there is a blank, a newline or the end
+-- after an opening brace, and joins, there is a blank, a newline or the end
 pub record IsOpened (behind : List ℕ) : Type 0 where
   pub joins : List ℕ
   pub rest : List ℕ
@@ -72,7 +72,7 @@ pub record IsHead (text : List ℕ) (after : List ℕ) : Type 0 where
   pub joined : AreJoins 0 joins (ZERO ∷ (flags ++ after))
   pub flagged : AreWords in_flags false 0 flags after
 
--- the same and a colon and blanks, before a lock's text
+-- a colon line's beginning with a second colon and blanks, before a lock's text
 pub record IsLockHead (text : List ℕ) (lock : List ℕ) : Type 0 where
   pub blanks : List ℕ
   pub head : IsHead text (COLON ∷ (blanks ++ lock))
@@ -155,7 +155,7 @@ IsCut line situation (piece ∷ pieces) text =
     × Spells situation piece.span.kind piece.span.name piece.span.text piece.bytes behind
     × IsCut (line + newlines piece.bytes) (situation_after piece.span.kind situation) pieces behind
 
--- the situation behind pieces
+-- the situation after pieces
 abbrev pub end_of : Situation → List Piece → Situation
 end_of situation [] = situation
 end_of situation (piece ∷ pieces) = end_of (situation_after piece.span.kind situation) pieces

@@ -9,13 +9,13 @@ use Rattle.pm_recipe.specs.Item.Item.{Nothing, Begins, Judges, Opens, Closes}
 use Rattle.pm_recipe.specs.Build.{Ahead, before, put, first, others, plain, top_of}
 use Rattle.pm_recipe.specs.Builder.{built_of, begun_of, level_of, joined, joins, settled}
 
--- how many blocks are open behind an item
+-- how many blocks are open after an item
 abbrev pub depth_after : Item → ℕ → ℕ
 depth_after Opens depth = depth + 1
 depth_after Closes depth = depth - 1
 depth_after _ depth = depth
 
--- whether a recipe has begun behind an item
+-- whether a recipe has begun after an item
 abbrev pub begun_after : Item → Bool → Bool
 begun_after Nothing begun = begun
 begun_after (Begins head junk) begun = true
@@ -28,7 +28,7 @@ pub record Builds (old : Builder) (new : Builder) (item : Item) : Type 0 where
   pub begun : is_some new.begun ≡ begun_after item (is_some old.begun)
   pub built : (ahead : Ahead) → joins new (settled (begun_of new.begun) ahead) ≡ joins old (settled (begun_of old.begun) (before item ahead))
 
--- statements that are put before what is ahead stand behind what is done
+-- statements that are put before what is ahead stand after what is done
 pub record Puts (old : Builder) (new : Builder) (put : List Trees → List Trees) : Type 0 where
   pub levels : new.levels.items ≡ old.levels.items
   pub begun : new.begun ≡ old.begun

@@ -47,7 +47,7 @@ abbrev mutual
   act_size (Block trees) = trees_size trees + 1
   act_size _ = 0
 
--- one list of statements behind another
+-- one list of statements after another
 infixr 40 ◌⧺◌
 abbrev pub ◌⧺◌ : Trees → Trees → Trees
 nil ⧺ after = after

@@ -17,7 +17,7 @@ use Rattle.pm_recipe.specs.declared.tree.Weight.{Weight}
 use Rattle.pm_recipe.specs.declared.tree.Weight.TheVariants as weight
 use Rattle.pm_recipe.specs.declared.tree.Condition.{Condition}
 
--- the number that digits write behind those that were read; a dot has no value
+-- the number that digits write after those that were read; a dot has no value
 abbrev pub digits_value : ℕ → List ℕ → ℕ
 digits_value value [] = value
 digits_value value (byte ∷ bytes) = digits_value (10 * value + (byte - ZERO)) bytes
@@ -28,7 +28,7 @@ number_within most text =
     if list_any (λ byte. nat_eq DOT byte) text then None else
     if nat_lt most (digits_value 0 text) then None else Some (digits_value 0 text)
 
--- the digits behind a sign, which may be absent
+-- the digits after a sign, which may be absent
 abbrev pub digits_of : List ℕ → List ℕ
 digits_of text = if begins_with PLUS text || begins_with MINUS text then drop 1 text else text
 
@@ -46,7 +46,7 @@ numeral text = take (far numeral_places InNumeral.Sign text) text
 abbrev pub has_digit : List ℕ → Bool
 has_digit text = list_any is_digit_byte text
 
--- what stands behind the caret
+-- what stands after the caret
 abbrev pub exponent : List ℕ → List ℕ
 exponent text = drop 1 (behind numeral_places InNumeral.Sign text)
 
@@ -59,7 +59,7 @@ ends_word (byte ∷ bytes) = is_blank_byte byte
 abbrev pub most_weight : ℕ
 most_weight = 2147483647
 
--- two numerals with a caret between them, and a blank or the end behind
+-- two numerals with a caret between them, and a blank or the end after
 abbrev pub has_weight : List ℕ → Bool
 has_weight text =
     has_digit (numeral text) && begins_with CARET (behind numeral_places InNumeral.Sign text)
@@ -85,11 +85,11 @@ abbrev pub is_at_dollar : InLead → Bool
 is_at_dollar InLead.Before = true
 is_at_dollar _ = false
 
--- whether a dollar stands behind nothing else
+-- whether a dollar stands after nothing else
 abbrev pub is_expanded : List ℕ → Bool
 is_expanded text = is_at_dollar (rest_of lead_places false InLead.Before text) && begins_with DOLLAR (behind lead_places InLead.Before text)
 
--- behind such a dollar the blanks after a join stay
+-- after such a dollar the blanks after a join stay
 abbrev pub dollar_line : List ℕ → List ℕ
 dollar_line text = unindented (take (far up_to_places UpTo.Dollar text) text) ++ unjoined (behind up_to_places UpTo.Dollar text)
 

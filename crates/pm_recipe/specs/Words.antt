@@ -10,7 +10,7 @@ use Rattle.pm_bytes.specs.Alphabet.{NEWLINE, BACKSLASH, COLON, HASH}
 abbrev pub belongs : (ℕ → Bool) → ℕ → ℕ → List ℕ → Bool
 belongs allowed before byte bytes = allowed byte || is_join byte bytes || (nat_eq before BACKSLASH && nat_eq byte NEWLINE)
 
--- a run of allowed bytes and joins, behind one byte and before others: it goes as far as it can
+-- a run of allowed bytes and joins, after one byte and before others: it goes as far as it can
 abbrev pub IsRun : (ℕ → Bool) → ℕ → List ℕ → List ℕ → Type 0
 IsRun allowed before [] [] = Unit {0}
 IsRun allowed before [] (byte ∷ bytes) = belongs allowed before byte bytes ≡ false
@@ -44,7 +44,7 @@ AreJoins before text behind = IsRun in_join before text behind
 abbrev pub joins : ℕ → ℕ → List ℕ → Bool
 joins before byte bytes = is_join byte bytes || (nat_eq before BACKSLASH && nat_eq byte NEWLINE)
 
--- a run of words, in which it counts whether a word can begin: behind a blank, joins apart
+-- a run of words, in which it counts whether a word can begin: after a blank, joins apart
 abbrev pub AreWords : (Bool → ℕ → Bool) → Bool → ℕ → List ℕ → List ℕ → Type 0
 AreWords allowed fresh before [] [] = Unit {0}
 AreWords allowed fresh before [] (byte ∷ bytes) = belongs (allowed fresh) before byte bytes ≡ false

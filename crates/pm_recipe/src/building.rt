@@ -29,7 +29,7 @@ pub struct Head {
     pub lock: Option<Blob>,
 }
 
-/// A block that is open, behind what stands before it.
+/// A block that is open, after what stands before it.
 #[derive(Drop)]
 pub struct Level {
     pub done: Statements,
@@ -87,7 +87,7 @@ impl Builder {
         }
     }
 
-    /// Puts a statement behind what is done.
+    /// Puts a statement after what is done.
     fn put(&mut self, statement: Statement) -> Result<(), Memory>
         ensures { IfOk result (λ _. Puts self.old self.new (put (tree_of statement))) }
     {
@@ -119,7 +119,7 @@ impl Builder {
         }))
     }
 
-    /// A defect behind what is done.
+    /// A defect after what is done.
     fn put_defect(&mut self, line: u64, text: &[u8]) -> Result<(), Memory>
         ensures { IfOk result (λ _. Puts self.old self.new (put (Act.Defect line text.now))) }
     {

@@ -28,7 +28,7 @@ pub fn none_unended() -> Unended
     }
 }
 
-/// Behind a span of this kind, which begins on this line in this situation.
+/// After a span of this kind, which begins on this line in this situation.
 pub fn unended_behind(kind: Kind, line: u64, situation: Situation, unended: Unended) -> Unended
     ensures { (blocks : Blocks) → Stands unended situation.depth blocks
         → Stands result (situation_after kind situation).depth (blocks_after kind line blocks) }

@@ -30,7 +30,7 @@ pub enum Kind {
     Skipped,
 }
 
-/// The front of a text: a span's name and its text, and what is behind the span.
+/// The front of a text: a span's name and its text, and what is after the span.
 #[derive(Clone, Copy)]
 pub struct Front<'a> {
     pub kind: Kind,
@@ -133,7 +133,7 @@ pub fn statements_in(depth: usize) -> Situation
     }
 }
 
-/// The situation behind a span of this kind.
+/// The situation after a span of this kind.
 pub fn situation_behind(kind: Kind, situation: Situation) -> Situation
     requires { situation.depth < 2 ^ 63 }
     ensures after { result ≡ situation_after kind situation }

@@ -9,7 +9,7 @@ use crate::runs::Run;
 use pm_bytes::{BACKSLASH, Blob, Memory, is_blank};
 use std::alloc::Global;
 
-/// Where a byte stands: in the text, at a join's newline, or among the blanks behind one.
+/// Where a byte stands: in the text, at a join's newline, or among the blanks after one.
 #[derive(Clone, Copy)]
 pub enum Side {
     Text,

@@ -43,7 +43,7 @@ pub fn letters_law()
 {}
 
 /// In joined lines a backslash before a newline is gone, and that newline; other bytes stay. In a condition's line the
-/// blanks behind it are gone too.
+/// blanks after it are gone too.
 pub fn joins_law()
     ensures joined { (front rest : List ℕ) → newlines front ≡ 0
         → unjoined (front ++ (BACKSLASH ∷ (NEWLINE ∷ rest))) ≡ front ++ unjoined rest }

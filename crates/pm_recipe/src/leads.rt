@@ -36,11 +36,11 @@ impl Place for InNumeral {
 pub enum InLead {
     /// It can begin here.
     Before,
-    /// In a name, behind which there must be two question marks.
+    /// In a name, after which there must be two question marks.
     Name,
-    /// In the blanks behind the name.
+    /// In the blanks after the name.
     Blanks,
-    /// Behind the first question mark.
+    /// After the first question mark.
     Mark,
 }
 

@@ -20,7 +20,7 @@ pub trait Place: Copy {
     fn ends(self, byte: u8) -> bool
         ensures { result ≡ places.ends self byte };
 
-    /// The place behind a byte that is part of it.
+    /// The place after a byte that is part of it.
     fn after(self, byte: u8) -> Self
         ensures { result ≡ places.after self byte };
 }
@@ -86,7 +86,7 @@ fn place_behind<P: Place>(joined: bool, joining: bool, place: P, byte: u8) -> P
     }
 }
 
-/// What is read, and what is behind, where a reader comes no further.
+/// What is read, and what is after, where a reader comes no further.
 pub fn split<P: Place>(place: P, text: &[u8]) -> (&[u8], &[u8])
     ensures passed { result.0.now ≡ passed P.places place text.now }
     ensures behind { result.1.now ≡ behind P.places place text.now }
@@ -96,7 +96,7 @@ pub fn split<P: Place>(place: P, text: &[u8]) -> (&[u8], &[u8])
     (&text[..length], &text[length..])
 }
 
-/// What is behind, where a reader comes no further.
+/// What is after, where a reader comes no further.
 pub fn past<P: Place>(place: P, text: &[u8]) -> &[u8]
     ensures text { result.now ≡ behind P.places place text.now }
     ensures length { far P.places place text.now + length result.now ≡ length text.now }
@@ -104,7 +104,7 @@ pub fn past<P: Place>(place: P, text: &[u8]) -> &[u8]
     split(place, text).1
 }
 
-/// The bytes behind the first.
+/// The bytes after the first.
 pub fn past_first(text: &[u8]) -> &[u8]
     ensures text { result.now ≡ drop 1 text.now }
     ensures shorter { length result.now ≤ length text.now - 1 }

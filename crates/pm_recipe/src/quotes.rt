@@ -12,7 +12,7 @@ use crate::words::InWord;
 use pm_bytes::{BACKQUOTE, BACKSLASH, DOUBLE_QUOTE, HASH, Memory, SINGLE_QUOTE, is_space};
 use std::alloc::Global;
 
-/// Whether a quote is open behind a word, from each place where its reader can stand.
+/// Whether a quote is open after a word, from each place where its reader can stand.
 #[derive(Clone, Copy)]
 pub struct Opens {
     pub word: bool,

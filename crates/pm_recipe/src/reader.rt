@@ -18,7 +18,7 @@ use pm_bytes::Memory;
 use std::alloc::Global;
 
 /// The greatest length of an rcfile, in bytes.
-const MOST_LENGTH: usize = 1_048_576;
+pub const MOST_LENGTH: usize = 1_048_576;
 
 /// Why an rcfile isn't read: it is of `length` bytes and thereby too long, or memory was wanting.
 #[derive(Clone, Copy)]
@@ -74,7 +74,7 @@ fn read_statements(alloc: Global, bytes: &[u8]) -> Result<Statements, Memory>
 }
 
 // The first text that isn't understood may have a quote that isn't closed: from then on it is known which words do.
-fn learn(alloc: Global, kind: Kind, text: &[u8], known: &mut Vec<bool>) -> Result<(), Memory>
+pub fn learn(alloc: Global, kind: Kind, text: &[u8], known: &mut Vec<bool>) -> Result<(), Memory>
     requires { Knows known.old.items text.now }
     ensures { IfOk result (λ _. Knows known.new.items text.now) }
 {

@@ -22,11 +22,11 @@ pub struct Flags {
     pub feed_body: bool,
     /// `f`: the program is a filter, whose output becomes the mail.
     pub filter: bool,
-    /// `c`: the mail goes on behind the action.
+    /// `c`: the mail goes on after the action.
     pub copy: bool,
     /// `w`: the run waits for the program and heeds its exit status.
     pub wait: bool,
-    /// `W`: the same, and a failure of the program isn't told.
+    /// `W`: wait for the program and look at its code, as `w` does, and don't log its failure.
     pub wait_quiet: bool,
     /// `i`: an error in writing is ignored.
     pub ignore: bool,
@@ -34,7 +34,7 @@ pub struct Flags {
     pub raw: bool,
     /// `A`: only where the conditions of the last recipe without `A` or `a` held.
     pub and_chain: bool,
-    /// `a`: the same, and the recipe before it succeeded.
+    /// `a`: only if the last recipe without `A` and `a` matched, and the recipe before it succeeded.
     pub and_ok: bool,
     /// `E`: only where the conditions of the recipe before it didn't hold.
     pub or_else: bool,
@@ -136,14 +136,14 @@ impl Statements {
         }
     }
 
-    /// The same statements. It takes no memory.
+    /// The statements of a `Vec`. It allocates nothing.
     pub fn from_vec(items: Vec<Statement>) -> Statements
         ensures { result ≡ trees_of items.items }
     {
         Statements { items }
     }
 
-    /// The same statements. It takes no memory.
+    /// The statements as a `Vec`. It allocates nothing.
     pub fn into_vec(self) -> Vec<Statement>
         ensures { trees_of result.items ≡ self }
     {
@@ -264,9 +264,13 @@ fn copy_conditions(alloc: Global, conditions: &[Condition]) -> Result<Vec<Condit
     Ok(copies)
 }
 
-/// An equal list.
-pub fn copy_statements(alloc: Global, statements: &Statements) -> Result<Statements, Memory>
-    ensures { IfOk result (λ copy. copy ≡ statements.now) }
+/// Equal statements, each in its place.
+pub fn copy_statements(alloc: Global, statements: &[Statement]) -> Result<Vec<Statement>, Memory>
+    ensures { IfOk result (λ copy. trees_of copy.items ≡ trees_of statements.now) }
 {
-    statements.copy(alloc)
+    let mut copies = Vec::new(alloc);
+    for statement in statements {
+        copies.push(copy_statement(alloc, statement)?)?;
+    }
+    Ok(copies)
 }

@@ -6,7 +6,7 @@ ghost use Rattle.pm_recipe.specs.WordPlaces.{word_after, is_quote};
 use crate::places::Place;
 use pm_bytes::{BACKQUOTE, BACKSLASH, DOUBLE_QUOTE, SINGLE_QUOTE, is_space};
 
-/// In a word: which quotes are open, and whether the next byte stands behind a backslash.
+/// In a word: which quotes are open, and whether the next byte stands after a backslash.
 #[derive(Clone, Copy)]
 pub enum InWord {
     Plain,
@@ -69,7 +69,7 @@ impl Place for InWord {
 
     ghost places = { word_places };
 
-    // A backslash takes the newline behind it along, as any other byte.
+    // A backslash takes the newline after it along, as any other byte.
     fn joins(self) -> bool {
         false
     }
