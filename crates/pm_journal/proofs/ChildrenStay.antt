@@ -79,7 +79,7 @@ act_child (SayErr text) reply calls g = ap (λ l. child_after l NoChild) g.none
 act_child (WriteOut piece) reply calls g = ap (λ l. child_after l NoChild) g.none
 act_child Moment reply calls g = ap (λ l. child_after l NoChild) g.call
 
--- no child runs behind entries
+-- no child runs after entries
 pub no_child_left : (es : List Entry) (gs : List (List Logged)) → Honest es gs → child_after (joined gs) NoChild ≡ NoChild
 no_child_left [] [] h = refl
 no_child_left [] (g ∷ gs) h = absurd h
@@ -94,7 +94,7 @@ left_place_child Mh folder calls (inr l) =
 left_place_child Maildir folder calls none = ap (λ l. child_after l NoChild) none
 left_place_child Plain folder calls none = ap (λ l. child_after l NoChild) none
 
--- nor behind an act that was left off
+-- nor after an act that was left off
 pub left_off_child : (act : Act) (calls : List Logged) → UnfinishedCalls act calls → child_after calls NoChild ≡ NoChild
 left_off_child (Place kind folder prefix piece stamp) calls u = left_place_child kind folder calls u
 left_off_child (Run command input want) calls (inl none) = ap (λ l. child_after l NoChild) none

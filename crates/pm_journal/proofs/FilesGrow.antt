@@ -157,7 +157,7 @@ after_placed_others other piece w = refl
 after_place_others : (reply : Reply) (piece : List ℕ) (calls : List Logged) (w : World) → (after_place reply piece calls w).others ≡ w.others
 after_place_others reply piece calls w = after_placed_others reply piece (with_folders calls w) ∙ folders_others calls w
 
--- what others still do behind an act during which they do nothing
+-- what others still do after an act during which they do nothing
 act_same_others : (act : Act) (reply : Reply) (calls : List Logged) (w : World) → (after_act act reply calls w).others ≡ w.others ⊎ IsLong act
 act_same_others (AppendTo file piece) reply calls w = inl (append_end_others (append_end_of reply) file piece w)
 act_same_others (SayFile file text) reply calls w = inl (append_end_others (append_end_of reply) file text w)

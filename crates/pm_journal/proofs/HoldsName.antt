@@ -52,7 +52,7 @@ without-none (x ∷ xs) name h =
 turned_round : (pre post : List (List ℕ)) (x : List ℕ) → reverse (pre ++ x ∷ post) ≡ reverse post ++ x ∷ reverse pre
 turned_round pre post x = reverse-append pre (x ∷ post) ∙ ap (λ l. l ++ reverse pre) (reverse-append (x ∷ []) post) ∙ append_assoc (reverse post) (x ∷ []) (reverse pre)
 
--- the last place at which a name stands is the first from behind
+-- the last place at which a name stands is the first from after
 pub given_from_behind : (pre post : List (List ℕ)) (x name : List ℕ) → bytes_eq x name ≡ true → holds_name post name ≡ false → reverse (pre ++ post) ≡ without (reverse (pre ++ x ∷ post)) name
 given_from_behind pre post x name same apart =
     let e : x ≡ name = (bytes_eq-Decides x name).0 same in

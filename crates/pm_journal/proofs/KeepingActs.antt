@@ -47,7 +47,7 @@ keeping_unlock name reply x y names a b h n =
     let left : length names ≤ y.room = omega (arith, n.room, h.room) in
     subst (Keeping y) same (keeping_act (Unlock name) reply x y (name ∷ names) a b h n tt (subst (λ l. length l ≤ y.room) (sym same) left))
 
--- what the entries behind others leave held
+-- what the entries after others leave held
 pub keeps_rest : (es fs : List Entry) (a b c : List (List ℕ)) → Keeps a es b → Keeps a (es ++ fs) c → Keeps b fs c
 keeps_rest [] fs a b c h k = subst (λ x. Keeps x fs c) (sym h) k
 keeps_rest (e ∷ es) fs a b c h k = keeps_rest es fs (held_by e.act e.reply a) b c h.1 k.1

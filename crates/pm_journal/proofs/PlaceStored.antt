@@ -1,4 +1,4 @@
--- A piece is placed only where its file was brought to the store.
+-- A piece is placed only where its file was synced to disk.
 use Rattle.std.proofs.Common.{◌≡◌, ℕ, ◌+◌, Bool, true, false, List, [], ◌∷◌, ◌++◌, length, drop, Option, Some, None, is_some, nat_eq, refl, sym, ap, ◌∙◌, subst, inl, inr, append_assoc}
 use Rattle.pm_host.specs.World.{IsAnswerTo}
 use Rattle.pm_host.specs.Runs.{logged}

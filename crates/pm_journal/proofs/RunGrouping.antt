@@ -45,7 +45,7 @@ same_fed input end other g h x y same =
     let at : x.at ≡ y.at = one_end (FeedAsks input) feed_heard (FeedOn 0) x.at y.at h (subst (λ l. FeedGroup input end l) same x).walk y.walk in
     fed_same (length input) y.at end other (subst (λ s. FeedDone (length input) s end) at x.done) y.done
 
--- behind a failed start no child is fed
+-- after a failed start no child is fed
 not_begun : (command : Command) (want : Bool) (feeds takes : List Logged) (finished : Finished) (g h r q : List Logged) → g ≡ logged (Start command want) (AnswerStart StartFailed) ∷ []
     → h ≡ run_calls command want feeds takes finished → g ++ r ≡ h ++ q → ⊥
 not_begun command want feeds takes finished g h r q x y same =

@@ -1,4 +1,4 @@
--- An append that is done was brought to the store by its last call.
+-- An append that is done was synced to disk by its last call.
 use Rattle.std.proofs.Common.{◌≡◌, ◌⊎◌, ℕ, Bool, true, false, cond, List, [], ◌∷◌, length, nat_eq, refl, sym, ap, ◌∙◌, subst, inl, inr}
 use Rattle.pm_host.specs.World.{IsAnswerTo}
 use Rattle.pm_host.specs.Runs.{logged, Transitions}
@@ -88,7 +88,7 @@ over_asks : (name piece : List ℕ) (at : AppendState) (call : Call) → IsOver 
 over_asks name piece (Ended EndDone) call h asks = asks
 over_asks name piece other call h asks = absurd h
 
--- nothing is asked behind an end
+-- nothing is asked after an end
 over_walk : (name piece : List ℕ) (calls : List Logged) (at last : AppendState) → IsOver at → Transitions (AppendAsks name piece true) append_heard at calls last → calls ≡ []
 over_walk name piece [] at last h walk = refl
 over_walk name piece (c ∷ cs) at last h walk = absurd (over_asks name piece at c.call h walk.0)

@@ -85,7 +85,7 @@ append_stands w₀ w at to piece part taken (AnswerAppend (TookSome n)) fits fro
 append_stands w₀ w at to piece part taken (AnswerAppend TookFailed) fits front h = h
 append_stands w₀ w at to piece part taken other fits front h = absurd fits
 
--- the whole file was brought to the store
+-- the whole file was synced to disk
 stored_stands : (w₀ w : World) (at : List ℕ) (to : Option (List ℕ)) (piece : List ℕ) → HasFront w₀ w at piece (length piece) → Stands w₀ at to piece (stored (is_some to)) w
 stored_stands w₀ w at (Some to) piece h = h
 stored_stands w₀ w at None piece h = record { is = h.new.is ∙ ap (with_new w₀ at) (take-length piece); free = h.new.free }

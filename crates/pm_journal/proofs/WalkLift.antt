@@ -43,7 +43,7 @@ unfinished_on {S} {X} step (suc n) s t es fs calls h k =
           (unfinished_go step s v parts.front (parts.rest ++ fs) calls a (unfinished_on step n v t parts.rest fs calls b k))
     ] parts.plays_front parts.plays_rest
 
--- an act that a plan of two parts wants is wanted in the first, or behind it
+-- an act that a plan of two parts wants is wanted in the first, or after it
 data WantsIn {R S : Type 0} (p : Plan R) (f : R → Plan S) (es : List Entry) (act : Act) : Type 0 where
   in_first : Wants p es act → WantsIn p f es act
   behind_it : (middle : R) (front rest : List Entry) → es ≡ front ++ rest → Plays p front middle → Wants (f middle) rest act → WantsIn p f es act

@@ -40,7 +40,7 @@ abbrev pub ChildFaultsHaveCalls : Type 0
 ChildFaultsHaveCalls = (command : Command) (input : List ℕ) (want : Bool) (reply : Reply) (calls : List Logged) → RunGroup command input want reply calls
     → IsRunReply reply × (IsFaulty reply → SomeFailed calls)
 
--- behind the calls that run a child no child runs, where none ran before; nor where the taking of its output was left off
+-- after the calls that run a child no child runs, where none ran before; nor where the taking of its output was left off
 abbrev pub ChildrenEnd : Type 0
 ChildrenEnd = (command : Command) (input : List ℕ) (want : Bool) (reply : Reply) (calls : List Logged)
     → (RunGroup command input want reply calls ⊎ LeftRun command input calls) → child_after calls NoChild ≡ NoChild

@@ -38,13 +38,13 @@ abbrev pub FeedAsks : List ℕ → FeedState → Call → Type 0
 FeedAsks input (FeedOn taken) call = IsNextFeed (drop taken input) call
 FeedAsks input (FeedOver end) call = ⊥
 
--- what an answer makes of it, behind so many bytes that were taken
+-- what an answer makes of it, after so many bytes that were taken
 abbrev pub heard_feed : ℕ → Answer → FeedState
 heard_feed taken (AnswerFeed (FedSome n)) = FeedOn (taken + n)
 heard_feed taken (AnswerFeed FedClosed) = FeedOver (FedUpTo taken)
 heard_feed taken other = FeedOver (FedFailed taken)
 
--- the same of any state; what is over stays so
+-- the state of feeding after an answer; feeding that is over stays over
 abbrev pub feed_heard : FeedState → Answer → FeedState
 feed_heard (FeedOn taken) answer = heard_feed taken answer
 feed_heard (FeedOver end) answer = FeedOver end
@@ -84,12 +84,12 @@ abbrev pub took_more : List ℕ → List ℕ → TakeState
 took_more so_far [] = TakeOver (CameAll so_far)
 took_more so_far (b ∷ more) = TakeOn (so_far ++ b ∷ more)
 
--- what an answer makes of it, behind this output
+-- what an answer makes of it, after this output
 abbrev pub heard_take : List ℕ → Answer → TakeState
 heard_take so_far (AnswerTake more) = took_more so_far more
 heard_take so_far other = TakeOver CameFailed
 
--- the same of any state; what is over stays so
+-- the state of taking output after an answer; taking that is over stays over
 abbrev pub take_heard : TakeState → Answer → TakeState
 take_heard (TakeOn so_far) answer = heard_take so_far answer
 take_heard (TakeOver end) answer = TakeOver end
@@ -205,7 +205,7 @@ with_input command bytes w = record { nodes = w.nodes; moment = w.moment; others
 abbrev pub after_child_ran : Command → List Logged → World → World
 after_child_ran command calls w = after_others (with_input command (fed_bytes calls) w)
 
--- the world behind a run; where nothing was started, nothing changed
+-- the world after a run; where nothing was started, nothing changed
 abbrev pub after_run : Reply → Command → List Logged → World → World
 after_run NotStarted command calls w = w
 after_run other command calls w = after_child_ran command calls w

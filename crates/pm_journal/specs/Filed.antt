@@ -51,7 +51,7 @@ PlacesRight folders piece (Placed name) old new = AddsFile folders name piece ol
 PlacesRight folders piece (TornAt name count) old new = AddsFileFront folders name piece count old new
 PlacesRight folders piece other old new = OnlyFolders folders old new
 
--- behind the sync of a file nothing follows, and this is its name; or it was moved to this name
+-- after the sync of a file nothing follows, and this is its name; or it was moved to this name
 abbrev pub StoredEnd : List ℕ → List ℕ → List Logged → Type 0
 StoredEnd at name back = ((back ≡ []) × (name ≡ at)) ⊎ (back ≡ logged (Rename at name) (AnswerRename MovedDone) ∷ [])
 

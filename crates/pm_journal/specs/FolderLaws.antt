@@ -32,11 +32,11 @@ PlaceFaultsHaveCalls = (kind : FolderKind) (folder prefix piece : List ℕ) (sta
 abbrev pub PlaceRepliesFit : Type 0
 PlaceRepliesFit = (kind : FolderKind) (folder prefix piece : List ℕ) (stamp : Stamp) (reply : Reply) (calls : List Logged) → PlaceGroup kind folder prefix piece stamp reply calls → IsPlaceReply reply
 
--- a piece is placed only where its file was brought to the store before
+-- a piece is placed only where its file was synced to disk before
 abbrev pub PlacedIsStored : Type 0
 PlacedIsStored = (kind : FolderKind) (folder prefix piece : List ℕ) (stamp : Stamp) (name : List ℕ) (calls : List Logged) → PlaceGroup kind folder prefix piece stamp (Placed name) calls → IsStored name calls
 
--- of calls one behind the other, those of a delivery to a folder are known
+-- of calls one after the other, those of a delivery to a folder are known
 abbrev pub OnePlace : Type 0
 OnePlace = (kind : FolderKind) (folder prefix piece : List ℕ) (stamp : Stamp) (reply : Reply) (calls others later rest : List Logged) → PlaceGroup kind folder prefix piece stamp reply calls
     → PlaceGroup kind folder prefix piece stamp reply others → calls ++ later ≡ others ++ rest → calls ≡ others

@@ -134,7 +134,7 @@ after_move (Sleep seconds) answer w = after_call (Sleep seconds) answer w
 after_move (Remove name) answer w = after_call (Remove name) answer w
 after_move other answer w = w
 
--- the same of these calls, in order
+-- the world after these calls of taking a lock, in order
 abbrev pub after_moves : List Logged → World → World
 after_moves [] w = w
 after_moves (c ∷ cs) w = after_moves cs (after_move c.call c.answer w)

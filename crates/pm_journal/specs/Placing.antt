@@ -39,7 +39,7 @@ abbrev pub MoveAsks : List ℕ → Option (List ℕ) → Call → Type 0
 MoveAsks at (Some to) call = call ≡ Rename at to
 MoveAsks at None call = ⊥
 
--- more of the piece is offered, and once all is taken the file is brought to the store
+-- more of the piece is offered, and once all is taken the file is synced to disk
 abbrev pub WriteAsks : Bool → List ℕ → List ℕ → Call → Type 0
 WriteAsks true at left call = call ≡ Sync at
 WriteAsks false at left call = IsOffer at left call
@@ -64,7 +64,7 @@ abbrev pub stored : Bool → FileState
 stored true = Moving
 stored false = Ended Filed
 
--- after an `append`, or the `sync` behind the last one
+-- after an `append`, or the `sync` after the last one
 abbrev pub heard_write : Bool → ℕ → Answer → FileState
 heard_write moves taken (AnswerAppend (TookSome n)) = Writing (taken + n)
 heard_write moves taken (AnswerSync SyncedDone) = stored moves

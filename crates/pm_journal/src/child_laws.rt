@@ -16,7 +16,7 @@ pub fn child_faults_have_calls()
     ensures { ChildFaultsHaveCalls }
 {}
 
-/// No child runs behind the calls that run one.
+/// No child runs after the calls that run one.
 pub fn children_end()
     ensures { ChildrenEnd }
 {}

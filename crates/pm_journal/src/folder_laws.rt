@@ -21,7 +21,7 @@ pub fn place_replies_fit()
     ensures { PlaceRepliesFit }
 {}
 
-/// A piece is placed only where its file was brought to the store before.
+/// A piece is placed only where its file was synced to disk before.
 pub fn placed_is_stored()
     ensures { PlacedIsStored }
 {}

@@ -1,7 +1,7 @@
 //! The taking of a lock file as a state machine, which the protocol's definition and the code share.
 
 /// How a lock file is asked for (lockfile(1), and LOCKSLEEP, LOCKTIMEOUT and SUSPEND of procmailrc(5)), in seconds:
-/// the sleep behind a lost try, the age past which a lock file is removed by force (0 for never), and the sleep behind
+/// the sleep after a lost try, the age past which a lock file is removed by force (0 for never), and the sleep after
 /// such a removal; and how many tries may be lost.
 #[derive(Clone, Copy, Debug, PartialEq, Eq)]
 pub struct LockRule {

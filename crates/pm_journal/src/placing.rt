@@ -29,7 +29,7 @@ pub struct Candidate {
 /// How the filing of a piece under one name ended.
 #[derive(Clone, Copy, Debug, PartialEq, Eq)]
 pub enum FileEnd {
-    /// The file is there with the whole piece, which was brought to the store.
+    /// The file is there with the whole piece, which was synced to disk.
     Filed,
     /// Something stands at the name.
     Taken,

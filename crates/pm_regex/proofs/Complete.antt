@@ -23,7 +23,7 @@ abbrev pub last_of : Re → Option Re
 last_of (seq b p) = Some p
 last_of _ = None
 
--- the frame behind a branch
+-- the frame after a branch
 abbrev pub after : Frame → Re → Frame
 after f e = record f { before = before_of e; last = last_of e }
 

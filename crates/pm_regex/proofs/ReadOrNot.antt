@@ -1,17 +1,16 @@
 -- Each text is read as an expression, or as none.
-use Rattle.std.proofs.Common.{◌≡◌, ◌≢◌, ◌==◌, ◌&&◌, ◌⊎◌, ℕ, zero, suc, ◌+◌, ◌<◌, ◌≤◌, Bool, true, false, if◌then◌else◌, List, [], ◌∷◌, ◌++◌, length, drop, get_or, Option, Some, None, refl, sym, ◌∙◌, ap, subst, inl, inr, arith, length-drop, lit<}
-use Rattle.std.proofs.lemmas.Bool.{cases_Bool, cases_lt, cases_eq, eqb-true, ne_eqb}
+use Rattle.std.proofs.Common.{◌≡◌, ◌==◌, ◌&&◌, ◌⊎◌, ℕ, zero, suc, ◌<◌, ◌≤◌, Bool, true, false, if◌then◌else◌, List, [], ◌∷◌, ◌++◌, length, drop, Option, Some, None, refl, sym, ◌∙◌, ap, subst, inl, inr, arith, length-drop, lit<}
+use Rattle.std.proofs.lemmas.Bool.{cases_Bool, cases_lt, eqb-true}
 use Rattle.pm_regex.specs.declared.macros.Macro.{Macro}
 use Rattle.pm_regex.specs.declared.macros.Macro.TheVariants.{ToAddress, ToWord, FromDaemon, FromMailer}
 use Rattle.pm_regex.specs.declared.op.Atom.TheVariants.{LineStart}
 use Rattle.pm_regex.specs.declared.sign.Sign.{Sign}
 use Rattle.pm_regex.specs.declared.sign.Sign.TheVariants.{Edge, One}
 use Rattle.pm_regex.specs.Re.{Whole}
-use Rattle.pm_regex.specs.Macros.{Expands, done, part, macro_at, macro_name, span_of, put_for, plain_span, span_behind, bracket_text}
+use Rattle.pm_regex.specs.Macros.{Expands, done, part, macro_at, macro_name, span_of, put_for, bracket_text}
 use Rattle.pm_regex.specs.Tokens.{Token, sign, bracket, sign_of, escaped_sign, begins_with, ends_range, Member, range, byte, Members, closed, more, Body, body, First, plain, escape, edge, line_start, members, others, IsTokens, none, next}
 use Rattle.pm_regex.specs.Sets.{HasNoMember, HasNoBody}
 use Rattle.pm_regex.specs.Signs.{HasNoToken}
-use Rattle.pm_regex.specs.Grammar.{IsWhole}
 use Rattle.pm_regex.specs.Machine.{reading}
 use Rattle.pm_regex.specs.Reading.{Reads, HasNoReading}
 use Rattle.pm_regex.proofs.Complete.{whole_reads}
@@ -47,7 +46,7 @@ first_shorter text t rest (others u _ rs b) = (let x = body_shorter u rs rest b 
 abbrev HasMember : List ℕ → Type 0
 HasMember t = (a : ℕ) × (b : ℕ) × (u : List ℕ) × Member t a b u
 
-no_range : (a c b : ℕ) (v : List ℕ) → ends_range (c ∷ b ∷ v) ≡ true → b < a → HasNoMember (a ∷ c ∷ b ∷ v)
+pub no_range : (a c b : ℕ) (v : List ℕ) → ends_range (c ∷ b ∷ v) ≡ true → b < a → HasNoMember (a ∷ c ∷ b ∷ v)
 no_range a c b v is less x y w (range _ _ _ ne le) = absurd (omega (arith, less, le))
 no_range a c b v is less x y w (byte _ _ other) = cc
 

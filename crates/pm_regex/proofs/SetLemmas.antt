@@ -96,7 +96,7 @@ pub record IsReadTo (text : List ℕ) (before : List Op) (place : ℕ) (after : 
   pub back : (rs : List (ℕ × ℕ)) (rest : List ℕ) → Members (drop place text) rs rest → Body text (ranges ++ rs) rest
   pub forth : (all : List (ℕ × ℕ)) (rest : List ℕ) → Body text all rest → (rs : List (ℕ × ℕ)) × Members (drop place text) rs rest × (all ≡ ranges ++ rs)
 
--- behind the first member
+-- after the first member
 pub first_read : (text : List ℕ) (before after : List Op) (n : ℕ) → ReadsMember text before after n → IsReadTo text before n after
 first_read text before after n r = record {
   ranges = (r.first, r.last) ∷ [];
@@ -108,7 +108,7 @@ first_read text before after n r = record {
       (p.3, subst (λ u. Members u p.3 rest) one.2 p.5, p.6 ∙ ap (λ x. (x, p.1) ∷ p.3) one.0 ∙ ap (λ x. (r.first, x) ∷ p.3) one.1);
 }
 
--- behind one more
+-- after one more
 pub next_read : (text : List ℕ) (before mid after : List Op) (place n : ℕ) → begins_with 93 (drop place text) ≡ false →
     ReadsMember (drop place text) mid after n → IsReadTo text before place mid → IsReadTo text before (place + n) after
 next_read text before mid after place n other r x =

@@ -36,7 +36,7 @@ branch_piece d c b None u v e h p =
     subst (λ x. IsBranch d c (x ++ v) (seq b e)) (sym h.1) (subst (λ x. IsBranch d c v (seq x e)) (sym h.0) (first d c v e p))
 branch_piece d c b (Some q) u v e h p = more d c u v b q e h p
 
--- a repeat behind the last piece
+-- a repeat after the last piece
 branch_repeat : (d : ℕ) (c : Bool) (b p : Re) (u : List Token) (t : Times) → IsBranch d c u (seq b p) → IsBranch d c (u ++ sign (Repeat t) ∷ []) (seq b (times t p))
 branch_repeat d c b p u t (first _ _ _ _ g) = first d c (u ++ sign (Repeat t) ∷ []) (times t p) (repeated d (start_of c) t u p g)
 branch_repeat d c b p u t (more _ _ v w x y _ g h) =

@@ -59,7 +59,7 @@ no_bracket text there none t rest first =
     let p = bracketed text t rest first there in
     none p.0 rest p.2
 
--- the members behind the first two bytes, or behind the first
+-- the members after the first two bytes, or after the first
 pub negated_set : (text : List ℕ) (before mid after : List Op) (n : ℕ) → begins_with 91 text ≡ true → begins_with 94 (drop 1 text) ≡ true →
     2 ≤ length text → after ≡ mid ++ op.Set true ∷ [] → ReadsMembers (drop 2 text) before mid n → ReadsSet text before after (2 + n)
 negated_set text before mid after n there is two new r = record {

@@ -58,14 +58,14 @@ CARET = first_of (codes "^")
 abbrev pub DASH : ℕ
 DASH = first_of (codes "-")
 
--- what behind a backslash makes the cut
+-- what after a backslash makes the cut
 abbrev pub SLASH : ℕ
 SLASH = first_of (codes "/")
 
--- what behind a backslash stands for the start of a word
+-- what after a backslash stands for the start of a word
 abbrev pub LESS : ℕ
 LESS = first_of (codes "<")
 
--- what behind a backslash stands for the end of a word
+-- what after a backslash stands for the end of a word
 abbrev pub GREATER : ℕ
 GREATER = first_of (codes ">")

@@ -21,7 +21,7 @@ spelled (seq a b) os = spelled a (spelled b (op.Seq ∷ os))
 spelled (either a b) os = spelled a (spelled b (op.Either ∷ os))
 spelled (times t a) os = spelled a (op.Repeat t ∷ os)
 
--- nothing behind a list changes nothing
+-- nothing after a list changes nothing
 append_nil : (xs : List (ℕ × ℕ)) → xs ++ [] ≡ xs
 append_nil [] = refl
 append_nil (x ∷ xs) = ap (λ z. x ∷ z) (append_nil xs)

@@ -15,7 +15,7 @@ times_byte Star = STAR
 times_byte Plus = PLUS
 times_byte Maybe = QUESTION_MARK
 
--- where a piece stands: at the front of its branch, there but directly after the cut, or behind another piece
+-- where a piece stands: at the front of its branch, there but directly after the cut, or after another piece
 pub data Stand : Type 0 where
   front : Stand
   cut_front : Stand
@@ -45,7 +45,7 @@ mutual
         IsPiece d s (sign Open ∷ u ++ sign Close ∷ []) e
     repeated : (d : ℕ) (s : Stand) (t : Times) (u : List Token) (e : Re) → IsPiece d s u e → IsPiece d s (u ++ sign (Repeat t) ∷ []) (times t e)
 
-  -- The tokens are a branch: pieces one behind the other. The flag says whether it is directly after the cut.
+  -- The tokens are a branch: pieces one after the other. The flag says whether it is directly after the cut.
   pub data IsBranch : ℕ → Bool → List Token → Re → Type 0 where
     empty : (d : ℕ) (c : Bool) → IsBranch d c [] nothing
     first : (d : ℕ) (c : Bool) (u : List Token) (e : Re) → IsPiece d (start_of c) u e → IsBranch d c u (seq nothing e)

@@ -11,7 +11,7 @@ abbrev pub put : Option Re → List Re → List Re
 put None es = es
 put (Some e) es = e ∷ es
 
--- the expressions of the groups around the innermost: the last piece of each is joined, since the inner group comes behind it
+-- the expressions of the groups around the innermost: the last piece of each is joined, since the inner group comes after it
 abbrev pub outer_stack : List Frame → List Re
 outer_stack [] = []
 outer_stack (f ∷ fs) = closed_branch f.before f.last ∷ put f.bars (outer_stack fs)

@@ -6,6 +6,7 @@ pub mod Tokens
 pub mod Grammar
 pub mod Reading
 pub mod Postfix
+pub mod Examples
 -- What the proof alone needs: how far the code is on its way there.
 pub mod Code
 pub mod Expansion

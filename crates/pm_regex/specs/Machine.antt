@@ -57,7 +57,7 @@ joined (Some e) b = either e b
 abbrev pub expr_of : Frame → Re
 expr_of f = joined f.bars (closed_branch f.before f.last)
 
--- the frame behind a bar
+-- the frame after a bar
 abbrev pub barred : Frame → Frame
 barred f = record { cut = f.cut; bars = Some (expr_of f); before = nothing; last = None }
 
@@ -65,7 +65,7 @@ barred f = record { cut = f.cut; bars = Some (expr_of f); before = nothing; last
 abbrev pub with_inner : State → Frame → State
 with_inner st f = record st { inner = f }
 
--- a repeat behind the last piece; at the front of a branch it is a byte
+-- a repeat after the last piece; at the front of a branch it is a byte
 abbrev pub repeated_frame : Frame → Times → Option Re → Frame
 repeated_frame f t None = with_piece f (one (Byte (times_byte t)))
 repeated_frame f t (Some e) = record f { last = Some (times t e) }

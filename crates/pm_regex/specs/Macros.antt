@@ -48,12 +48,12 @@ abbrev pub to_bracket : List ℕ → List ℕ
 to_bracket [] = []
 to_bracket (b ∷ u) = if b == CLOSING_BRACKET then b ∷ [] else b ∷ to_bracket u
 
--- a bracket expression behind its `[` or `[^`; a `]` that stands first doesn't close it
+-- a bracket expression after its `[` or `[^`; a `]` that stands first doesn't close it
 abbrev pub members_text : List ℕ → List ℕ
 members_text [] = []
 members_text (b ∷ u) = b ∷ to_bracket u
 
--- a bracket expression behind its `[`, with its `^` where it has one
+-- a bracket expression after its `[`, with its `^` where it has one
 abbrev pub bracket_text : List ℕ → List ℕ
 bracket_text [] = []
 bracket_text (b ∷ u) = if b == CARET then b ∷ members_text u else members_text (b ∷ u)
@@ -68,7 +68,7 @@ span_behind b (c ∷ u) =
     (if (b == CARET) && (c == CARET) then b ∷ c ∷ [] else
     b ∷ []))
 
--- the same of a whole text
+-- the first part of a text at which no macro is: its first byte, with what belongs to that; nothing of an empty text
 abbrev pub plain_span : List ℕ → List ℕ
 plain_span [] = []
 plain_span (b ∷ u) = span_behind b u

@@ -3,7 +3,7 @@ use Rattle.std.specs.Prelude.{ℕ, Bool, List, Option}
 use Rattle.pm_regex.specs.declared.op.Atom.{Atom}
 use Rattle.pm_regex.specs.declared.op.Times.{Times}
 
--- nothing, an atom, a bracket expression, two one behind the other, one of two, and a repeat
+-- nothing, an atom, a bracket expression, two one after the other, one of two, and a repeat
 pub data Re : Type 0 where
   nothing : Re
   one : Atom → Re

@@ -28,7 +28,7 @@ sign_of b =
     (if b == CARET then None else
     Some (One (Byte b))))))))))))
 
--- what a `\` and the byte behind it spell: the cut at `/`, the edges of words at `<` and `>`, and else that byte
+-- what a `\` and the byte after it spell: the cut at `/`, the edges of words at `<` and `>`, and else that byte
 abbrev pub escaped_sign : ℕ → Sign
 escaped_sign b =
     if b == SLASH then Cut else
@@ -58,7 +58,7 @@ pub data Members : List ℕ → List (ℕ × ℕ) → List ℕ → Type 0 where
   more : (t u rest : List ℕ) (a b : ℕ) (rs : List (ℕ × ℕ)) → begins_with CLOSING_BRACKET t ≡ false → Member t a b u → Members u rs rest →
       Members t ((a, b) ∷ rs) rest
 
--- the same, but what stands first is a member also where it is a `]`
+-- the members of a bracket expression: the first byte is a member even if it is a `]`
 pub data Body : List ℕ → List (ℕ × ℕ) → List ℕ → Type 0 where
   body : (t u rest : List ℕ) (a b : ℕ) (rs : List (ℕ × ℕ)) → Member t a b u → Members u rs rest → Body t ((a, b) ∷ rs) rest
 
@@ -71,7 +71,7 @@ pub data First : List ℕ → Token → List ℕ → Type 0 where
   members : (u rest : List ℕ) (rs : List (ℕ × ℕ)) → begins_with CARET u ≡ false → Body u rs rest → First (BRACKET ∷ u) (bracket false rs) rest
   others : (u rest : List ℕ) (rs : List (ℕ × ℕ)) → Body u rs rest → First (BRACKET ∷ CARET ∷ u) (bracket true rs) rest
 
--- the text is these tokens, one behind the other
+-- the text is these tokens, one after the other
 pub data IsTokens : List ℕ → List Token → Type 0 where
   none : IsTokens [] []
   next : (text rest : List ℕ) (t : Token) (ts : List Token) → First text t rest → IsTokens rest ts → IsTokens text (t ∷ ts)

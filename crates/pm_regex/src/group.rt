@@ -9,7 +9,7 @@ use crate::op::{Atom, Op, Times};
 use pm_bytes::Memory;
 
 /// What is open of a group: whether it has finished branches, whether this branch has a piece, and whether the group
-/// is directly behind the cut.
+/// is directly after the cut.
 #[derive(Clone, Copy, Drop)]
 pub struct Group {
     pub has_bars: bool,

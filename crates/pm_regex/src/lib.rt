@@ -4,6 +4,7 @@
 mod error;
 mod expr;
 mod group;
+mod laws;
 mod macros;
 mod op;
 mod reader;
@@ -13,5 +14,6 @@ mod sign;
 
 pub use error::ReadRefused;
 pub use expr::Expr;
+pub use laws::examples;
 pub use op::{Atom, Op, Times};
 pub use reading::{one_reading, read};

@@ -73,7 +73,7 @@ fn macro_at(text: &[u8]) -> Option<Macro>
     None
 }
 
-/// How many bytes a bracket expression has behind its `[` or `[^`.
+/// How many bytes a bracket expression has after its `[` or `[^`.
 fn members_length(text: &[u8]) -> usize
     ensures within { result ≤ length text.now }
     ensures text { take result text.now ≡ members_text text.now }
@@ -86,7 +86,7 @@ fn members_length(text: &[u8]) -> usize
     text.len()
 }
 
-/// How many bytes it has behind its `[`.
+/// How many bytes it has after its `[`.
 fn bracket_length(text: &[u8]) -> usize
     ensures within { result ≤ length text.now }
     ensures text { take result text.now ≡ bracket_text text.now }

@@ -32,7 +32,7 @@ pub enum Times {
     Maybe,
 }
 
-/// An operator of an expression in postfix order: each stands behind its operands.
+/// An operator of an expression in postfix order: each stands after its operands.
 #[derive(Clone, Copy, Drop)]
 pub enum Op {
     /// The expression of no bytes.
@@ -42,7 +42,7 @@ pub enum Op {
     Range(u8, u8),
     /// A bracket expression of the ranges before it; true where it begins with `^`.
     Set(bool),
-    /// Two expressions one behind the other.
+    /// Two expressions one after the other.
     Seq,
     /// One of two expressions.
     Either,

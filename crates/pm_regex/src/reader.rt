@@ -15,7 +15,7 @@ use std::mem;
 /// The greatest number of parentheses that are open at one place.
 const MAX_DEPTH: usize = 200;
 
-/// What was read so far: the operators left of the cut and those behind it, and the open groups.
+/// What was read so far: the operators left of the cut and those after it, and the open groups.
 #[derive(Drop)]
 pub struct Reader {
     left: Option<Vec<Op>>,

@@ -55,7 +55,7 @@ pub fn sign_of(byte: u8) -> Option<Sign>
     }
 }
 
-/// What a `\` and the byte behind it spell.
+/// What a `\` and the byte after it spell.
 pub fn escaped_sign(byte: u8) -> Sign
     ensures { result ≡ escaped_sign byte }
 {

@@ -1,4 +1,4 @@
--- The length of the words behind more bytes.
+-- The length of the words after more bytes.
 use Rattle.std.proofs.Common.{◌≡◌, ◌≤◌, ◌+◌, ℕ, Bool, true, false, not, ◌&&◌, ◌||◌, cond, nat_eq, List, [], ◌∷◌, ◌++◌, refl, ap, sym, ◌∙◌, subst, length, map, arith, append-nil, append_assoc, is_some, Option, Some, None, count_by, flat_map, sum_by}
 use Rattle.std.proofs.lemmas.Bool.{eqb-true, true≢false}
 use Rattle.std.proofs.lemmas.List.{length-append}
@@ -60,7 +60,7 @@ begun-split fields byte = at (is_space_byte byte)
     at true = refl
     at false = refl
 
--- bytes, one behind the other, are added at the word's end
+-- bytes, one after the other, are added at the word's end
 pub gathered-bytes : (splits : Bool) (fields : Fields) (byte : ℕ) (bytes : List ℕ)
     → gathered splits fields (map Byte (byte ∷ bytes))
     ≡ record { done = fields.done; current = Some (bytes_of fields.current ++ byte ∷ bytes) }

@@ -1,4 +1,4 @@
--- Plain texts, texts in single quotes, and blanks behind them.
+-- Plain texts, texts in single quotes, and blanks after them.
 use Rattle.std.proofs.Common.{◌≡◌, ◌+◌, ◌-◌, ℕ, suc, zero, Bool, true, false, not, ◌&&◌, ◌||◌, cond, nat_eq, List, [], ◌∷◌, ◌++◌, refl, ap, sym, ◌∙◌, length, take, drop, map, min, arith, append-nil, append_assoc, Some, None}
 use Rattle.std.specs.List.{list_all}
 use Rattle.std.proofs.lemmas.Bool.{cond-true, cond-false, or_parts, and_parts}
@@ -42,12 +42,12 @@ no-comment true true = refl
 no-comment true false = refl
 no-comment false fresh = refl
 
--- what the words become where this text is read behind fields
+-- what the words become where this text is read after fields
 abbrev with_text : Fields → List ℕ → Fields
 with_text fields [] = fields
 with_text fields (byte ∷ bytes) = with_text (with_byte fields byte) bytes
 
--- the rest of a text is gathered behind fields
+-- the rest of a text is gathered after fields
 abbrev behind : Mode → Table → List (List ℕ) → Fields → Bool → List ℕ → Fields
 behind mode table outputs fields fresh rest = gathered (is_many mode) fields (elements table outputs 0 (tokens mode 0 [] fresh rest))
 
@@ -92,7 +92,7 @@ many-front fresh byte rest h comment =
     ∙ cond-false (nat_eq byte DOUBLE_QUOTE) _ _ b.1 ∙ cond-false (nat_eq byte BACKQUOTE) _ _ c.1 ∙ cond-never (nat_eq byte CLOSE_BRACE) _ _
     ∙ cond-false (nat_eq byte SINGLE_QUOTE) _ _ a.1 ∙ cond-false (nat_eq byte HASH && (fresh && true)) _ _ comment
 
--- one byte is read: the fields behind it, and whether a word is fresh there
+-- one byte is read: the fields after it, and whether a word is fresh there
 abbrev Reads : Mode → Table → List (List ℕ) → Fields → Bool → ℕ → List ℕ → Type 0
 Reads mode table outputs fields fresh byte rest =
     (now : Bool) × (behind mode table outputs fields fresh (byte ∷ rest) ≡ behind mode table outputs (with_byte fields byte) now rest)
@@ -151,7 +151,7 @@ module _ (table : Table) (outputs : List (List ℕ)) where
       many-byte fields false byte (bytes ++ rest) (not-true (has_meaning Many byte) parts.0) (never (nat_eq byte HASH))
       ∙ many-text (with_byte fields byte) bytes rest parts.1
 
-  -- the first text of all, with the blank or the end behind it
+  -- the first text of all, with the blank or the end after it
   plain-first : (text rest : List ℕ) → is_plain Many text ≡ true
       → (fresh : Bool) × (behind Many table outputs (first_fields Many) true (text ++ rest) ≡ behind Many table outputs (with_text (first_fields Many) text) fresh rest)
   plain-first [] rest h = (true, refl)
@@ -219,7 +219,7 @@ module _ (table : Table) (outputs : List (List ℕ)) where
       ap (turned Many table outputs fields fresh SINGLE_QUOTE (text ++ SINGLE_QUOTE ∷ rest)) (front-single text rest h)
       ∙ single-turned Many fields fresh text rest
 
--- a word that has begun, with a text behind it
+-- a word that has begun, with a text after it
 with-text-some : (done : List (List ℕ)) (word text : List ℕ)
     → with_text (record { done = done; current = Some word }) text ≡ record { done = done; current = Some (word ++ text) }
 with-text-some done word [] = ap (λ w. record { done = done; current = Some w }) (sym (append-nil word))
@@ -266,7 +266,7 @@ words-prefixed words es =
     ∙ ap all_words (gathered-prefixed words (first_fields Many) es)
     ∙ append_assoc words end.done (words_of end.current)
 
--- fields behind a simple text, whatever follows it
+-- fields after a simple text, whatever follows it
 module _ (table : Table) (outputs : List (List ℕ)) (first : List ℕ) where
   abbrev Stops : Fields → Type 0
   Stops fields = (rest : List ℕ) → (fresh : Bool)

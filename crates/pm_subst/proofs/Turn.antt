@@ -18,7 +18,7 @@ drop-pred : (taken byte : ℕ) (bytes : List ℕ) → 0 < taken → drop (taken 
 drop-pred zero byte bytes h = absurd (omega arith)
 drop-pred (suc n) byte bytes h = let e : suc n - 1 ≡ n = omega arith in ap (λ k. drop k bytes) e
 
--- the first token, and the tokens behind it
+-- the first token, and the tokens after it
 pub tokens-turn : (mode : Mode) (frames : List Frame) (fresh : Bool) (text : List ℕ) (front : Front)
     → 0 < length text → front ≡ front_of (rule_of mode frames fresh) text → 0 < front.taken
     → tokens mode zero frames fresh text

@@ -20,7 +20,7 @@ abbrev pub quote_length : List ℕ → ℕ
 quote_length [] = 0
 quote_length (byte ∷ bytes) = if nat_eq byte SINGLE_QUOTE then 0 else quote_length bytes + 1
 
--- how many bytes stand before the closing backquote, with the first behind a backslash or not
+-- how many bytes stand before the closing backquote, with the first after a backslash or not
 abbrev pub command_length : Bool → List ℕ → ℕ
 command_length escaped [] = 0
 command_length true (byte ∷ bytes) = command_length false bytes + 1

@@ -6,7 +6,7 @@ use Rattle.pm_subst.specs.declared.kinds.Kind.{Kind}
 use Rattle.pm_subst.specs.declared.kinds.Kind.TheVariants.{Command}
 use Rattle.pm_subst.specs.Tokens.{Token, tokens}
 
--- a command's text, with the first byte behind a backslash or not: one before a backquote or a backslash is dropped
+-- a command's text, with the first byte after a backslash or not: one before a backquote or a backslash is dropped
 abbrev pub command_text : Bool → List ℕ → List ℕ
 command_text false [] = []
 command_text true [] = BACKSLASH ∷ []

@@ -23,7 +23,7 @@ itself = piece Text 0 1 1
 abbrev pub is_escaped_in_quotes : ℕ → Bool
 is_escaped_in_quotes byte = nat_eq byte DOLLAR || nat_eq byte BACKQUOTE || nat_eq byte DOUBLE_QUOTE || nat_eq byte BACKSLASH
 
--- behind a backslash; one before a brace that would end a quoted form stays, and the brace doesn't end it
+-- after a backslash; one before a brace that would end a quoted form stays, and the brace doesn't end it
 abbrev pub escaped : Rule → List ℕ → Front
 escaped rule [] = itself
 escaped rule (byte ∷ bytes) =
@@ -31,14 +31,14 @@ escaped rule (byte ∷ bytes) =
     if not rule.quoted || is_escaped_in_quotes byte then piece Text 1 2 2 else
     if nat_eq byte CLOSE_BRACE && rule.ends_form then piece Text 0 2 2 else itself
 
--- behind the name and the colon of a form in braces
+-- after the name and the colon of a form in braces
 abbrev pub colon_tail_of : ℕ → List ℕ → Front
 colon_tail_of before [] = itself
 colon_tail_of before (byte ∷ bytes) =
     if nat_eq byte MINUS then piece (FormOpen UnsetOrEmpty) 2 before (before + 2) else
     if nat_eq byte PLUS then piece (FormOpen SetNotEmpty) 2 before (before + 2) else itself
 
--- behind the name of a form in braces, with the length of all before it
+-- after the name of a form in braces, with the length of all before it
 abbrev pub tail_of : ℕ → List ℕ → Front
 tail_of before [] = piece Value 2 before before
 tail_of before (byte ∷ bytes) =
@@ -47,13 +47,13 @@ tail_of before (byte ∷ bytes) =
     if nat_eq byte PLUS then piece (FormOpen Set) 2 before (before + 1) else
     if nat_eq byte COLON then colon_tail_of before bytes else itself
 
--- behind the opening brace
+-- after the opening brace
 abbrev pub braced : List ℕ → Front
 braced [] = itself
 braced (byte ∷ bytes) =
     if is_name_start byte then tail_of (name_length bytes + 3) (drop (name_length bytes) bytes) else itself
 
--- behind a dollar and a backslash
+-- after a dollar and a backslash
 abbrev pub literal_of : List ℕ → Front
 literal_of [] = itself
 literal_of (byte ∷ bytes) =
@@ -79,12 +79,12 @@ abbrev pub parameter_or_itself : Option Parameter → Front
 parameter_or_itself None = itself
 parameter_or_itself (Some parameter) = parameter_front parameter
 
--- a name behind a dollar; an underscore alone is the rcfile's name
+-- a name after a dollar; an underscore alone is the rcfile's name
 abbrev pub name_front : ℕ → ℕ → Front
 name_front byte length =
     if nat_eq byte UNDERSCORE && nat_eq length 0 then parameter_front Rcfile else piece Value 1 (length + 2) (length + 2)
 
--- behind a dollar
+-- after a dollar
 abbrev pub form_of : Rule → List ℕ → Front
 form_of rule [] = itself
 form_of rule (byte ∷ bytes) =

@@ -8,3 +8,4 @@ pub mod Values
 pub mod Words
 pub mod Refusals
 pub mod Laws
+pub mod Examples

@@ -1,4 +1,4 @@
--- A text as tokens: what stands at the front, and then the tokens behind it.
+-- A text as tokens: what stands at the front, and then the tokens after it.
 use Rattle.std.specs.Prelude.{ℕ, zero, suc, ◌-◌, List, [], ◌∷◌, if◌then◌else◌, nat_lt, Bool, false, true, not, ◌&&◌, count_by, slice_range}
 use Rattle.pm_subst.specs.declared.kinds.Rule.{Rule}
 use Rattle.pm_subst.specs.declared.kinds.Frame.{Frame}
@@ -15,7 +15,7 @@ abbrev pub is_many : Mode → Bool
 is_many Many = true
 is_many _ = false
 
--- whether a place behind these open quotes and forms, the innermost first, is inside double quotes
+-- whether a place after these open quotes and forms, the innermost first, is inside double quotes
 abbrev pub is_quoted : Mode → List Frame → Bool
 is_quoted Quoted [] = true
 is_quoted mode [] = false
@@ -36,7 +36,7 @@ innermost test (frame ∷ frames) = test frame
 abbrev pub most_forms : ℕ
 most_forms = 32
 
--- The rules in force behind these open quotes and forms. A word is fresh before its first byte.
+-- The rules in force after these open quotes and forms. A word is fresh before its first byte.
 abbrev pub rule_of : Mode → List Frame → Bool → Rule
 rule_of mode frames fresh = record {
   quoted = is_quoted mode frames;
@@ -51,7 +51,7 @@ abbrev pub without_first : List Frame → List Frame
 without_first [] = []
 without_first (frame ∷ frames) = frames
 
--- what is open behind a front of this kind
+-- what is open after a front of this kind
 abbrev pub frames_after : Kind → Bool → List Frame → List Frame
 frames_after QuotesOpen quoted frames = Quotes ∷ frames
 frames_after (FormOpen test) quoted frames = (if quoted then QuotedForm else Form) ∷ frames
@@ -59,7 +59,7 @@ frames_after QuotesClose quoted frames = without_first frames
 frames_after FormClose quoted frames = without_first frames
 frames_after _ quoted frames = frames
 
--- whether a word is fresh behind it
+-- whether a word is fresh after it
 abbrev pub fresh_after : Kind → Bool → Bool
 fresh_after Space fresh = true
 fresh_after Join fresh = fresh
@@ -79,7 +79,7 @@ token kind quoted text = record { kind = kind; quoted = quoted; text = text }
 abbrev pub token_of : Front → Bool → List ℕ → Token
 token_of front quoted text = token front.kind quoted (slice_range text front.from front.to)
 
--- the tokens of a text behind so many bytes that are passed over
+-- the tokens of a text after so many bytes that are passed over
 abbrev pub tokens : Mode → ℕ → List Frame → Bool → List ℕ → List Token
 tokens mode skip frames fresh [] = []
 tokens mode (suc skip) frames fresh (byte ∷ bytes) = tokens mode skip frames fresh bytes

@@ -15,17 +15,17 @@ abbrev pub first_output : List (List ℕ) → List ℕ
 first_output [] = []
 first_output (output ∷ outputs) = output
 
--- the outputs of the commands behind it
+-- the outputs of the commands after it
 abbrev pub other_outputs : List (List ℕ) → List (List ℕ)
 other_outputs [] = []
 other_outputs (output ∷ outputs) = outputs
 
--- the outputs that are left behind a token of this kind
+-- the outputs that are left after a token of this kind
 abbrev pub outputs_after : Kind → List (List ℕ) → List (List ℕ)
 outputs_after Command outputs = other_outputs outputs
 outputs_after _ outputs = outputs
 
--- how many forms are open behind a token, from the outermost whose text isn't used on
+-- how many forms are open after a token, from the outermost whose text isn't used on
 abbrev pub unused_after : Table → Token → Kind → ℕ → ℕ
 unused_after table token (FormOpen test) zero = if uses_text test (value_of token.text table.variables) then 0 else 1
 unused_after table token (FormOpen test) (suc unused) = suc (suc unused)

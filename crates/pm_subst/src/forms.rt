@@ -97,7 +97,7 @@ fn behind_brace(text: &[u8]) -> Front
     }
 }
 
-// Behind the name of a form in braces, with the length of all before it.
+// After the name of a form in braces, with the length of all before it.
 fn behind_name(before: usize, text: &[u8]) -> Front
     requires some { 3 ≤ before }
     requires room { before < 2 ^ 63 + 3 }

@@ -92,7 +92,7 @@ impl Frames {
     }
 }
 
-/// Whether a word is fresh behind a front of this kind.
+/// Whether a word is fresh after a front of this kind.
 pub fn fresh_behind(kind: Kind, fresh: bool) -> bool
     ensures { result ≡ fresh_after kind fresh }
 {

@@ -49,9 +49,9 @@ pub enum Kind {
     Space,
     QuotesOpen,
     QuotesClose,
-    /// a line that goes on behind a backslash
+    /// a line that goes on after a backslash
     Join,
-    /// the rest of the text, behind a `#`
+    /// the rest of the text, after a `#`
     Comment,
     /// a variable's name, as in `$name` and `${name}`
     Value,
@@ -60,7 +60,7 @@ pub enum Kind {
     Parameter(Parameter),
     /// a command in backquotes
     Command,
-    /// a variable's name and a test, behind which the text of a form begins
+    /// a variable's name and a test, after which the text of a form begins
     FormOpen(Test),
     FormClose,
 }

@@ -1,6 +1,12 @@
 //! Laws of texts, each as the contract of a call that does nothing.
+ghost use Rattle.pm_subst.specs.Examples.{Examples};
 ghost use Rattle.pm_subst.specs.Laws.{PlainStands, SingleStands, SinglesStay, BlanksPart, OneWord, NoCommand};
 ghost use Rattle.pm_subst.specs.declared.kinds.Mode.TheVariants as mode;
+
+/// Each definition of texts says of some short ones what the manual does.
+pub fn examples()
+    ensures { Examples }
+{}
 
 /// A text in which no byte has a meaning is its own one word in every mode.
 pub fn plain_stands()

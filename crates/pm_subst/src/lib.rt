@@ -1,5 +1,5 @@
-//! Substitution in texts: variables, parameters, the outputs of commands, quotes, and the splitting into words.
-//! A text is read into tokens by what stands at its front. Each token gives bytes, and the bytes make words.
+//! Substitution in texts: variables, parameters, the outputs of commands, quotes, and the splitting into words. A text
+//! is read token by token from its start. Each token gives bytes, and the bytes make words.
 #![tactic(auto)]
 
 mod backquotes;
@@ -16,5 +16,5 @@ mod values;
 pub use backquotes::commands;
 pub use expansion::{ExpandRefused, expand};
 pub use kinds::Mode;
-pub use laws::{blanks_part, no_command, plain_stands, single_stands};
+pub use laws::{blanks_part, examples, no_command, plain_stands, single_stands};
 pub use values::without_newlines;

@@ -1,10 +1,12 @@
-//! The variables of a process: names and values in the order in which the names came, the arguments, and what the
-//! forms `$$`, `$?`, `$=` and `$_` give.
+//! The variables of a process: names and values in the order of the first assignments, the arguments, and the values of
+//! `$$`, `$?`, `$=` and `$_`.
 #![tactic(auto)]
 
 mod held;
+mod laws;
 mod marks;
 mod vars;
 
+pub use laws::examples;
 pub use marks::Marks;
 pub use vars::Vars;
