@@ -39,7 +39,7 @@ plain_body body other none prefix =
     let same : body ≡ escaped body = escaped_end (escaped body) [] body (escaped_begun_plain [] body other) none in
     none_begins prefix (lines body) (ap length (sym same ∙ sym (concat-lines body))) ∙ concat-lines body
 
--- a text ends as the one behind it does
+-- a text ends as the one after it does
 pub ends_behind : (front text tail : List ℕ) → ends_with nat_eq text tail ≡ true → (whole : List ℕ) → whole ≡ front ++ text → ends_with nat_eq whole tail ≡ true
 ends_behind front text tail ends whole is =
     let cut = (ends_is Decides-eqb text tail (ends_with nat_eq text tail) refl).0 ends in

@@ -50,7 +50,7 @@ lined (b ∷ bs) = ⊎_elim
     (λ ne. subst Lined (sym (lines-on b bs ne)) (lined-onto b (lines bs) (lined bs)))
     (cases_eq b 10)
 
--- no line is empty, or the first empty one ends the head behind the fields' lines, all of which end
+-- no line is empty, or the first empty one ends the head after the fields' lines, all of which end
 abbrev IsCut : List (List ℕ) → Type 0
 IsCut ls =
     (body_lines ls ≡ []) ⊎ ((concat (head_lines ls) ≡ concat (field_lines ls) ++ codes "\n") × AllEnd (field_lines ls))

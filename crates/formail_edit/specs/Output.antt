@@ -19,7 +19,7 @@ prefixed_line prefix line = if starts_with nat_eq line (codes "From ") then pref
 abbrev pub body_for : Edits → List ℕ → List ℕ
 body_for edits body = if edits.keep_body then body else flat_map (prefixed_line edits.prefix) (lines body)
 
--- the body comes as it is, and ends what it stands behind as in a mailbox, unless `-f` stands
+-- the body comes as it is, and ends what it stands after as in a mailbox, unless `-f` stands
 pub record Stays (edits : Edits) (body : List ℕ) : Type 0 where
   pub plain : body_for edits body ≡ body
   pub closed : (edits.keep_from ≡ true) ⊎ (ends_with nat_eq body (codes "\n\n") ≡ true)
@@ -40,7 +40,7 @@ content_for zap content = if zap then trimmed content ++ codes "\n" else content
 abbrev pub extracted : Bool → Keyed → Take → List ℕ
 extracted zap field wanted = if wanted.whole then field.text else content_for zap (content_in field)
 
--- what one of them gives of a field: nothing where it doesn't mean it
+-- what one `-x` or `-X` gives of a field: nothing if it doesn't mean the field
 abbrev pub extraction : Bool → Keyed → Take → List ℕ
 extraction zap field wanted = if means wanted.name field then extracted zap field wanted else []
 

@@ -32,7 +32,7 @@ abbrev pub renamed_field : Rename → Keyed → List (List ℕ)
 renamed_field rename field =
     (if means rename.old field then name_for rename ++ drop (length rename.old) field.text else field.text) ∷ []
 
--- the fields behind all renamings, in their order
+-- the fields after all renamings, in their order
 abbrev pub renamed : List Rename → List (List ℕ) → List (List ℕ)
 renamed [] texts = texts
 renamed (rename ∷ renames) texts = renamed renames (each (renamed_field rename) texts)
@@ -63,7 +63,7 @@ put_one put texts =
     each (put_aside put.kind (put_name put.text)) texts
     ++ (if is_added put.kind put.text texts then (put.text ++ codes "\n") ∷ [] else [])
 
--- the fields behind all new ones, in their order
+-- the fields after all new ones, in their order
 abbrev pub with_puts : List Put → List (List ℕ) → List (List ℕ)
 with_puts [] texts = texts
 with_puts (put ∷ puts) texts = with_puts puts (put_one put texts)
@@ -75,7 +75,7 @@ first_only name came (field ∷ fields) =
     if means name field && came then first_only name came fields
     else field ∷ first_only name (means name field || came) fields
 
--- `-U`: a field that the name means goes where one comes behind it
+-- `-U`: a field that the name means goes where one comes after it
 abbrev pub last_only : List ℕ → List Keyed → List Keyed
 last_only name [] = []
 last_only name (field ∷ fields) =
@@ -90,7 +90,7 @@ unique_of unique fields = if unique.last then last_only unique.name fields else 
 abbrev pub texts_in : List Keyed → List (List ℕ)
 texts_in fields = map (λ field. field.text) fields
 
--- the same for each name, in their order
+-- the fields that are left after `-u` and `-U` of each name, in their order
 abbrev pub with_uniques : List Unique → List (List ℕ) → List (List ℕ)
 with_uniques [] texts = texts
 with_uniques (unique ∷ uniques) texts = with_uniques uniques (texts_in (unique_of unique (keyed true texts)))
@@ -99,23 +99,23 @@ with_uniques (unique ∷ uniques) texts = with_uniques uniques (texts_in (unique
 abbrev pub spaced : List ℕ → List ℕ
 spaced content = if begins_with_blank content then content else codes " " ++ content
 
--- `-z`: a field with nothing but blanks and newlines behind its name goes, and any other has a blank there
+-- `-z`: a field with nothing but blanks and newlines after its name goes, and any other has a blank there
 abbrev pub zapped_as : FieldKind → Keyed → List (List ℕ)
 zapped_as Named field =
     if list_all is_space_byte (content_in field) then [] else (name_in field ++ spaced (content_in field)) ∷ []
 zapped_as kind field = field.text ∷ []
 
--- the same for a field of any kind
+-- what `-z` makes of a field of any kind
 abbrev pub zapped_field : Keyed → List (List ℕ)
 zapped_field field = zapped_as field.key.kind field
 
--- `-c`: each newline with the blank behind it becomes one blank
+-- `-c`: each newline with the blank after it becomes one blank
 abbrev pub joined : List ℕ → List ℕ
 joined [] = []
 joined (a ∷ []) = a ∷ []
 joined (a ∷ b ∷ rest) = if a == 10 && is_blank_byte b then 32 ∷ joined rest else a ∷ joined (b ∷ rest)
 
--- the edits that come behind those of new fields
+-- the edits that come after those of new fields
 abbrev pub finished : Edits → List (List ℕ) → List (List ℕ)
 finished edits texts =
     let unique = with_uniques edits.uniques texts in

@@ -100,7 +100,7 @@ pub struct Edits {
     pub keep_from: bool,
     /// `-b`: lines `From ` of the body stay as they are.
     pub keep_body: bool,
-    /// `-z`: empty fields go, and the others have a blank behind their names.
+    /// `-z`: empty fields go, and the others have a blank after their names.
     pub zap: bool,
     /// `-c`: folded lines are joined.
     pub join: bool,

@@ -5,7 +5,7 @@ use pm_bytes::{Blob, Memory};
 use std::alloc::Global;
 use std::marker::Model;
 
-/// What is written of a mail: the front, and what stands behind it.
+/// What is written of a mail: the front, and what stands after it.
 #[derive(Drop)]
 pub struct Edited {
     front: Blob,
@@ -35,7 +35,7 @@ impl Edited {
         Edited::new(text, Blob::empty(alloc))
     }
 
-    /// The two parts, one to be put behind the other. It takes no memory.
+    /// The two parts, one to be put after the other. It takes no memory.
     pub fn into_parts(self) -> (Blob, Blob)
         ensures { result.0 ++ result.1 ≡ self }
     {

@@ -1,13 +1,15 @@
 //! What formail writes of one mail.
-ghost use Rattle.std.specs.Prelude.{◌≡◌, ◌≤◌, ◌+◌, ◌++◌, ℕ, List, true, false, codes, length, IfOk};
+ghost use Rattle.std.specs.Prelude.{◌≡◌, ◌≤◌, ◌+◌, ◌++◌, ℕ, List, true, false, codes, length, option_copied, IfOk};
 ghost use Rattle.std.specs.List.{flat_map, concat, prefix_len, suffix_len};
 ghost use Rattle.bstr.specs.Text.{lines_of};
 ghost use Rattle.pm_bytes.specs.Letter.{is_space_byte};
 ghost use Rattle.pm_message.specs.Lines.{lines};
 ghost use Rattle.pm_message.specs.Piece.{ended};
+ghost use Rattle.pm_message.specs.Field.{texts_of};
 ghost use Rattle.pm_message.specs.Split.{split_of};
 ghost use Rattle.formail_edit.specs.Keyed.{keyed, keyed_as};
 ghost use Rattle.formail_edit.specs.Sender.{line_at};
+ghost use Rattle.formail_edit.specs.Step.{edited_fields};
 ghost use Rattle.formail_edit.specs.Output.{prefixed_line, body_for, Stays, trimmed, content_for, extraction, taken_from, taken, front_of, mail_of, edited};
 
 use crate::application::edit_fields;
@@ -21,7 +23,7 @@ use pm_bytes::{Blob, Memory, is_space};
 use pm_message::{Message, divide, field_texts, read_key};
 use std::alloc::Global;
 
-// The text with the lines behind it, each that would begin a mail in a mailbox with the prefix.
+// The text with the lines after it, each that would begin a mail in a mailbox with the prefix.
 fn with_prefixed(mut text: Blob, prefix: &[u8], body: &[u8]) -> Result<Blob, Memory>
     ensures { IfOk result (λ whole. whole ≡ text ++ flat_map (prefixed_line prefix.now) (lines_of body.now)) }
 {
@@ -34,7 +36,7 @@ fn with_prefixed(mut text: Blob, prefix: &[u8], body: &[u8]) -> Result<Blob, Mem
     Ok(text)
 }
 
-/// The text with the body behind it, its lines `From ` as the edits ask.
+/// The text with the body after it, its lines `From ` as the edits ask.
 pub fn with_body(mut text: Blob, body: &[u8], edits: &Edits) -> Result<Blob, Memory>
     ensures { IfOk result (λ whole. whole ≡ text ++ body_for edits.now body.now) }
 {
@@ -45,7 +47,7 @@ pub fn with_body(mut text: Blob, body: &[u8], edits: &Edits) -> Result<Blob, Mem
     with_prefixed(text, edits.prefix.as_slice(), body)
 }
 
-// Ends the last line, and puts an empty line behind it.
+// Ends the last line, and puts an empty line after it.
 fn end(mut text: Blob) -> Result<Blob, Memory>
     ensures { IfOk result (λ whole. whole ≡ ended text) }
 {
@@ -100,7 +102,7 @@ fn has_from_line(text: &[u8]) -> bool
     }
 }
 
-/// Whether the body can stay as it is, behind any head.
+/// Whether the body can stay as it is, after any head.
 pub fn stays(body: &[u8], edits: &Edits) -> bool
     ensures { result ≡ true → Stays edits.now body.now }
 {
@@ -158,7 +160,7 @@ fn trim(text: &[u8]) -> &[u8]
     inner
 }
 
-// The text with a field's content behind it.
+// The text with a field's content after it.
 fn with_content(mut text: Blob, content: &[u8], zap: bool) -> Result<Blob, Memory>
     ensures { IfOk result (λ whole. whole ≡ text ++ content_for zap content.now) }
 {
@@ -171,7 +173,7 @@ fn with_content(mut text: Blob, content: &[u8], zap: bool) -> Result<Blob, Memor
     Ok(text)
 }
 
-// The text with what one `-x` or `-X` gives of the field behind it.
+// The text with what one `-x` or `-X` gives of the field after it.
 fn with_one(
     mut text: Blob,
     field: &[u8],
@@ -192,7 +194,7 @@ fn with_one(
     with_content(text, content, zap)
 }
 
-// The text with what the field gives behind it.
+// The text with what the field gives after it.
 fn with_taken(text: Blob, field: &[u8], first: bool, edits: &Edits) -> Result<Blob, Memory>
     ensures { IfOk result (λ whole. whole ≡ text ++ taken_from edits.now (keyed_as first field.now)) }
 {
@@ -218,7 +220,51 @@ fn take_all(alloc: Global, fields: &[Blob], body: &[u8], edits: &Edits) -> Resul
     Ok(text)
 }
 
-// What formail writes of a mail in two parts.
+// What formail writes of a mail that has these fields after the edits, in two parts.
+fn write(
+    alloc: Global,
+    message: &Message,
+    fields: &[Blob],
+    edits: &Edits,
+    line: &Option<Blob>,
+) -> Result<Edited, Memory>
+    requires { fields.now ≡ edited_fields edits.now (texts_of message.now.head) }
+    ensures { IfOk result (λ text. text ≡ edited message.now edits.now line.now) }
+{
+    if !edits.takes.as_slice().is_empty() {
+        let text = take_all(alloc, fields, message.body.as_slice(), edits)?;
+        return Ok(Edited::whole(alloc, text));
+    }
+    mail(alloc, fields, &message.body, edits, line)
+}
+
+// The line as a text of its own.
+fn owned(alloc: Global, line: Option<&[u8]>) -> Result<Option<Blob>, Memory>
+    ensures { IfOk result (λ owned. owned ≡ option_copied line.entry) }
+{
+    match line {
+        None => Ok(None),
+        Some(line) => Ok(Some(Blob::from_slice(alloc, line)?)),
+    }
+}
+
+/// What formail writes of a mail (formail(1)). `from` is the line `From ` to put in front, with its newline, for the
+/// sender that [`from_sender`](crate::from_sender) names; with `-x` and `-X` it is left out. `Memory` is the only error.
+pub fn edit(
+    alloc: Global,
+    message: &Message,
+    edits: &Edits,
+    from: Option<&[u8]>,
+) -> Result<Blob, Memory>
+    ensures { IfOk result (λ text. text ≡ edited message.now edits.now (option_copied from.entry)) }
+{
+    let fields = edit_fields(alloc, field_texts(alloc, message)?, edits)?;
+    let line = owned(alloc, from)?;
+    let text = write(alloc, message, fields.as_slice(), edits, &line)?;
+    text.join()
+}
+
+// What formail writes of a mail at a moment, in two parts.
 fn edit_message(
     alloc: Global,
     message: &Message,
@@ -227,19 +273,14 @@ fn edit_message(
 ) -> Result<Edited, Memory>
     ensures { IfOk result (λ text. text ≡ edited message.now edits.now (line_at moment message.now edits.now)) }
 {
-    let texts = field_texts(alloc, message)?;
-    let fields = edit_fields(alloc, texts, edits)?;
-    let fields = fields.as_slice();
-    if !edits.takes.as_slice().is_empty() {
-        let text = take_all(alloc, fields, message.body.as_slice(), edits)?;
-        return Ok(Edited::whole(alloc, text));
-    }
-    let line = line_before(alloc, message, fields, edits, moment)?;
-    mail(alloc, fields, &message.body, edits, &line)
+    let fields = edit_fields(alloc, field_texts(alloc, message)?, edits)?;
+    let line = line_before(alloc, message, fields.as_slice(), edits, moment)?;
+    write(alloc, message, fields.as_slice(), edits, &line)
 }
 
-/// What formail writes of a mail at a moment, in seconds since 1970, in UTC. `Memory` is the only error.
-pub fn edit(alloc: Global, mail: &Blob, edits: &Edits, moment: i64) -> Result<Edited, Memory>
+/// What formail writes of a mail at a moment, in seconds since 1970, in UTC: in two parts, so that the body is shared
+/// with the mail if it stays as it is. `Memory` is the only error.
+pub fn edit_mail(alloc: Global, mail: &Blob, edits: &Edits, moment: i64) -> Result<Edited, Memory>
     ensures { IfOk result (λ text. text ≡ edited (split_of mail.now) edits.now (line_at moment (split_of mail.now) edits.now)) }
 {
     if is_unchanged(alloc, mail, edits)? {

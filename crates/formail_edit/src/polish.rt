@@ -45,7 +45,7 @@ fn zap_field(alloc: Global, field: Blob, first: bool) -> Result<Option<Blob>, Me
     }
 }
 
-/// The fields without the empty ones, each other with a blank behind its name.
+/// The fields without the empty ones, each other with a blank after its name.
 pub fn zap_all(alloc: Global, fields: Vec<Blob>) -> Result<Vec<Blob>, Memory>
     ensures { IfOk result (λ done. done.items ≡ each zapped_field fields.items) }
 {
@@ -60,7 +60,7 @@ pub fn zap_all(alloc: Global, fields: Vec<Blob>) -> Result<Vec<Blob>, Memory>
     Ok(done)
 }
 
-/// The text with each newline and the blank behind it as one blank.
+/// The text with each newline and the blank after it as one blank.
 pub fn join(alloc: Global, text: &[u8]) -> Result<Blob, Memory>
     ensures { IfOk result (λ line. line ≡ joined text.now) }
 {

@@ -1,13 +1,16 @@
 -- One child more.
-use Rattle.std.proofs.Common.{◌≡◌, ◌<◌, ◌+◌, ℕ, false, List, [], ◌∷◌, ◌++◌, length, take, get_or, Some, refl, sym, ap, ◌∙◌, subst, append_assoc, append-nil, add-one}
+use Rattle.std.proofs.Common.{◌≡◌, ◌<◌, ◌+◌, ℕ, false, List, [], ◌∷◌, ◌++◌, length, take, map, get_or, Some, refl, sym, ap, ◌∙◌, subst, append_assoc, append-nil, add-one}
 use Rattle.std.proofs.Math.Seq.{take-suc}
+use Rattle.std.proofs.lemmas.List.{map-append}
 use Rattle.pm_host.specs.Told.{HostView}
 use Rattle.pm_host.specs.Runs.{Ran}
 use Rattle.pm_host.proofs.RunsJoin.{ran_none, ran_join}
 use Rattle.pm_host.specs.declared.command.Command.{Command}
 use Rattle.pm_journal.specs.Children.{RunGroup}
 use Rattle.pm_journal.specs.declared.acts.Reply.{Reply}
-use Rattle.pm_pipe.specs.Runs.{RunsTo}
+use Rattle.pm_pipe.specs.Runs.{RunsTo, fed_reply}
+use Rattle.pm_pipe.specs.declared.child.Fate.{Fate}
+use Rattle.formail_split.specs.Children.{EachRan, replies_of}
 use Rattle.formail_split.specs.Feeding.{ChildRun, EachFed, calls_of, came_to, worse, worst_of, FeedsEach}
 use Rattle.formail_split.specs.declared.feeding.Outcome.{Outcome}
 use Rattle.formail_split.specs.declared.feeding.Outcome.TheVariants.{Fine, Amiss, Failed}
@@ -69,3 +72,34 @@ feeds_more command texts place text other outcome one reply a b c lt is h r e =
     ap (λ n. take n texts) (add-one place) ∙ take-suc texts place other lt ∙ ap (λ t. take place texts ++ t ∷ []) (sym is) in
     subst (λ ts. FeedsEach command ts (worse outcome one) a c) (sym front)
     (one_more command (take place texts) text outcome one reply a b c h r e)
+
+replies_more : (runs : List ChildRun) (rans : List Fate) (run : ChildRun) (ran : Fate) → replies_of runs ≡ map fed_reply rans
+    → run.reply ≡ fed_reply ran → replies_of (runs ++ run ∷ []) ≡ map fed_reply (rans ++ ran ∷ [])
+replies_more runs rans run ran before one =
+    map-append (λ r. r.reply) runs (run ∷ []) ∙ ap (λ rs. rs ++ run.reply ∷ []) before
+    ∙ ap (λ r. map fed_reply rans ++ r ∷ []) one ∙ sym (map-append fed_reply rans (ran ∷ []))
+
+pub ran_none_yet : (command : Command) (rans : List Fate) (s : HostView) → rans ≡ [] → EachRan command [] rans s s
+ran_none_yet command rans s none = record { runs = []; each = tt; ran = ran_none s; ends = sym (ap (map fed_reply) none) }
+
+ran_one_more : (command : Command) (texts : List (List ℕ)) (text : List ℕ) (rans : List Fate) (fate : Fate) (a b c : HostView)
+    → EachRan command texts rans a b → RunsTo command text false (Some (fed_reply fate)) b c
+    → EachRan command (texts ++ text ∷ []) (rans ++ fate ∷ []) a c
+ran_one_more command texts text rans fate a b c h r =
+    let run : ChildRun = record { reply = fed_reply fate; calls = r.calls } in
+    record {
+      runs = h.runs ++ run ∷ [];
+      each = each_more command texts h.runs text run h.each r.group;
+      ran = subst (λ l. Ran l a c) (sym (calls_more h.runs run)) (ran_join (calls_of h.runs) r.calls a b c h.ran r.ran);
+      ends = replies_more h.runs rans run fate h.ends refl;
+    }
+
+-- the first texts were given to children, whose ends are told, and now one more
+pub ran_more : (command : Command) (texts : List (List ℕ)) (place : ℕ) (text other : List ℕ) (rans : List Fate) (fate : Fate) (a b c : HostView) → place < length texts
+    → text ≡ get_or texts place other → EachRan command (take place texts) rans a b → RunsTo command text false (Some (fed_reply fate)) b c
+    → EachRan command (take (place + 1) texts) (rans ++ fate ∷ []) a c
+ran_more command texts place text other rans fate a b c lt is h r =
+    let front : take (place + 1) texts ≡ take place texts ++ text ∷ [] =
+    ap (λ n. take n texts) (add-one place) ∙ take-suc texts place other lt ∙ ap (λ t. take place texts ++ t ∷ []) (sym is) in
+    subst (λ ts. EachRan command ts (rans ++ fate ∷ []) a c) (sym front)
+    (ran_one_more command (take place texts) text rans fate a b c h r)

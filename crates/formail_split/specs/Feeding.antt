@@ -22,7 +22,7 @@ EachFed command (text ∷ texts) (run ∷ runs) = RunGroup command text false ru
 EachFed command [] (run ∷ runs) = ⊥
 EachFed command (text ∷ texts) [] = ⊥
 
--- the calls of these runs, one run behind the other
+-- the calls of these runs, one run after the other
 abbrev pub calls_of : List ChildRun → List Logged
 calls_of [] = []
 calls_of (run ∷ runs) = run.calls ++ calls_of runs

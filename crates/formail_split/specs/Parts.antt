@@ -32,7 +32,7 @@ parts_of bytes = parts_of_lines (lines bytes)
 abbrev pub first_of : ℕ → ℕ → ℕ
 first_of count skip = min skip count
 
--- the place behind the last one, where all others are wanted or at most so many
+-- the place after the last one, where all others are wanted or at most so many
 abbrev pub behind_last_of : ℕ → ℕ → Option ℕ → ℕ
 behind_last_of count skip None = count
 behind_last_of count skip (Some total) = min count (first_of count skip + total)

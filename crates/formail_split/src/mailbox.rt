@@ -1,4 +1,4 @@
-//! The mails of a mailbox: each begins with a line `From ` behind an empty line.
+//! The mails of a mailbox: each begins with a line `From ` after an empty line.
 ghost use Rattle.std.specs.Prelude.{◌≡◌, ◌≤◌, ◌<◌, ◌∷◌, ◌++◌, IfOk, length, take, drop};
 ghost use Rattle.std.specs.List.{concat};
 ghost use Rattle.formail_split.specs.Parts.{parts_of};
@@ -25,7 +25,7 @@ pub fn first_length(bytes: &[u8]) -> usize
 
 /// The mails of a mailbox in their order (formail(1), option -s), each in the memory of the mailbox where that has
 /// several owners. `Memory` is the only error.
-pub fn parts(alloc: Global, mailbox: &Blob) -> Result<Vec<Blob>, Memory>
+pub fn parts_of_blob(alloc: Global, mailbox: &Blob) -> Result<Vec<Blob>, Memory>
     ensures cut { IfOk result (λ parts. parts.items ≡ parts_of mailbox.now) }
     ensures whole { IfOk result (λ parts. concat parts.items ≡ mailbox.now) }
 {
@@ -38,4 +38,14 @@ pub fn parts(alloc: Global, mailbox: &Blob) -> Result<Vec<Blob>, Memory>
         start = end;
     }
     Ok(parts)
+}
+
+/// The mails of a mailbox in their order (formail(1), option -s). `Memory` is the only error.
+pub fn parts(alloc: Global, bytes: &[u8]) -> Result<Vec<Blob>, Memory>
+    ensures cut { IfOk result (λ parts. parts.items ≡ parts_of bytes.now) }
+    ensures whole { IfOk result (λ parts. concat parts.items ≡ bytes.now) }
+{
+    let mut mailbox = Blob::from_slice(alloc, bytes)?;
+    mailbox.share()?;
+    parts_of_blob(alloc, &mailbox)
 }

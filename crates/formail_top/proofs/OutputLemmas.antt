@@ -82,11 +82,11 @@ front_on request mailbox rest mail front n reply before rest_is less fits first 
           ∙ ap (λ r. wants_moment request (parts_of r)) behind;
     }
 
--- what is behind a place
+-- what is after a place
 pub slice_rest : (bytes : List ℕ) (start : ℕ) → take (length bytes - start) (drop start bytes) ≡ drop start bytes
 slice_rest bytes start = take_all (length bytes - start) (drop start bytes) (omega (arith, length-drop start bytes))
 
--- the output of a mailbox is its front, and the output of what is behind it
+-- the output of a mailbox is its front, and the output of what is after it
 pub front_output : (request : Request) (mailbox before rest text : List ℕ) (front : ℕ) (host host' : HostView)
     → ((bytes : List ℕ) → mails_of request bytes ≡ parts_of bytes) → IsFront request mailbox front
     → before ≡ take (front - 0) (drop 0 mailbox) → rest ≡ take (length mailbox - front) (drop front mailbox)

@@ -37,11 +37,11 @@ is_barred (TakeOf wanted) = true
 is_barred (RenameOf rename) = true
 is_barred setting = false
 
--- `+N` and `-N` stand at most once each
+-- `+N` and `-N` are given at most once each
 abbrev pub is_once : List Setting → Bool
 is_once settings = nat_le (count_by is_skip settings) 1 && nat_le (count_by is_total settings) 1
 
--- one of them stands
+-- `+N` or `-N` is given
 abbrev pub is_ranged : List Setting → Bool
 is_ranged settings = list_any is_skip settings || list_any is_total settings
 

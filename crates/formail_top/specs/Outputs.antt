@@ -32,7 +32,7 @@ abbrev pub id_of : Request → List ℕ → Option (List ℕ)
 id_of request mail =
     if request.reply then option_map (take 4_096) (envelope_of (split_of mail)) else identifier_of (split_of mail)
 
--- the same of some mails
+-- the identifiers of mails, in order
 abbrev pub ids_of : Request → List (List ℕ) → List (Option (List ℕ))
 ids_of request mails = map (id_of request) mails
 
@@ -49,7 +49,7 @@ output_of request moment mail =
     if request.reply then reply_of (split_of mail) request.trust request.edits
     else edited (split_of mail) request.edits (line_at moment (split_of mail) request.edits)
 
--- the outputs of some mails, one behind the other
+-- the outputs of some mails, one after the other
 abbrev pub outputs_of : Request → ℤ → List (List ℕ) → List ℕ
 outputs_of request moment mails = flat_map (output_of request moment) mails
 

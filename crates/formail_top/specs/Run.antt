@@ -73,7 +73,7 @@ pub record Writes (request : Request) (mails : List (List ℕ)) (status : ℕ) (
   pub output : IsOutput request mails text host host'
   pub written : WritesAll text status out out'
 
--- the program behind `-s` with its words, the environment of the run, and its folder
+-- the program after `-s` with its words, the environment of the run, and its folder
 abbrev pub command_for : List Pair → List ℕ → List (List ℕ) → Command
 command_for vars program arguments = record { program = program; args = arguments; env = vars; folder = codes "." }
 

@@ -41,7 +41,7 @@ abbrev pub take_for : Bool → List ℕ → Option Setting
 take_for whole name =
     if nat_lt 0 (length name) then Some (TakeOf (record { whole = whole; name = name })) else None
 
--- the same of `-u` and `-U`
+-- the setting of `-u` and `-U` with a name that isn't empty
 abbrev pub unique_for : Bool → List ℕ → Option Setting
 unique_for last name =
     if nat_lt 0 (length name) then Some (UniqueOf (record { last = last; name = name })) else None
@@ -70,11 +70,11 @@ rename_for old new =
 abbrev pub usable_name : List ℕ → Option (List ℕ)
 usable_name word = if is_usable word then Some word else None
 
--- after how many bytes a cache begins anew: 1 to 1,048,576, in at most 7 digits
+-- the number of bytes at which a cache is emptied: 1 to 1,048,576, in at most 7 digits
 abbrev pub bound_in : ℕ → Option ℕ
 bound_in most = if nat_le 1 most && nat_le most 1_048_576 then Some most else None
 
--- the same, as a text says it
+-- that number as a text of at most 7 bytes says it
 abbrev pub bound_for : List ℕ → Option ℕ
 bound_for text = if nat_le (length text) 7 then option_and_then bound_in (count_of text) else None
 
@@ -82,7 +82,7 @@ bound_for text = if nat_le (length text) 7 then option_and_then bound_in (count_
 abbrev pub cache_of : ℕ → List ℕ → List ℕ → Setting
 cache_of most name lock = CacheOf (record { most = most; name = name; lock = lock })
 
--- its lock file is the name with `.lock` behind it
+-- its lock file is the name with `.lock` after it
 abbrev pub cache_at : ℕ → List ℕ → Option Setting
 cache_at most name = option_map (cache_of most name) (usable_name (name ++ codes ".lock"))
 
@@ -94,7 +94,7 @@ cache_named most name = if nat_lt 0 (length name) then option_and_then (cache_at
 abbrev pub cache_for : List ℕ → List ℕ → Option Setting
 cache_for most name = option_and_then (λ bound. cache_named bound name) (bound_for most)
 
--- the same of a letter with two texts
+-- the setting of a letter that takes two texts
 abbrev pub setting_for_both : ℕ → List ℕ → List ℕ → Option Setting
 setting_for_both letter old new =
     if letter == 82 then rename_for old new
@@ -170,7 +170,7 @@ with_total text = with_setting (option_map Total (number_for text)) (waiting Rea
 abbrev pub with_skip : List ℕ → Words
 with_skip text = with_setting (option_map Skip (number_for text)) (waiting Ready)
 
--- what stands behind a `-`: `-N`, or letters
+-- what stands after a `-`: `-N`, or letters
 abbrev pub behind_minus : List ℕ → Words
 behind_minus [] = waiting Unread
 behind_minus (byte ∷ rest) = if is_digit_byte byte then with_total (byte ∷ rest) else letters (byte ∷ rest)
@@ -183,7 +183,7 @@ group (sign ∷ rest) =
     else if sign == 45 then behind_minus rest
     else waiting Unread
 
--- the program behind `-s`, whose name isn't empty
+-- the program after `-s`, whose name isn't empty
 abbrev pub program_for : List ℕ → Option Setting
 program_for word = if nat_lt 0 (length word) then option_map ProgramOf (usable_name word) else None
 

@@ -42,7 +42,7 @@ fn room_for(texts: &[Blob]) -> usize {
     room.min(65_536)
 }
 
-// Texts are written one behind the other, and the status says whether all of them were.
+// Texts are written one after the other, and the status says whether all of them were.
 fn write_all<O: Sink>(alloc: Global, texts: &[Blob], out: &mut O) -> Result<u8, Memory>
     ensures ok { IfOk result (λ status. WritesAll (concat texts.now) status (O.told out.old) (O.told out.new)) }
     ensures unwritten { OnErr result (O.told out.new ≡ O.told out.old) }

@@ -1,4 +1,4 @@
-//! The program formail: its words, what it reads, what it writes, and its status.
+//! The program formail: its arguments, what it reads, what it writes, and its exit status.
 #![tactic(auto)]
 
 mod feeding;

@@ -5,9 +5,9 @@ ghost use Rattle.formail_split.specs.Parts.{parts_of, selected};
 ghost use Rattle.formail_top.specs.Outputs.{mails_of, sender_of_output, wants_moment, output_of, outputs_of, each_output_of, id_of, ids_of, kept_of};
 
 use crate::Request;
-use formail_edit::{Edited, edit, from_sender};
+use formail_edit::{Edited, edit_mail, from_sender};
 use formail_extra::{envelope, identifier, reply};
-use formail_split::{parts, select};
+use formail_split::{parts_of_blob, select};
 use pm_bytes::{Blob, Memory};
 use pm_message::divide;
 use std::alloc::Global;
@@ -28,9 +28,9 @@ fn wanted(alloc: Global, bytes: &Blob, request: &Request) -> Result<Vec<Blob>, M
     ensures { IfOk result (λ mails. mails.items
         ≡ selected request.now.skip request.now.total (parts_of bytes.now)) }
 {
-    let parts = parts(alloc, bytes)?;
+    let parts = parts_of_blob(alloc, bytes)?;
     let all = parts.as_slice();
-    let (first, last) = select(all.len(), request.skip, request.total);
+    let (first, last) = select(all, request.skip, request.total);
     let wanted = copies(alloc, &all[first..last])?;
     Ok(wanted)
 }
@@ -75,14 +75,14 @@ fn output(alloc: Global, mail: &Blob, request: &Request, moment: i64) -> Result<
     ensures { IfOk result (λ text. text ≡ output_of request.now moment mail.now) }
 {
     if !request.reply {
-        return edit(alloc, mail, &request.edits, moment);
+        return edit_mail(alloc, mail, &request.edits, moment);
     }
     let message = divide(alloc, mail.copy(alloc)?)?;
     let text = reply(alloc, &message, request.trust, &request.edits)?;
     Ok(Edited::whole(alloc, text))
 }
 
-/// The outputs of some mails as texts that stand one behind the other. `moment` is in seconds since 1970, in UTC.
+/// The outputs of some mails as texts that stand one after the other. `moment` is in seconds since 1970, in UTC.
 pub fn outputs(
     alloc: Global,
     mails: &[Blob],

@@ -26,7 +26,7 @@ pub struct Request {
     pub skip: u64,
     /// `-N`: at most so many others are wanted.
     pub total: Option<u64>,
-    /// The program behind `-s`: each mail's output is the input of a child of its own.
+    /// The program after `-s`: each mail's output is the input of a child of its own.
     pub program: Option<Name>,
     /// Its words.
     pub arguments: Listed<Name>,

@@ -38,7 +38,7 @@ pub enum Setting {
     Total(u64),
     /// `-s`
     Split,
-    /// The program behind `-s`.
+    /// The program after `-s`.
     Program(Name),
     /// What is given to it as a word.
     Argument(Name),
@@ -51,9 +51,9 @@ pub enum Waits {
     Ready,
     /// What this letter takes.
     ForText(u8),
-    /// What this letter takes behind a first text.
+    /// What this letter takes after a first text.
     ForMore(u8, Blob),
-    /// A program: all words behind `-s` are its, or there is none.
+    /// A program: all words after `-s` are its, or there is none.
     Program,
     /// A word for that program.
     Argument,

@@ -360,7 +360,7 @@ fn take_total(settings: &mut Vec<Setting>, text: &[u8]) -> Result<Waits, Memory>
     add(settings, Some(Setting::Total(count)))
 }
 
-// What stands behind a `-`: a number, or letters.
+// What stands after a `-`: a number, or letters.
 fn take_behind_minus(
     alloc: Global,
     settings: &mut Vec<Setting>,
@@ -397,7 +397,7 @@ fn name(alloc: Global, word: &[u8]) -> Result<Option<Name>, Memory>
     }
 }
 
-// The program behind `-s`; an empty word names none.
+// The program after `-s`; an empty word names none.
 fn program(alloc: Global, word: &[u8]) -> Result<Option<Setting>, Memory>
     ensures { IfOk result (λ setting. setting ≡ program_for word.now) }
 {
@@ -420,7 +420,7 @@ fn argument(alloc: Global, word: &[u8]) -> Result<Option<Setting>, Memory>
     Ok(Some(Setting::Argument(name)))
 }
 
-// Adds the setting, if there is one, behind which words for a program stand.
+// Adds the setting, if there is one, after which words for a program stand.
 fn add_behind(settings: &mut Vec<Setting>, setting: Option<Setting>) -> Result<Waits, Memory>
     ensures { IfOk result
         (λ waits. Adds (with_setting setting (waiting Argument)) settings.old.items settings.new.items waits) }

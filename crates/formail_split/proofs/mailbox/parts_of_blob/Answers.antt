@@ -1,5 +1,5 @@
 use Rattle.formail_split.proofs.PartLemmas.{slice_rest, one_more_at}
-use Rattle.formail_split.proofs.mailbox.parts.Goals as goal
+use Rattle.formail_split.proofs.mailbox.parts_of_blob.Goals as goal
 
 pub loop-start-preserved : goal.loop-start-preserved
 loop-start-preserved c =

@@ -1,7 +1,7 @@
 use Rattle.std.proofs.Common.{◌≡◌, ◌≤◌, ◌-◌, ◌++◌, length, drop}
 use Rattle.std.specs.List.{concat}
 use Rattle.formail_split.specs.Parts.{parts_of}
-use Rattle.formail_split.proofs.mailbox.parts.Given as goal
+use Rattle.formail_split.proofs.mailbox.parts_of_blob.Given as goal
 
 abbrev pub invariant-loop-start : goal.invariant-loop-start
 invariant-loop-start l =
