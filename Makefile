@@ -1,9 +1,9 @@
 # Each target works on a fresh checkout with nothing built, says at once how long it may take, and keeps a log in bin/.
 
-.PHONY: build build-procmail build-lockfile build-formail build-cases install uninstall dist deb demo test cases try bench \
-	promise layers check bugs clean
+.PHONY: build build-procmail build-lockfile build-formail build-stat build-cases install uninstall dist deb demo test cases try bench \
+	plots promise layers check bugs clean
 
-build: build-procmail build-lockfile build-formail
+build: build-procmail build-lockfile build-formail build-stat
 
 # A program of bin/, built once its crates are proved, several at a time.
 build-procmail:
@@ -14,6 +14,9 @@ build-lockfile:
 
 build-formail:
 	@bash .ci/build formail
+
+build-stat:
+	@bash .ci/build procmail-stat
 
 # The programs that run the cases of tests/cases.
 build-cases:
@@ -44,10 +47,10 @@ dist:
 deb: dist
 	@bash .ci/deb
 
-# The example message goes where the example rcfile says, in a fresh folder.
+# The example message goes where the example rcfile says, in a fresh directory.
 demo:
 	@[ -x bin/procmail ] || $(MAKE) -s build-procmail
-	@echo "Delivering examples/message by examples/copies.rc into a fresh folder, which then has these files and this mail:"
+	@echo "Delivering examples/message by examples/copies.rc into a fresh directory, which then has these files and this mail:"
 	@folder=$$(mktemp -d) && cp examples/copies.rc $$folder/rc && cd $$folder && \
 	    $(CURDIR)/bin/procmail ./rc < $(CURDIR)/examples/message && ls && cat mbox && cmp mbox archive-mbox; \
 	    status=$$?; rm -rf $$folder; exit $$status
@@ -76,14 +79,19 @@ bench:
 	@bash bench/trial.sh
 	@bash bench/formail.sh
 
-# The definitions that the three promises rest on, as a reading list: docs/PROMISE_LIST.md. It wants python3, and no proof.
+# bench/plots/*.svg, drawn by gnuplot from the data beside them, which bench/measure.sh writes.
+plots:
+	@bash bench/plot.sh
+
+# The definitions that the three promises rest on, as a reading list: docs/PROMISE_LIST.md. It needs python3, and no proof.
 promise:
 	@python3 .ci/promise_list > docs/.PROMISE_LIST.md && mv docs/.PROMISE_LIST.md docs/PROMISE_LIST.md
 	@sed -n '/^| Promise/,/^$$/p' docs/PROMISE_LIST.md
 
-# The crates and what each is for: docs/LAYERS.md.
+# The crates and what each is for: docs/LAYERS.md, and docs/layers.svg, which needs python3.
 layers:
 	@bash .ci/layers > docs/.LAYERS.md && mv docs/.LAYERS.md docs/LAYERS.md
+	@python3 .ci/layers_picture > docs/.layers.svg && mv docs/.layers.svg docs/layers.svg
 
 # The merge gate.
 check:

@@ -1,0 +1,6 @@
+pub mod Days
+pub mod Folders
+pub mod LogLines
+pub mod Messages
+pub mod Tallies
+pub mod View
