@@ -1,6 +1,5 @@
-//! Files of cases: lines of words, with texts that stand below their line, and what words say.
-//! docs/CASES.md has the format. Each function is safe and total; what a file is read as is not stated, but
-//! tested by the files themselves.
+//! Files of cases: lines of words, with the texts below their line, and what the words mean. docs/CASES.md has the
+//! format. Each function is safe and total; what a file is read as is not stated, but tested by the files themselves.
 #![tactic(auto)]
 
 mod lines;

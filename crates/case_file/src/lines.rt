@@ -19,7 +19,7 @@ impl Line {
         }
     }
 
-    /// The words behind the first.
+    /// The words after the first.
     pub fn arguments(&self) -> &[Vec<u8>] {
         match self.words.split_first() {
             Some((_, rest)) => rest,
@@ -107,7 +107,7 @@ impl LineReader {
         Ok(())
     }
 
-    // Adds the words behind an arrow to the current line, and the arrow itself where the line has none yet.
+    // Adds the words after an arrow to the current line, and the arrow itself where the line has none yet.
     fn go_on(&mut self, line: &str) -> Result<(), Refused> {
         let words = read_words(self.alloc, line, &self.texts)?;
         let Some(current) = &mut self.current else {

@@ -14,7 +14,7 @@ pub enum Refused {
 }
 
 impl Refused {
-    /// The same, with the number of the line that isn't written as its kind asks.
+    /// The refusal with the number of the line that isn't written as its kind asks.
     pub fn at(self, line: u64) -> Refused {
         match self {
             Refused::Misread(why) => Refused::File { line, why },

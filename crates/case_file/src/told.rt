@@ -48,7 +48,7 @@ impl Told {
     }
 }
 
-/// The same words.
+/// A copy of the words.
 pub fn copy_of(alloc: Global, words: &[Vec<u8>]) -> Result<Words, Memory> {
     let mut copy = Vec::new(alloc);
     for word in words {

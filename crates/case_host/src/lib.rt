@@ -1,4 +1,4 @@
-//! The outside of a case: what a host in memory begins with, which of its calls fail, and what it has at the end.
+//! The host of a case: what a host in memory begins with, which of its calls fail, and what it has at the end.
 //! docs/CASES.md has the lines. Each function is safe and total; what a line says is not stated, but tested by the
 //! files of cases.
 #![tactic(auto)]

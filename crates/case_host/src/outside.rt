@@ -128,7 +128,7 @@ impl Outside {
         Ok(())
     }
 
-    // A program behind those that were given before.
+    // A program after those that were given before.
     fn add_program(&mut self, words: &[Vec<u8>]) -> Result<(), Refused> {
         let (code, output, closes_after) = match words {
             [code] => (code, Vec::new(self.alloc), None),

@@ -85,7 +85,7 @@ impl Case {
     }
 }
 
-// The words before the mark, and those behind it.
+// The words before the mark, and those after it.
 fn parts_at<'a>(words: &'a [Vec<u8>], mark: &[u8]) -> (&'a [Vec<u8>], &'a [Vec<u8>]) {
     let Some(at) = words.iter().position(|word| word.as_slice() == mark) else {
         return (words, &[]);

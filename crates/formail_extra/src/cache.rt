@@ -24,7 +24,7 @@ impl Model for Kept {
 }
 
 impl Kept {
-    /// The same truth values, from a `Vec`. It takes no memory.
+    /// The marks of a `Vec`. It allocates nothing.
     pub fn from_vec(items: Vec<bool>) -> Kept
         ensures { result ≡ items.items }
     {

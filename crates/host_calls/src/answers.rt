@@ -105,7 +105,7 @@ pub fn listed(alloc: Global, answer: Listed) -> Result<Words, Memory> {
     }
 }
 
-/// Whether the age in seconds is one of these.
+/// Whether the age in seconds is from `least` to `most`.
 pub fn aged(alloc: Global, answer: Aged, least: u64, most: u64) -> Result<Words, Memory> {
     match answer {
         Aged::Age(seconds) if least <= seconds && seconds <= most => one_word(alloc, "within"),

@@ -103,7 +103,7 @@ impl<'a> Session<'a> {
     }
 }
 
-// The words before the arrow, and those behind it.
+// The words before the arrow, and those after it.
 fn parts_at_arrow(words: &[Vec<u8>]) -> (&[Vec<u8>], &[Vec<u8>]) {
     let Some(at) = words
         .iter()

@@ -31,7 +31,7 @@ line_told p line text next x y a b t h =
 pub line_out : {R : Type 0} (p : Mind) (line text : List ℕ) (next : R) (x y : JournalState) (a b : View) → text ≡ line → OutOfMemory (log text p) x y a b → OutOfMemory (say_then p line next) x y a b
 line_out p line text next x y a b t h = out_front (log line p) (λ done. Ends next) x y a b (subst (λ l. OutOfMemory (log l p) x y a b) t h)
 
--- memory was wanting behind the text
+-- memory was wanting after the text
 pub line_then_out : {R : Type 0} (p : Mind) (line text : List ℕ) (next : R) (x y : JournalState) (a b : View) → text ≡ line → Executes (log text p) logged x y a b → OutOfMemory (say_then p line next) x y a b
 line_then_out p line text next x y a b t h =
     out_then (log line p) (λ done. Ends next) logged x y y a b b (subst (λ l. Executes (log l p) logged x y a b) t h) (out_anywhere (Ends next) y y b refl)

@@ -171,7 +171,7 @@ pub free_lock : (lock : Option (List ℕ)) (names held : List (List ℕ)) → is
 free_lock None names held e = tt
 free_lock (Some name) names held e = right_false _ (holds_name held name) e
 
--- the attempt was made, and what is told behind it comes
+-- the attempt was made, and what is told after it comes
 pub attempt_then : (flags : Flags) (lock : Option (List ℕ)) (text : List ℕ) (ds : List Destination) (p : Mind) (done : Attempted) (turn : Turn) (x y z : JournalState) (a b c : View) → Executes (attempt lock flags ds p) done x y a b
     → Executes (after_attempt flags text done) turn y z b c → Executes (file_and_say flags lock text ds p) turn x z a c
 attempt_then flags lock text ds p done turn x y z a b c h k = executes_then (attempt lock flags ds p) (after_attempt flags text) done turn x y z a b c h k
@@ -180,7 +180,7 @@ pub attempt_then_out : (flags : Flags) (lock : Option (List ℕ)) (text : List �
     → OutOfMemory (after_attempt flags text done) y z b c → OutOfMemory (file_and_say flags lock text ds p) x z a c
 attempt_then_out flags lock text ds p done x y z a b c h k = out_then (attempt lock flags ds p) (after_attempt flags text) done x y z a b c h k
 
--- what is told behind an attempt, and what comes then
+-- what is told after an attempt, and what comes then
 pub said_after : (flags : Flags) (text : List ℕ) (a : Attempt) (m q : Mind) (first lines : List (List ℕ)) (done : Bool) (turn : Turn) → lines ≡ first ++ copy_lines done flags q → first ≡ attempt_lines text a → done ≡ is_done a
     → q ≡ settled a m → attempt_turn flags a q ≡ turn → say_each q lines turn ≡ after_attempt flags text (attempted_of a m)
 said_after flags text a m q first lines done turn e g d is f =

@@ -119,7 +119,7 @@ first_of : (whole : Plan Filing) (flags : Flags) (items copies : List Copy) (cop
     → FirstOf whole flags copy copies p x y a b
 first_of whole flags items copies copy p x y a b h is = first_at whole flags items copies copy h.rest p x y a b h.leads h.copies_are is
 
--- what comes behind a destination
+-- what comes after a destination
 abbrev behind : Flags → List Destination → Filing → Plan Filing
 behind flags ds filing = if is_stored filing.filed then file_all flags ds filing.mind else Ends filing
 

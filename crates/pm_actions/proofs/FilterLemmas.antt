@@ -34,7 +34,7 @@ module _ (flags : Flags) (command : Command) (input : List ℕ) (p : Mind) (x y 
   pub capture_unrun : (name : List ℕ) → OutOfMemory (ask (Run command input true)) x y a b → OutOfMemory (capture flags name command input p) x y a b
   capture_unrun name h = out_front (ask (Run command input true)) (λ reply. Ends (captured flags name reply p)) x y a b h
 
-  -- the end, the output and the process behind a run are those of its reply
+  -- the end, the output and the process after a run are those of its reply
   pub record IsBehind (reply : Reply) (end : RunEnd) (came : Option (List ℕ)) (q : Mind) : Type 0 where
     pub end_is : end ≡ run_end reply
     pub output_is : came ≡ output_in reply

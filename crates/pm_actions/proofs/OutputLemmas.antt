@@ -28,7 +28,7 @@ use Rattle.pm_actions.specs.Outputs.{told}
 use Rattle.pm_actions.proofs.Choices.{line_told, line_out}
 use Rattle.pm_actions.proofs.DeliverLemmas.{if_yes, if_no}
 
--- what comes behind the commands of an action's lock file, and behind those of its text
+-- what comes after the commands of an action's lock file, and after those of its text
 abbrev pub behind_texts : Outputs → Outputs → Plan Ready
 behind_texts first second = Ends (record { lock_outputs = first.outputs; outputs = second.outputs; mind = second.mind })
 
@@ -61,14 +61,14 @@ module _ (whole : Plan Outputs) (texts : List (List ℕ)) (i : ℕ) (d text show
       let next : Output → Plan Outputs = λ one. outputs_behind (outputs ++ one.output ∷ []) (drop (i + 1) texts) one.mind in
       leads_to_want whole (and_then (output_of shown p) next) x y z a b c (first_of is x y a b h) (out_front (output_of shown p) next y z b c k)
 
--- memory was wanting behind the run of a command
+-- memory was wanting after the run of a command
 pub command_left : (whole : Plan Outputs) (texts : List (List ℕ)) (i : ℕ) (d text shown : List ℕ) (p : Mind) (outputs : List (List ℕ)) → IsNext whole texts i d text shown p outputs → (output : List ℕ) (q : Mind) (x y z : JournalState) (a b c : View)
     → LeadsTo whole (outputs_behind outputs (drop i texts) p) x y a b → Executes (output_of shown p) (output_with output q) y z b c → OutOfMemory whole x z a c
 command_left whole texts i d text shown p outputs is output q x y z a b c h k =
     let rest = outputs_behind (outputs ++ output ∷ []) (drop (i + 1) texts) q in
     leads_to_want whole rest x z z a c c (command_on whole texts i d text shown p outputs is output q x y z a b c h k) (out_anywhere rest z z c refl)
 
--- one command more was run, and its output stands behind the others
+-- one command more was run, and its output stands after the others
 pub command_pushed : (whole : Plan Outputs) (texts : List (List ℕ)) (i : ℕ) (d text shown : List ℕ) (p : Mind) (outputs : List (List ℕ)) → IsNext whole texts i d text shown p outputs → (output : List ℕ) (q : Mind) (pushed : List (List ℕ)) (x y z : JournalState) (a b c : View)
     → LeadsTo whole (outputs_behind outputs (drop i texts) p) x y a b → Executes (output_of shown p) (output_with output q) y z b c → pushed ≡ outputs ++ output ∷ []
     → LeadsTo whole (outputs_behind pushed (drop (i + 1) texts) q) x z a c
@@ -97,7 +97,7 @@ pub told_then : {R : Type 0} (fault : Option (List ℕ)) (p : Mind) (next : R) �
 told_then None p next = refl
 told_then (Some text) p next = log_then (log_file p) text next
 
--- what comes behind the run of a command
+-- what comes after the run of a command
 abbrev pub behind_run : List ℕ → Mind → Reply → Plan Output
 behind_run text p reply = tell_run (run_end reply) text (with_code reply p) (output_with (taken_output (output_in reply)) (with_code reply p))
 
@@ -143,7 +143,7 @@ commands_first text p e = if_no (needs_shell text p) (Ends (read_with (line_of_w
 pub nothing_told : (end : RunEnd) (text : List ℕ) (p : Mind) (x : JournalState) (a : View) → None ≡ run_fault end text → Executes (tell_run end text p told) told x x a a
 nothing_told end text p x a e = subst (λ f. Executes (tell_maybe f p told) told x x a a) e (executes_nothing told x x a refl)
 
--- the command was run, and what comes behind it
+-- the command was run, and what comes after it
 module _ (command : Command) (input text : List ℕ) (p : Mind) where
   pub command_unrun : (x y : JournalState) (a b : View) → input ≡ whole_of p.message → OutOfMemory (ask (Run command input true)) x y a b → OutOfMemory (run_command command text p) x y a b
   command_unrun x y a b e h =

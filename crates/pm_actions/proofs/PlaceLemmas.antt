@@ -67,7 +67,7 @@ stamped p moment told pid serial host same process count name =
     ∙ (ap (λ n. record { moment = told; pid = p.vars.marks.pid; serial = n; host_name = host }) count
     ∙ ap (λ n. record { moment = told; pid = p.vars.marks.pid; serial = p.placed + 1; host_name = n }) name))
 
--- what comes behind a filing
+-- what comes after a filing
 abbrev behind : List ℕ → ℕ → Mind → Reply → Plan Filings
 behind folder size p reply = Ends (placed_by folder size (counted p) reply)
 
@@ -87,7 +87,7 @@ filed_in f shown size p q r moment end filed x y z a b c same counts stamped cou
     let rest : Executes (placed_at f.kind f.folder f.prefix f.piece p (Now moment)) (filing_of filed q) y z b c = first_act act (behind f.folder (length f.piece) p) reply (filing_of filed q) y y z z b c c refl note ends in
     first_act Moment (placed_at f.kind f.folder f.prefix f.piece p) (Now moment) (filing_of filed q) x x y z a b c refl m rest
 
--- memory was wanting behind the filing
+-- memory was wanting after the filing
 pub filed_then_out : (f : Filing) (p : Mind) (moment : ℤ) (end : FolderEnd) (x y z : JournalState) (a b c : View) → f.stamp ≡ next_stamp p moment → NotesAct Moment (Now moment) x y a b → NotesPlace f end y z b c
     → OutOfMemory (in_folder f.kind f.folder f.prefix f.piece p) x z a c
 filed_then_out f p moment end x y z a b c stamped m n =

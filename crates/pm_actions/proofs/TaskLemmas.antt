@@ -37,7 +37,7 @@ right_true : (b c : Bool) → c ≡ true → (b || c) ≡ true
 right_true true c e = refl
 right_true false c e = e
 
--- the errand was tried, and what is told behind it comes
+-- the errand was tried, and what is told after it comes
 pub trial_then : (t : Task) (lock : Option (List ℕ)) (work : Mind → Plan Tried) (p : Mind) (done : Trying) (turn : Turn) (x y z : JournalState) (a b c : View) → Executes (try_under lock work p) done x y a b
     → Executes (after_trial t done) turn y z b c → Executes (try_and_say t lock work p) turn x z a c
 trial_then t lock work p done turn x y z a b c h k = executes_then (try_under lock work p) (after_trial t) done turn x y z a b c h k
@@ -49,7 +49,7 @@ trial_then_out t lock work p done x y z a b c h k = out_then (try_under lock wor
 pub trial_out : (t : Task) (lock : Option (List ℕ)) (work : Mind → Plan Tried) (p : Mind) (x y : JournalState) (a b : View) → OutOfMemory (try_under lock work p) x y a b → OutOfMemory (try_and_say t lock work p) x y a b
 trial_out t lock work p x y a b h = out_front (try_under lock work p) (after_trial t) x y a b h
 
--- what is told behind it, and what comes then
+-- what is told after it, and what comes then
 pub said_after_trial : (t : Task) (last : Bool) (trial : Trial) (m q : Mind) (first lines : List (List ℕ)) (done : Bool) (turn : Turn) → last ≡ is_final t.purpose t.flags → lines ≡ first ++ copy_lines done t.flags q
     → first ≡ trial_lines t.flags t.text trial → done ≡ (is_delivery t.purpose && is_fine_trial trial) → q ≡ settled_by trial m → trial_turn last trial q ≡ turn → say_each q lines turn ≡ after_trial t (trying_of trial m)
 said_after_trial t last trial m q first lines done turn final e g d is f =

@@ -8,7 +8,8 @@ use Rattle.pm_journal.specs.Plan.{Ends, and_then, ask}
 use Rattle.pm_journal.specs.Executed.{Executes, OutOfMemory}
 use Rattle.pm_journal.proofs.ActPlans.{executes_then}
 use Rattle.pm_journal.proofs.WantsMemory.{executes_nothing, out_front}
-use Rattle.pm_acts.specs.Acts.{say_act, SaysTo}
+use Rattle.pm_append.specs.Saying.{say_act}
+use Rattle.pm_acts.specs.Acts.{SaysTo}
 use Rattle.pm_meaning.specs.Locks.{is_nothing}
 use Rattle.pm_meaning.specs.Logging.{log_to, log_file, log, logged}
 use Rattle.pm_meaning.specs.Minds.{Mind}

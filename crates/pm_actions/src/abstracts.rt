@@ -113,7 +113,7 @@ fn front(text: &[u8], most: usize) -> &[u8]
     }
 }
 
-// What stands behind so many bytes.
+// What stands after so many bytes.
 fn behind(text: &[u8], count: usize) -> &[u8]
     ensures { result.now ≡ drop count text.now }
 {

@@ -5,7 +5,7 @@ ghost use Rattle.pm_meaning.specs.ProgramActions.{behind_arrows as past_arrows, 
 
 use pm_bytes::{is_blank, is_space};
 
-/// The name behind the first `>>` and blanks.
+/// The name after the first `>>` and blanks.
 pub fn appended_name(line: &[u8]) -> &[u8]
     ensures { result.now ≡ name_appended line.now }
 {

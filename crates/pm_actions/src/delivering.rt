@@ -415,7 +415,7 @@ fn is_done(attempt: &Attempt) -> bool
     }
 }
 
-// What comes behind an attempt.
+// What comes after an attempt.
 fn end_of(flags: Flags, attempt: &Attempt) -> Option<End>
     ensures { (p : Mind) → attempt_turn flags attempt.now p ≡ turn_of result p }
 {

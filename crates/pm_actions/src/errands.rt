@@ -1,5 +1,5 @@
 //! What a task asks of the outside: the mail goes to a program or to standard output, is filtered, or is captured. All memory
-//! for a delivery is taken before, so that none can be wanting behind it.
+//! for a delivery is taken before, so that none can be wanting after it.
 ghost use Rattle.std.specs.Prelude.{◌≡◌, ◌+◌, ◌≤◌, ℕ, List, codes, length, IfOk, OnErr, false};
 ghost use Rattle.pm_journal.specs.Executed.{Carries, Executes};
 ghost use Rattle.pm_journal.specs.Held.{Keeping};

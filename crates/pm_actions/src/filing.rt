@@ -1,5 +1,5 @@
 //! The mail goes to files and folders, one destination after the other. What each wants is taken before the first of them,
-//! so that no memory can be wanting between two deliveries to files or right behind one.
+//! so that no memory can be wanting between two deliveries to files or right after one.
 ghost use Rattle.std.specs.Prelude.{◌≡◌, ◌+◌, ◌*◌, ◌≤◌, false, length, map, IfOk, OnErr, List};
 ghost use Rattle.std.specs.List.{list_any};
 ghost use Rattle.pm_bytes.specs.Path.{full_name};
@@ -204,8 +204,8 @@ pub fn fed_parts(flags: Flags) -> Feed
     }
 }
 
-/// Delivers to each destination in order, up to one that doesn't get the mail. Memory can be wanting only where one of them
-/// is a folder.
+/// Delivers to each destination in order, up to the first that doesn't get the mail. It runs out of memory only if a
+/// destination is a directory.
 pub fn file_each<D: Outside>(
     alloc: Global,
     flags: Flags,

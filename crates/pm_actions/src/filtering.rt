@@ -1,5 +1,5 @@
 //! Programs whose output is wanted: it takes the place of the parts of the mail that they were fed, or becomes the value of a
-//! variable (procmailrc(5), "Recipe flags" and "Recipe action line"). Memory can be wanting behind their run.
+//! variable (procmailrc(5), "Recipe flags" and "Recipe action line"). Memory can be wanting after their run.
 ghost use Rattle.std.specs.Prelude.{◌≡◌, ◌++◌, ◌+◌, ℕ, List, [], length, nat_lt, IfOk, OnOk};
 ghost use Rattle.pm_journal.specs.Executed.{Carries};
 ghost use Rattle.pm_journal.specs.Held.{Keeping};

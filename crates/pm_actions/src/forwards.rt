@@ -43,7 +43,7 @@ fn addressed(alloc: Global, addresses: Vec<Blob>, process: &Process) -> Result<P
     words_line(alloc, words.as_slice(), process)
 }
 
-// SENDMAIL with the words of SENDMAILFLAGS, and behind them the addresses.
+// SENDMAIL with the words of SENDMAILFLAGS, and after them the addresses.
 fn sendmail_words(alloc: Global, addresses: Vec<Blob>, vars: &Vars) -> Result<Vec<Blob>, Memory>
     ensures { IfOk result (λ words. words.items ≡ words_of_sendmail vars.now ++ addresses.items) }
 {

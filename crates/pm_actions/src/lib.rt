@@ -1,5 +1,5 @@
-//! The actions of recipes: texts are expanded, destinations checked, and the mail is delivered to files and folders, to
-//! programs or to standard output, with the log lines behind it.
+//! The actions of recipes: to expand texts, to check destinations, to deliver to files, directories, programs or
+//! standard output, and to log the result.
 #![tactic(auto)]
 
 pub mod abstracts;

@@ -42,7 +42,7 @@ fn number_or(otherwise: u64, name: &[u8], vars: &Vars) -> u64
     }
 }
 
-/// The text behind the second colon of a recipe, empty where there is none.
+/// The text after the second colon of a recipe, empty where there is none.
 pub fn lock_text(lock: &Option<Blob>) -> &[u8]
     ensures { result.now ≡ text_or [] lock.now }
 {
@@ -167,7 +167,7 @@ pub fn full_names(
     Ok(all)
 }
 
-/// Whether the lock file is one of these files, or is held already.
+/// Whether the lock file is a destination, or is held already.
 pub fn is_taken(lock: &Option<Name>, names: &[Name], held: &HeldLocks) -> bool
     ensures { result ≡ taken lock.now names.now held.now.names }
 {
@@ -183,7 +183,7 @@ fn is_among(lock: &Name, names: &[Name]) -> bool
     names.iter().any(|name| name.as_str() == lock.as_str())
 }
 
-/// Whether one of these files is a held lock file.
+/// Whether a destination is a lock file that is held.
 pub fn any_held(names: &[Name], held: &HeldLocks) -> bool
     ensures { result ≡ some_held names.now held.now.names }
 {

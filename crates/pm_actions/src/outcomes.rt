@@ -1,4 +1,4 @@
-//! The lines that are due behind an errand.
+//! The lines that are due after an errand.
 ghost use Rattle.std.specs.Prelude.{◌≡◌, ◌++◌, not, IfOk, OnOk};
 ghost use Rattle.pm_journal.specs.LogText.{program_failure_line};
 ghost use Rattle.pm_meaning.specs.Delivering.{line_if};

@@ -81,7 +81,7 @@ pub fn outputs_of<D: Outside>(
     run_each(alloc, commands.as_slice(), process, outside, journal)
 }
 
-/// Reads a program's line, behind the commands of one that no shell runs.
+/// Reads a program's line, after the commands of one that no shell runs.
 pub fn read_line<D: Outside>(
     alloc: Global,
     line: &[u8],

@@ -27,7 +27,7 @@ pub struct FolderCopy {
     pub piece: Blob,
 }
 
-/// Files the piece in the folder as a file of its own. After want of memory behind the filing, that is noted.
+/// Files the piece in the folder as a file of its own. After want of memory after the filing, that is noted.
 pub fn file_in_folder<D: Outside>(
     alloc: Global,
     copy: FolderCopy,

@@ -1,4 +1,4 @@
-//! The lines that are due behind an attempt to deliver (the log texts of procmail(1), "DIAGNOSTICS").
+//! The lines that are due after an attempt to deliver (the log texts of procmail(1), "DIAGNOSTICS").
 ghost use Rattle.std.specs.Prelude.{◌≡◌, ◌++◌, ◌∷◌, [], nat_lt, IfOk, OnOk};
 ghost use Rattle.pm_journal.specs.Executed.{Carries};
 ghost use Rattle.pm_journal.specs.Held.{Keeping};

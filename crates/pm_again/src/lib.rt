@@ -1,4 +1,4 @@
-//! Calls of the operating system that a signal interrupted, made again.
+//! System calls that are repeated if a signal interrupts them.
 #![tactic(auto)]
 
 mod again;

@@ -1,4 +1,4 @@
-//! Lists of bytes, names and what is read from them, which every other crate speaks of, and the one answer for want of memory.
+//! Lists of bytes, names and what is read from them, for all other crates, and the error that says that memory ran out.
 #![tactic(auto)]
 
 mod alphabet;

@@ -60,7 +60,7 @@ impl Shared {
         })
     }
 
-    /// These bytes and others behind them, in a vector of their own.
+    /// These bytes and others after them, in a vector of their own.
     pub fn followed_by(&self, more: &[u8]) -> Result<Vec<u8>, Memory>
         ensures { IfOk result (λ both. both.items ≡ self.now ++ more.now) }
     {

@@ -41,7 +41,7 @@ impl Name {
         }
     }
 
-    /// The same text as a name. It takes no memory.
+    /// The name with this text. It allocates nothing.
     pub fn from_text(text: String) -> Name
         requires { has_zero (string_bytes text) ≡ false }
         ensures { result ≡ string_bytes text }

@@ -26,7 +26,7 @@ pub fn push_left(alloc: Global, told: &mut Told, plan: &Plan, ran: &mut Ran) -> 
     push_unread(told, plan, ran)
 }
 
-// What `err` took behind the texts that the entries say it took.
+// What `err` took after the texts that the entries say it took.
 fn push_err(alloc: Global, told: &mut Told, ran: &Ran) -> Result<(), Memory> {
     let mut said = Vec::new(alloc);
     for entry in ran.journal.entries() {

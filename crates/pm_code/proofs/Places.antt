@@ -11,7 +11,7 @@ seam_of : (before more : List Flat) (x : Flat) → slice_get (before ++ x ∷ mo
 seam_of [] more x = refl
 seam_of (b ∷ before) more x = seam_of before more x
 
--- the step behind the first ones
+-- the step after the first ones
 pub seam : (steps before more : List Flat) (at : ℕ) (x : Flat) → at ≡ length before → steps ≡ before ++ x ∷ more → StandsAt steps at x
 seam steps before more at x h e = rw (e, h) (seam_of before more x)
 

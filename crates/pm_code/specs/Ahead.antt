@@ -3,7 +3,7 @@ use Rattle.std.specs.Prelude.{ℕ, zero, suc, Bool, true, false, ◌&&◌, nat_e
 use Rattle.pm_recipe.specs.Tree.{Trees, nil, cons, ◌⧺◌, Tree, Recipe, Act, Block}
 use Rattle.pm_code.specs.Flat.{Flat, Does, Enters, Leaves}
 
--- the first of the lists, and those behind it
+-- the first of the lists, and those after it
 abbrev pub first : List Trees → Trees
 first [] = nil
 first (trees ∷ lists) = trees
@@ -17,7 +17,7 @@ others (x ∷ xs) = xs
 abbrev pub onto : Trees → List Trees → List Trees
 onto trees lists = (trees ⧺ first lists) ∷ others lists
 
--- the statements up to the end of the innermost open block, those behind it up to the end of the next, and so on
+-- the statements up to the end of the innermost open block, those after it up to the end of the next, and so on
 abbrev pub lists_of : List Flat → List Trees
 lists_of [] = nil ∷ []
 lists_of (Does tree ∷ steps) = cons tree (first (lists_of steps)) ∷ others (lists_of steps)
@@ -54,7 +54,7 @@ ends_right at (Does tree ∷ steps) = is_single tree && ends_right (suc at) step
 ends_right at (Enters top end ∷ steps) = is_first end (ends_of (suc at) steps) && ends_right (suc at) steps
 ends_right at (Leaves enter ∷ steps) = ends_right (suc at) steps
 
--- the lists behind the first so many
+-- the lists after the first so many
 abbrev pub past : ℕ → List Trees → List Trees
 past zero lists = lists
 past (suc k) lists = past k (others lists)

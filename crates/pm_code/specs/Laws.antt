@@ -5,7 +5,7 @@ use Rattle.pm_code.specs.Flat.{Flat, written}
 use Rattle.pm_code.specs.Ahead.{lists_of, onto, ends_of, past, nth}
 use Rattle.pm_code.specs.Between.{IsBetween}
 
--- a block ends so many steps on, and what stands ahead behind its end is what stands ahead behind the block
+-- a block ends so many steps on, and what stands ahead after its end is what stands ahead after the block
 pub record EndsThere (at k end : ℕ) (steps : List Flat) : Type 0 where
   pub far : ℕ
   pub place : end ≡ at + far
@@ -16,7 +16,7 @@ pub record EndsThere (at k end : ℕ) (steps : List Flat) : Type 0 where
 abbrev pub BlocksEnd : Type 0
 BlocksEnd = (k at end : ℕ) (steps : List Flat) → nth k (ends_of at steps) ≡ Some end → EndsThere at k end steps
 
--- of whole code all its statements stand ahead, and nothing behind them
+-- of whole code all its statements stand ahead, and nothing after them
 abbrev pub WholeAhead : Type 0
 WholeAhead = (trees : Trees) → lists_of (written 0 trees) ≡ trees ∷ []
 

@@ -23,7 +23,7 @@ pub fn compile(alloc: Global, rc: &Rc) -> Result<Code, Memory>
     Ok(Code { steps })
 }
 
-// Puts the code of the statements behind the steps.
+// Puts the code of the statements after the steps.
 #[cycle(put)]
 fn put_all(alloc: Global, statements: &Statements, steps: &mut Vec<Step>) -> Result<(), Memory>
     ensures { OnOk result (flats_of steps.new.items ≡ flats_of steps.old.items

@@ -1,5 +1,5 @@
-//! Flat code of an rcfile: its statements as a list of steps, in which a block is a beginning and an end that name each
-//! other's place. What is left of an rcfile at a place is read off the code from there on.
+//! Flat code of an rcfile: its statements as a list of steps, in which the beginning and the end of a block name each
+//! other's place. The steps from a place on are what is left of the rcfile.
 #![tactic(auto)]
 
 mod code;

@@ -12,7 +12,7 @@ fn code_of(alloc: Global, text: &[u8]) -> Result<Option<Code>, Memory> {
     }
 }
 
-// The kind of each step, with a block's end behind its beginning, and its beginning behind its end.
+// The kind of each step, with a block's end after its beginning, and its beginning after its end.
 fn shown(alloc: Global, code: &Code) -> Result<String, Memory> {
     let mut shown = String::new(alloc);
     for step in &code.steps {

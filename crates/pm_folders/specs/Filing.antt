@@ -28,7 +28,7 @@ pub record Tried (c : Candidate) (piece : List ℕ) (end : FileEnd) (before afte
   pub ran : Ran calls before after
   pub group : TryGroup c piece end calls
 
--- where the filing stands behind the appends
+-- where the filing stands after the appends
 abbrev pub after_writing : {T : Type 0} → Result T ℕ → ℕ → FileState
 after_writing (Ok x) len = Writing len
 after_writing (Err taken) len = Removing taken
@@ -37,12 +37,12 @@ after_writing (Err taken) len = Removing taken
 abbrev pub Writes : {T : Type 0} → Candidate → List ℕ → Result T ℕ → HostView → HostView → Type 0
 Writes c piece result before after = Goes c piece (Writing 0) (after_writing result (length piece)) before after
 
--- where the filing stands behind the sync
+-- where the filing stands after the sync
 abbrev pub after_storing : {T : Type 0} → Result T ℕ → Bool → FileState
 after_storing (Ok x) moves = stored moves
 after_storing (Err taken) moves = Removing taken
 
--- the bytes were added to the file, and it was brought to the store
+-- the bytes were added to the file, and it was synced to disk
 abbrev pub Stores : {T : Type 0} → Candidate → List ℕ → Result T ℕ → HostView → HostView → Type 0
 Stores c piece result before after = Goes c piece (Writing 0) (after_storing result (is_some c.to)) before after
 

@@ -1,5 +1,5 @@
-//! The protocol of a delivery to a folder: the piece becomes a file of its own there, under the first name that isn't
-//! taken, and is brought to the store before it counts.
+//! The protocol of a delivery to a maildir, an MH folder or a plain directory: the piece becomes a file of its own
+//! under the first free name, and is synced to disk before it counts.
 #![tactic(auto)]
 
 mod file;

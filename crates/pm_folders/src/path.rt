@@ -45,7 +45,7 @@ impl Path {
         Ok(())
     }
 
-    /// The same text as a name. It takes no memory.
+    /// The path as a name. It allocates nothing.
     pub fn into_name(self) -> Name
         ensures { result ≡ self }
     {

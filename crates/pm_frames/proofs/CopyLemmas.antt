@@ -42,7 +42,7 @@ outer_copied (c ∷ copies) (w ∷ ws) e =
     let more = outer_copied copies ws (same_tail (left_of c) (unlocked_left w) (map left_of copies) (map unlocked_left ws) e) in
     ap (λ l. left_items l (outer_items copies)) same ∙ ap (left_items (unlocked_left w)) more ∙ sym (unlocked_waiting w (outer_items ws))
 
--- a block without a lock is entered, and behind it stands what is left
+-- a block without a lock is entered, and after it stands what is left
 pub block_copied : (there here : List Trees) (chain : Chain) (blocks : List Open) (rest : List Item) → weave (others there) blocks rest ≡ weave here blocks rest
     → weave there (record { saved = chain; lock = None } ∷ map unlocked_block blocks) (unlocked rest) ≡ unlocked (inside (first there) chain None (weave here blocks rest))
 block_copied there here chain blocks rest behind =

@@ -10,7 +10,7 @@ use Rattle.pm_frames.specs.Copies.{unlocked_block, IsCopied}
 use Rattle.pm_frames.specs.Frames.{steps_of}
 use Rattle.pm_frames.specs.declared.frames.RcFrame.{RcFrame}
 
--- a block for a copy, and a recipe behind it
+-- a block for a copy, and a recipe after it
 abbrev short_code : List Flat
 short_code =
     Enters (record { flags = record no_flags { copy = true }; lock = None; conditions = [] }) 2

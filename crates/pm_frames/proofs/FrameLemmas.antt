@@ -75,7 +75,7 @@ pub in_file_woven : (lists : List Trees) (blocks : List Open) (ws : List Waiting
 in_file_woven lists [] ws = in_file_ahead (first lists) (outer_items ws) ∙ in_file_outside ws
 in_file_woven lists (block ∷ blocks) ws = in_file_ahead (first lists) (end_of block ∷ weave (others lists) blocks (outer_items ws)) ∙ ap (λ l. block.lock ∷ l) (in_file_woven (others lists) blocks ws)
 
--- behind it are those that wait
+-- after it are those that wait
 behind_ahead : (trees : Trees) (rest : List Item) → behind_file (ahead trees rest) ≡ behind_file rest
 behind_ahead nil rest = refl
 behind_ahead (cons tree trees) rest = behind_ahead trees rest
@@ -102,7 +102,7 @@ both_first : (a b : Bool) → a && b ≡ true → a ≡ true
 both_first true b h = refl
 both_first false b h = let e : false ≡ true = h in absurd (cc)
 
--- behind some steps the ends are right too
+-- after some steps the ends are right too
 right_behind : (at : ℕ) (steps : List Flat) (i : ℕ) → ends_right at steps ≡ true → ends_right (at + i) (drop i steps) ≡ true
 right_behind at steps zero h = subst (λ n. ends_right n steps ≡ true) (sym (at_here at)) h
 right_behind at [] (suc i) h = refl
@@ -118,7 +118,7 @@ first_nth end (e ∷ es) h = ap Some (eqb-true e end h)
 pub single_here : (steps : List Flat) (place : ℕ) (tree : Tree) (more : List Flat) → ends_right 0 steps ≡ true → drop place steps ≡ Does tree ∷ more → is_single tree ≡ true
 single_here steps place tree more right e = both_first (is_single tree) (ends_right (suc (0 + place)) more) (subst (λ l. ends_right (0 + place) l ≡ true) e (right_behind 0 steps place right))
 
--- a block that isn't entered: its end is further on, and behind it stands what is behind the block
+-- a block that isn't entered: its end is further on, and after it stands what is after the block
 pub record Jumps (steps : List Flat) (place end : ℕ) (more : List Flat) : Type 0 where
   pub further : place < end
   pub within : end < length steps

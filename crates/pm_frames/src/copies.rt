@@ -17,7 +17,7 @@ use std::alloc::Global;
 use std::collections::VecDeque;
 
 /// The copy of a process that runs the block whose first statement stands at this place, and goes on as the process does
-/// behind the block, where that stands now. It holds no lock, and gives none back.
+/// after the block, where that stands now. It holds no lock, and gives none back.
 pub fn copy_for_block(
     alloc: Global,
     place: usize,

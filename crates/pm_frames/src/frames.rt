@@ -11,7 +11,7 @@ pub struct Open {
     pub lock: Option<Name>,
 }
 
-/// An rcfile that goes on behind the one that it included: its name, and the rest as of one in progress.
+/// An rcfile that goes on after the one that it included: its name, and the rest as of one in progress.
 #[derive(Drop)]
 pub struct Waiting {
     pub name: Name,

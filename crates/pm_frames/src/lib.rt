@@ -1,4 +1,4 @@
-//! Rcfiles in progress, and the copies of a process that wait to run a block.
+//! Rcfiles in progress, and the clones that wait to run a block.
 #![tactic(auto)]
 
 mod copies;

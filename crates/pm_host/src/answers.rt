@@ -32,7 +32,7 @@ pub enum Made {
     Failed,
 }
 
-/// Whether a file was brought to the store.
+/// Whether a file was synced to disk.
 #[derive(Clone, Copy, Debug, PartialEq, Eq)]
 pub enum Synced {
     Synced,

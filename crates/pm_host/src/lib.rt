@@ -1,5 +1,5 @@
-//! What stands between the product and the machine: the calls of a host with their answers, the traits that say
-//! what each call does, and what a host and a stream tell of themselves.
+//! The interface to the operating system: the calls of a host with their answers, the traits that say what each call
+//! does, and what a host and a stream reveal in contracts.
 #![tactic(auto)]
 
 pub mod answers;

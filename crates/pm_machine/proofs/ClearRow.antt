@@ -113,7 +113,7 @@ never_at {c} o p more is = let e : false ≡ has_more (Some c) = ap has_more is 
 abbrev Came : List ℕ → ℕ → List Entry → Others → Mind → Type 0
 Came mail n es o p = Plays (reach {X = Ending} advance n (run_of words bare mail)) es (Some (now_at o (Running [] p)))
 
--- behind the delivery the process comes to its end
+-- after the delivery the process comes to its end
 never_behind : (mail : List ℕ) (n : ℕ) (o : Others) (p : Mind) → Came mail (suc (suc (suc (suc n)))) (noted_of mail) o p → ⊥
 never_behind mail zero o p h = never_at o p refl h.2.2
 never_behind mail (suc zero) o p h = never_at o p refl h.2.2

@@ -216,7 +216,7 @@ fares_on (Unlocking ending p) next es h served reads named fares =
 fares_on (Closing ending p) next es h served reads named fares =
     let last : Next State Event = Stop (Ended ending p) in fares_at last next (given_end p.locks last es next h) fares
 
--- behind a step nothing stands in the way either
+-- after a step nothing stands in the way either
 clear_go : (c d : Course) (front rest es : List Entry) → es ≡ front ++ rest → Plays (advance c) front (Go d) → IsClear c es → IsClear d rest
 clear_go c d front rest es whole h clear = record {
   served = served_rest front rest (subst AllServed whole clear.served);

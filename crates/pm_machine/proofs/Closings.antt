@@ -1,4 +1,4 @@
--- What a process does behind its delivery: it gives locks back, logs lines, and runs programs.
+-- What a process does after its delivery: it gives locks back, logs lines, and runs programs.
 use Rattle.std.proofs.Common.{◌≡◌, ℕ, Bool, true, false, ◌&&◌, List, [], ◌∷◌, ◌++◌, Option, Some, None, sym, subst}
 use Rattle.std.specs.Prelude.{if◌then◌else◌, codes}
 use Rattle.pm_host.specs.declared.command.Command.{Command}

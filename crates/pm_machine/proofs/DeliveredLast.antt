@@ -46,7 +46,7 @@ finishes_go : (c d : Course) (front es later : List Entry) (z : Ending) → Play
 finishes_go c d front es later z h (ends_there none m) = ends_there none (means_go advance c d front es z h m)
 finishes_go c d front es later z h (by_copies e is a m) = by_copies e is (arrives_go {X = Ending} advance c d e front es h a) m
 
--- behind its last delivery, or once it is over, a first process goes on to its end
+-- after its last delivery, or once it is over, a first process goes on to its end
 joined : (o : Others) (s : State) (front behind later es : List Entry) (z : Ending) → o.first ≡ None → EndsOrDelivers s front → es ≡ front ++ (behind ++ later) → AreClosing behind
     → Finishes (now_at o s) (front ++ behind) later z → OverOrDelivers (now_at o s) es z
 joined o s front behind later es z none (inl over) whole closing f = inl (record {

@@ -151,7 +151,7 @@ trapping_ends (suc n) o end p es z none h =
       status = refl;
     })
 
--- what comes behind a step
+-- what comes after a step
 later_on : (c d : Course) (front rest es : List Entry) (z : Ending) → es ≡ front ++ rest → Plays (advance c) front (Go d) → EndsBy d rest z → EndsBy c es z
 later_on c d front rest es z e h k = record {
   before = front ++ k.before;

@@ -42,7 +42,7 @@ logged_to (Some name) text es done h = in_file (is_nothing name) name text es do
 pub are_logged : (text : List ℕ) (p : Mind) (es : List Entry) (done : Unit {0}) → Plays (log text p) es done → AreLines es
 are_logged text p es done h = logged_to (log_file p) text es done h
 
--- lines, and then what comes behind them
+-- lines, and then what comes after them
 pub record Told {R : Type 0} (f : Unit {0} → Plan R) (es : List Entry) (end : R) : Type 0 where
   pub told : List Entry
   pub rest : List Entry

@@ -1,4 +1,4 @@
--- Steps behind which a process isn't over as delivered.
+-- Steps after which a process isn't over as delivered.
 use Rattle.std.proofs.Common.{◌≡◌, ℕ, Bool, true, false, ◌&&◌, List, [], ◌∷◌, Option, refl}
 use Rattle.std.specs.Prelude.{if◌then◌else◌, nat_le}
 use Rattle.pm_bytes.specs.declared.environment.Environ.{Environ}

@@ -216,7 +216,7 @@ final_is : (copy : Bool) → not copy ≡ true → copy ≡ false
 final_is true h = let e : false ≡ true = h in absurd (cc)
 final_is false h = refl
 
--- A program did its work for good: behind the commands of the texts, by one act alone.
+-- A program did its work for good: after the commands of the texts, by one act alone.
 pub record ProgramMade (t : Task) (reading : Reading) (p : Mind) (es : List Entry) : Type 0 where
   pub ran : List Entry
   pub last : List Entry

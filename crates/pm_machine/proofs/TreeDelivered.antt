@@ -29,7 +29,7 @@ use Rattle.pm_machine.proofs.ProgramDelivered.{PipeMade, pipe_made, never_captur
 use Rattle.pm_machine.proofs.RecipeReady.{IsExecuted, ready_of, read_of}
 use Rattle.pm_machine.proofs.NoDelivery.{delivers, no_delivery, never_goes, never_entered, never_said, never_told, never_assign, never_unset}
 
--- the action of a recipe delivered so, behind its conditions
+-- the action of a recipe delivered so, after its conditions
 pub data DeliversBy (top : Top) (act : Action) (p : Mind) (es : List Entry) : Type 0 where
   to_mailboxes : (text : List ℕ) → act ≡ Mailbox text → DeliversReady top.flags top.lock text p es → DeliversBy top act p es
   to_program : (line : List ℕ) → act ≡ Pipe line → PipeMade top.flags top.lock line p es → DeliversBy top act p es

@@ -35,7 +35,7 @@ first_end (Some first) ending = first
 abbrev pub resumed : Mind → ℕ → ℕ → Mind
 resumed mind placed openings = record mind { placed = placed; openings = openings }
 
--- behind a process the first of the copies begins; without one the run is over
+-- after a process the first of the copies begins; without one the run is over
 abbrev pub next_process : List Task → ℕ → Ending → ℕ → ℕ → Next Course Ending
 next_process [] made first placed openings = Stop first
 next_process (task ∷ tasks) made first placed openings =

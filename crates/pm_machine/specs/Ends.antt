@@ -43,7 +43,7 @@ pub record Trapped : Type 0 where
   pub code : ℕ
   pub mind : Mind
 
--- the same of its parts
+-- the end of TRAP with these parts
 abbrev pub trapped_with : ℕ → Mind → Trapped
 trapped_with code p = record { code = code; mind = p }
 
@@ -60,7 +60,7 @@ trap_by line.NoWords text p = say_then p (unusable_name_line text) (trapped_with
 trap_by line.Unusable text p = say_then p (unusable_name_line text) (trapped_with 127 p)
 trap_by (line.TooLong size) text p = say_then p (value_too_long_line size) (trapped_with 127 (overflowed p))
 
--- the program line of TRAP is read behind its commands
+-- the program line of TRAP is read after its commands
 abbrev pub trap_line : List ℕ → Mind → Plan Trapped
 trap_line text p = and_then (read_line text p) (λ read. trap_by read.line text read.mind)
 

@@ -38,11 +38,11 @@ use Rattle.pm_meaning.specs.declared.process.Outcome.TheVariants.{Done}
 use Rattle.pm_meaning.specs.declared.process.ProgramLine.{ProgramLine}
 use Rattle.pm_meaning.specs.declared.process.ProgramLine.TheVariants.{Runs}
 
--- over the same entries a plan that ends wants no act
+-- a plan that ends over a list of entries asks for no further act over that list
 abbrev pub EndsOrWants : Type 0
 EndsOrWants = (plan : Plan (Next Course Ending)) (entries : List Entry) (end : Next Course Ending) (act : Act) → Plays plan entries end → Wants plan entries act → ⊥
 
--- over the same entries a run has one end at most
+-- a run has at most one end over a list of entries
 abbrev pub OneEnd : Type 0
 OneEnd = (c : Course) (entries : List Entry) (first second : Ending) → Means advance c entries first → Means advance c entries second → first ≡ second
 
@@ -69,7 +69,7 @@ abbrev pub AreLines : List Entry → Type 0
 AreLines [] = Unit {0}
 AreLines (e ∷ es) = IsLine e.act × AreLines es
 
--- Each of these destinations got the mail, in order; a lock, if any was wanted, was got before and its removal asked for once behind;
+-- Each of these destinations got the mail, in order; a lock, if any was wanted, was got before and its removal asked for once after;
 -- and lines were told then.
 pub record IsFiled (flags : Flags) (destinations : List Destination) (p : Mind) (entries : List Entry) : Type 0 where
   pub lock : Option (List ℕ)
@@ -99,7 +99,7 @@ pub record IsRead (top : Top) (task : Task) (reading : Mind → Reading) (p : Mi
   pub is_ready : IsReady top (lock_commands task) (λ q. (reading q).commands) p entries ready
   pub read : (reading (executed top.flags is_ready.mind)).read ready.outputs ready.mind ≡ line
 
--- where a process stands so, it delivers behind these entries by these flags to these destinations: a recipe whose conditions hold to those
+-- where a process stands so, it delivers after these entries by these flags to these destinations: a recipe whose conditions hold to those
 -- of its text, with the outputs of its commands, and one that falls off to a default mailbox
 abbrev pub DeliversAt : State → List Entry → Flags → List (List ℕ) → Mind → Type 0
 DeliversAt (Running (Do (Recipe top (Mailbox text)) ∷ rest) p) asked flags words mind =
@@ -108,7 +108,7 @@ DeliversAt (Running (Do (Recipe top (Mailbox text)) ∷ rest) p) asked flags wor
 DeliversAt (FallingOff (mailbox ∷ rest) p) asked flags words mind = (asked ≡ []) × (flags ≡ no_flags) × (words ≡ mailbox ∷ []) × (mind ≡ p)
 DeliversAt other asked flags words mind = ⊥
 
--- where a process stands so, a recipe hands the mail behind these entries to the program of its action, a pipe without the flag f or a
+-- where a process stands so, a recipe hands the mail after these entries to the program of its action, a pipe without the flag f or a
 -- forward
 abbrev pub PipesAt : State → List Entry → Flags → Command → Mind → Type 0
 PipesAt (Running (Do (Recipe top (Pipe line)) ∷ rest) p) asked flags command mind =
@@ -119,7 +119,7 @@ PipesAt (Running (Do (Recipe top (Forward text)) ∷ rest) p) asked flags comman
     × (flags ≡ top.flags) × (mind ≡ ready.mind)
 PipesAt other asked flags command mind = ⊥
 
--- where a process stands so, a recipe writes the mail behind these entries to standard output
+-- where a process stands so, a recipe writes the mail after these entries to standard output
 abbrev pub WritesAt : State → List Entry → Flags → Mind → Type 0
 WritesAt (Running (Do (Recipe top WriteOutAction) ∷ rest) p) asked flags mind =
     (ready : Ready) × IsReady top (lock_commands (write_task top.flags top.lock)) (λ q. []) p asked ready × (flags ≡ top.flags) × (mind ≡ ready.mind)
@@ -138,7 +138,7 @@ abbrev pub AreClosing : List Entry → Type 0
 AreClosing [] = Unit {0}
 AreClosing (e ∷ es) = IsClosing e.act × AreClosing es
 
--- One act alone that passes: a lock, if any was wanted, was got before and its removal asked for once behind, and lines were told
+-- One act alone that passes: a lock, if any was wanted, was got before and its removal asked for once after, and lines were told
 -- before and then.
 pub record IsOneAct (Passes : Entry → Type 0) (entries : List Entry) : Type 0 where
   pub lock : Option (List ℕ)
@@ -170,13 +170,13 @@ pub data IsMade (at : State) (asked : List Entry) (flags : Flags) (mind : Mind) 
   by_program : (command : Command) → PipesAt at asked flags command mind → IsOneAct (IsFed flags command (fed_piece flags mind)) entries → IsMade at asked flags mind entries
   by_output : WritesAt at asked flags mind → IsOneAct (IsWritten (fed_piece flags mind)) entries → IsMade at asked flags mind entries
 
--- behind these entries the run is over, or only copies of its first process, which ended so, go on over the others
+-- after these entries the run is over, or only copies of its first process, which ended so, go on over the others
 pub data Finishes (c : Course) (entries later : List Entry) (ending : Ending) : Type 0 where
   ends_there : later ≡ [] → Means advance c entries ending → Finishes c entries later ending
   by_copies : (d : Course) → d.others.first ≡ Some ending → ArrivesAt {X = Ending} advance c entries d → Means advance d later ending → Finishes c entries later ending
 
 -- Over the entries before, the first process comes to where it delivers for good; over the next it becomes ready to; the next deliver
--- the mail there, and behind them it gives locks back, logs lines and runs the program of TRAP, and then only copies of it go on.
+-- the mail there, and after them it gives locks back, logs lines and runs the program of TRAP, and then only copies of it go on.
 pub record DeliversLast (c : Course) (entries : List Entry) (ending : Ending) : Type 0 where
   pub before : List Entry
   pub asked : List Entry

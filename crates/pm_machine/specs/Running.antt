@@ -35,7 +35,7 @@ use Rattle.pm_machine.specs.declared.command_line.CommandLine.{CommandLine}
 use Rattle.pm_machine.specs.declared.ending.Ending.{Ending}
 
 -- what is left to do: a statement, the end of a block, with the chain of its recipe and its lock, or the end of an rcfile, with the
--- name of the one that goes on behind it
+-- name of the one that goes on after it
 pub data Item : Type 0 where
   Do : Tree → Item
   BlockEnd : Chain → Option (List ℕ) → Item
@@ -51,7 +51,7 @@ pub record OpeningRule : Type 0 where
   pub is_implied : Bool
   pub keeps_folder : Bool
 
--- The command line was read in this environment and these bytes came, these words are left that set variables, with this home folder behind
+-- The command line was read in this environment and these bytes came, these words are left that set variables, with this home folder after
 -- them, these rcfiles
 -- of it are left to try, a process has so much left to do, an rcfile is asked for before that, or in the place of the current one,
 -- which it leaves block by block, with these locks, a copy of it is wanted for these statements of a block, or isn't made, no statement
@@ -106,7 +106,7 @@ set_by_word pair p =
     else if bytes_eq pair.name (codes "HOST") then Ends (GoesOn (with_variable pair.name pair.value p))
     else assigned pair.name pair.value p
 
--- the process behind such a word
+-- the process after such a word
 abbrev pub mind_in : Turn → Mind
 mind_in (GoesOn p) = p
 mind_in (Halts end p) = p
@@ -137,7 +137,7 @@ sets_folder pairs = list_any (λ pair. bytes_eq pair.name (codes "MAILDIR")) pai
 abbrev pub opening_of : CommandLine → OpeningRule
 opening_of line = record { is_implied = is_without line.rcfiles; keeps_folder = sets_folder line.values }
 
--- the next word that sets a variable; behind the last one the rcfiles come
+-- the next word that sets a variable; after the last one the rcfiles come
 abbrev pub setting : List Pair → CommandLine → List ℕ → Mind → Plan (Next State Event)
 setting [] line home p = Ends (Go (Opening (opening_of line) (rcfiles_of line home) p))
 setting (pair ∷ pairs) line home p = and_then (set_by_word pair p) (λ turn. Ends (Go (Setting pairs line home (mind_in turn))))
@@ -220,13 +220,13 @@ locks_in_file (BlockEnd saved lock ∷ items) = lock ∷ locks_in_file items
 locks_in_file (FileEnd name ∷ items) = []
 locks_in_file (other ∷ items) = locks_in_file items
 
--- what is left behind the current rcfile, with its end
+-- what is left after the current rcfile, with its end
 abbrev pub behind_file : List Item → List Item
 behind_file [] = []
 behind_file (FileEnd name ∷ items) = FileEnd name ∷ items
 behind_file (other ∷ items) = behind_file items
 
--- the same in a copy, which gives no lock back
+-- what is left of the rcfile in a clone, which releases no lock of its parent
 abbrev pub unlocked : List Item → List Item
 unlocked [] = []
 unlocked (BlockEnd saved lock ∷ items) = BlockEnd saved None ∷ unlocked items
@@ -250,12 +250,12 @@ inside trees saved lock rest = ahead trees (BlockEnd saved lock ∷ rest)
 abbrev pub copied : Mind → Mind
 copied p = record p { locks = []; global = None; is_clone = true }
 
--- the copy of a process that runs a block and goes on behind it
+-- the copy of a process that runs a block and goes on after it
 abbrev pub clone_of : Trees → List Item → Mind → Task
 clone_of trees rest p = record { items = unlocked (inside trees p.chain None rest); mind = begun_block (copied p) }
 
--- what comes behind a statement, which itself opens no rcfile, so that `count` were opened before and behind it: what is left,
--- a block's statements, another rcfile, what is behind the current one, a copy, or the end, once all blocks are left
+-- what comes after a statement, which itself opens no rcfile, so that `count` were opened before and after it: what is left,
+-- a block's statements, another rcfile, what is after the current one, a copy, or the end, once all blocks are left
 abbrev pub next_of : Tree → ℕ → List Item → Turn → Next State Event
 next_of tree count rest (GoesOn p) = Go (Running rest (with_openings count p))
 next_of tree count rest (Halts end p) = Go (Leaving (locks_of rest) end (with_openings count p))
@@ -265,7 +265,7 @@ next_of tree count rest (Switches name p) = Go (Switching name rest (with_openin
 next_of tree count rest (EndsFile p) = Go (LeavingFile (locks_in_file rest) (behind_file rest) (with_openings count p))
 next_of tree count rest (Clones p) = Go (Cloning (block_of tree) rest (with_openings count p))
 
--- what comes behind a default mailbox; no block is open there
+-- what comes after a default mailbox; no block is open there
 abbrev pub next_default : List (List ℕ) → Turn → Next State Event
 next_default rest (GoesOn p) = Go (FallingOff rest p)
 next_default rest (Halts end p) = Go (Over end p)
@@ -303,7 +303,7 @@ open_rcfile name rest p go =
     if nat_le 256 p.openings then say_then p (too_many_rcfiles_line name) (Go (Running rest p))
     else and_then (ask (ReadFile name)) (with_statements name rest (opened p) go)
 
--- the statements of the rcfile come before what is left, and behind them the current one goes on
+-- the statements of the rcfile come before what is left, and after them the current one goes on
 abbrev pub included : List ℕ → List Item → Trees → Mind → Next State Event
 included name rest trees p = Go (Running (ahead trees (FileEnd p.rcfile ∷ rest)) (with_rcfile name p))
 
@@ -316,7 +316,7 @@ abbrev pub leaving_file : List (Option (List ℕ)) → List Item → Mind → Pl
 leaving_file [] items p = Ends (Go (Running items p))
 leaving_file (lock ∷ locks) items p = and_then (give_maybe lock p) (λ q. Ends (Go (LeavingFile locks items q)))
 
--- behind its blocks a process is over; on another host the next rcfile of the command line is tried, which isn't the first
+-- after its blocks a process is over; on another host the next rcfile of the command line is tried, which isn't the first
 abbrev pub left_by : End → Mind → State
 left_by HostOff p = Opening (record { is_implied = false; keeps_folder = true }) p.later (with_later [] p)
 left_by end p = Over end p

@@ -4,32 +4,32 @@ ghost use Rattle.pm_machine.specs.Clones.{CloneIsWhole, CloneGoesOn};
 ghost use Rattle.pm_machine.specs.Completeness.{ClearIsWell};
 ghost use Rattle.pm_machine.specs.EndStatus.{EndHasStatus, EndsOneWay};
 
-/// Over the same entries a step that ends wants no act.
+/// A step that ends over a list of entries asks for no further act over that list.
 pub fn ends_or_wants()
     ensures { EndsOrWants }
 {}
 
-/// Over the same entries a run has one end at most, and so one exit status.
+/// A run has at most one end over a list of entries, and so one exit status.
 pub fn one_end()
     ensures { OneEnd }
 {}
 
 /// The first process ends as delivered only where it came to a recipe or a default mailbox that delivers for good, and
 /// its acts there are done appends to each file, and placed pieces in each folder, among the destinations, a run of the
-/// program with the piece that didn't fail, or the writing of the whole piece to standard output. Behind them the
+/// program with the piece that didn't fail, or the writing of the whole piece to standard output. After them the
 /// process only gives locks back, logs lines and runs programs, and then only copies of it made for blocks go on.
 pub fn delivered_is_done()
     ensures { DeliveredIsDone }
 {}
 
 /// The status of each run is that of its first process's end, by the exit code of TRAP's program, where that was to run
-/// behind the entries up to the end, and by the variables that the process had then.
+/// after the entries up to the end, and by the variables that the process had then.
 #[tactic(auto, using(crate::proofs::EndStatus::end_has_status))]
 pub fn end_has_status()
     ensures { EndHasStatus }
 {}
 
-/// Over the same entries there is one such end, and so one status.
+/// A run ends in exactly one way over a list of entries, and so with one exit status.
 pub fn ends_one_way()
     ensures { EndsOneWay }
 {}

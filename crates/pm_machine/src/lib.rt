@@ -1,5 +1,5 @@
-//! A run as a machine whose steps are plans: the process that the command line begins, the copies of it that are made for
-//! blocks, how each ends, and the exit status.
+//! A run as a machine whose steps are plans: the process that the command line starts, its clones for blocks, how each
+//! ends, and the exit status.
 #![tactic(auto)]
 
 pub mod command_line;

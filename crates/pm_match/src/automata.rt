@@ -1,4 +1,4 @@
-//! Two automata one behind the other, and the room that their search needs.
+//! Two automata one after the other, and the room that their search needs.
 
 use crate::build::Program;
 use crate::labels::Labels;

@@ -101,7 +101,7 @@ fn is_same(one: &[bool], other: &[bool]) -> bool
     one == other
 }
 
-/// The number of the set that was made last, or how many there are if it isn't one of them.
+/// The number of the set that was made last, or the number of sets if the cache hasn't it.
 fn find_set(cache: &Cache) -> usize
     requires { HasSets cache.now }
     ensures near { result ≤ cache.now.count }

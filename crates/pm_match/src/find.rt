@@ -140,7 +140,7 @@ fn seed_of(met: Option<Label>, place: usize) -> Option<Label>
 }
 
 /// Whether no match that ends later can be better: no run that is on its way began before the best match, or has a cut
-/// that isn't behind the best one's.
+/// that isn't after the best one's.
 fn is_final(best: Option<Match>, left_labels: &Labels, right_labels: &Labels) -> bool
     ensures { IsTrue result → (f : Match) × (best ≡ Some f) × NoneBefore left_labels.now.of.items (f.start * 2 ^ 64)
         × NoneBefore right_labels.now.of.items (rank (record { start = f.start; cut = f.cut }) + 1) }

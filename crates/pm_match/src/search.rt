@@ -17,7 +17,7 @@ use std::alloc::Global;
 /// How long an area is where tables save more than it takes to make them.
 const LONG: usize = 256;
 
-/// The same of the other tables, and of rows.
+/// How long an area is if the tables of later bytes, and rows, save more than it takes to make them.
 const VERY_LONG: usize = 16384;
 
 /// Whether tables are still to be made.
@@ -67,7 +67,7 @@ impl Search {
     ghost use Rattle.pm_match.specs.Search.{Runs, IsReserved};
     ghost use Rattle.pm_match.specs.Finding.{IsFirst};
 
-    /// The search for two lists of operators, of which the second is behind the first.
+    /// The search for two lists of operators, of which the second is after the first.
     pub fn of(alloc: Global, left: &[Op], right: &[Op], fold: bool) -> Result<Search, Memory>
         requires left_spells { (e : Re) × Spells left.now e }
         requires right_spells { (e : Re) × Spells right.now e }

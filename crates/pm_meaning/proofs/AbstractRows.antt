@@ -21,6 +21,6 @@ plain_row p = refl
 subject_row : (p : Mind) → abstract_of (delivered (codes "A: b\nSUBJECT: \t one\n two\nSubject: three\n\n") (codes "a\nb") 3 p) ≡ codes " Subject: one\n  Folder: a b " ++ (decimal 3 ++ codes "\n")
 subject_row p = refl
 
--- what stands behind an empty line is no subject
+-- what stands after an empty line is no subject
 body_row : (p : Mind) → abstract_of (delivered (codes "A: b\n\nSubject: no\n") (codes "m") 0 p) ≡ codes "  Folder: m " ++ (decimal 0 ++ codes "\n")
 body_row p = refl

@@ -58,7 +58,7 @@ two_folders : (flags : Flags) (p : Mind) (first second : List ℕ)
     ) (record { filed = Stored; mind = stored_in second (length (folder_piece flags p)) (counted (stored_in first (length (folder_piece flags p)) (counted p))) })
 two_folders flags p first second = (refl, tt, (refl, tt, (refl, tt, (refl, tt, refl))))
 
--- behind a folder that doesn't get the mail the next one isn't tried; what was begun is counted
+-- after a folder that doesn't get the mail the next one isn't tried; what was begun is counted
 first_fails : (flags : Flags) (p : Mind)
     → Plays (file_all flags (destination_of (codes "one/.") ∷ destination_of (codes "two/") ∷ []) p) (
     entry Moment (Now (pos 0))

@@ -41,14 +41,14 @@ inside_row p = refl
 empty_row : (p : Mind) → line_of [] (codes "$B") (only (codes "A") (codes "b") p) ≡ NoWords
 empty_row p = refl
 
--- blanks at the ends and one behind another make no words, and quotes mean nothing
+-- blanks at the ends and one after another make no words, and quotes mean nothing
 blanks_row : blank_words (codes "  -oi\t -f 'a b' ") ≡ codes "-oi" ∷ codes "-f" ∷ codes "'a" ∷ codes "b'" ∷ []
 blanks_row = refl
 
 no_blanks_row : blank_words (codes "") ≡ []
 no_blanks_row = refl
 
--- without SENDMAILFLAGS the addresses come directly behind SENDMAIL
+-- without SENDMAILFLAGS the addresses come directly after SENDMAIL
 forward_row : (p : Mind) → let q = only (codes "SENDMAIL") (codes "/bin/mail") p in
     forward_line [] (codes " a@x  b@x") q ≡ line_of_words (codes "/bin/mail" ∷ codes "a@x" ∷ codes "b@x" ∷ []) q
 forward_row p = refl

@@ -65,7 +65,7 @@ carry_out top act p = act_on top act p
 abbrev pub begun_block : Mind → Mind
 begun_block p = with_chain new_chain p
 
--- behind a block the chain of its recipe comes back, which succeeded
+-- after a block the chain of its recipe comes back, which succeeded
 abbrev pub closed : Chain → Mind → Mind
 closed saved p = succeeded (with_chain saved p)
 

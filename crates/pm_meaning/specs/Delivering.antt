@@ -176,7 +176,7 @@ abbrev pub filed_turn : Flags → Filed → Mind → Turn
 filed_turn flags Stored p = all_stored flags p
 filed_turn flags other p = GoesOn p
 
--- what comes behind an attempt
+-- what comes after an attempt
 abbrev pub attempt_turn : Flags → Attempt → Mind → Turn
 attempt_turn flags (Unlocked filed) p = filed_turn flags filed p
 attempt_turn flags (NotLocked name) p = GoesOn p
@@ -197,11 +197,11 @@ is_done (Locked name forced filed stuck) = is_stored filed
 abbrev pub settled : Attempt → Mind → Mind
 settled attempt p = if is_done attempt then succeeded p else p
 
--- what is told of an attempt, with the abstract of a copy, and what comes behind it
+-- what is told of an attempt, with the abstract of a copy, and what comes after it
 abbrev pub told : Flags → List ℕ → Attempt → Mind → Plan Turn
 told flags text attempt p = say_each p (attempt_lines text attempt ++ copy_lines (is_done attempt) flags p) (attempt_turn flags attempt p)
 
--- what comes behind an attempt, once it is known whether the recipe succeeded
+-- what comes after an attempt, once it is known whether the recipe succeeded
 abbrev pub after_attempt : Flags → List ℕ → Attempted → Plan Turn
 after_attempt flags text done = told flags text done.attempt (settled done.attempt done.mind)
 

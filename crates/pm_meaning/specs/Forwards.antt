@@ -17,7 +17,7 @@ abbrev pub onto_first : ℕ → List (List ℕ) → List (List ℕ)
 onto_first byte [] = (byte ∷ []) ∷ []
 onto_first byte (text ∷ texts) = (byte ∷ text) ∷ texts
 
--- what stands before, between and behind the blanks of a text
+-- what stands before, between and after the blanks of a text
 abbrev pub between_blanks : List ℕ → List (List ℕ)
 between_blanks [] = [] ∷ []
 between_blanks (byte ∷ bytes) = if is_blank_byte byte then [] ∷ between_blanks bytes else onto_first byte (between_blanks bytes)

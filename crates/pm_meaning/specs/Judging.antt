@@ -45,7 +45,7 @@ pub record Come : Type 0 where
   pub outcome : Outcome
   pub mind : Mind
 
--- the same of its parts
+-- an outcome with the process after it
 abbrev pub come_with : Outcome → Mind → Come
 come_with outcome p = record { outcome = outcome; mind = p }
 
@@ -78,11 +78,11 @@ read_again text outputs question p go_on =
     if is_too_long Quoted text p.vars outputs then Ends (come_with (outcome.TooLong (length_in Quoted text p.vars outputs)) p)
     else go_on (asking_of (behind_blanks (first_word (words_in Quoted p.vars outputs text))) question) p
 
--- the commands of a text behind `$` are run, and then it is expanded
+-- the commands of a text after `$` are run, and then it is expanded
 abbrev pub expanded : List ℕ → Question → Mind → (Asking → Mind → Plan Come) → Plan Come
 expanded text question p go_on = and_then (outputs_of (commands_in Quoted text) p) (λ ran. read_again text ran.outputs question ran.mind go_on)
 
--- what comes of what is asked; a text behind `$` is read again, so many times at most
+-- what comes of what is asked; a text after `$` is read again, so many times at most
 abbrev pub comes_within : ℕ → Flags → Asking → Mind → Plan Come
 comes_within zero flags asking p =
     if is_expanded (asked asking).text then Ends (come_with outcome.Defective p) else tested flags (asked asking) p
@@ -105,7 +105,7 @@ pub record Judged : Type 0 where
   pub verdict : Verdict
   pub mind : Mind
 
--- the same of its parts
+-- a verdict with the process after it
 abbrev pub judged_with : Verdict → Mind → Judged
 judged_with verdict p = record { verdict = verdict; mind = p }
 
@@ -136,7 +136,7 @@ by_verdict Unmatched p acts = Ends (GoesOn p)
 by_verdict (Defective text) p acts = say_then p (defective_condition_line text) (GoesOn p)
 by_verdict (TooLong size) p acts = say_then p (value_too_long_line size) (GoesOn (overflowed p))
 
--- what comes behind the conditions
+-- what comes after the conditions
 abbrev pub behind_conditions : Flags → (Mind → Plan Turn) → Judged → Plan Turn
 behind_conditions flags acts judged = by_verdict judged.verdict (passed flags judged.mind) (acts (executed flags judged.mind))
 

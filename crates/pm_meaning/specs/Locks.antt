@@ -51,7 +51,7 @@ automatic_lock [] p = None
 automatic_lock (word ∷ words) p =
     if is_nothing (full_name p.base word) then None else Some (without_ending word ++ value_or (codes ".lock") (codes "LOCKEXT") p.vars)
 
--- the lock file that a recipe asks for, by the text behind its second colon and what that expands to: without a text the automatic one
+-- the lock file that a recipe asks for, by the text after its second colon and what that expands to: without a text the automatic one
 abbrev pub lock_word : Option (List ℕ) → List ℕ → List (List ℕ) → Mind → Option (List ℕ)
 lock_word None value words p = None
 lock_word (Some text) value words p = if is_empty text then automatic_lock words p else Some value
@@ -71,12 +71,12 @@ abbrev pub full_lock : List ℕ → Option (List ℕ) → Option (List ℕ)
 full_lock base None = None
 full_lock base (Some word) = Some (full_name base word)
 
--- the lock file is one of these files, or is held already
+-- the lock file is a destination, or is held already
 abbrev pub is_taken : Option (List ℕ) → List (List ℕ) → List (List ℕ) → Bool
 is_taken None names held = false
 is_taken (Some lock) names held = list_any (λ name. bytes_eq name lock) names || holds_name held lock
 
--- one of these files is a held lock file
+-- a destination is a lock file that is held
 abbrev pub any_held : List (List ℕ) → List (List ℕ) → Bool
 any_held names held = list_any (holds_name held) names
 

@@ -23,7 +23,7 @@ pub record Output : Type 0 where
   pub output : List ℕ
   pub mind : Mind
 
--- the same of its parts
+-- a command's output with the process after it
 abbrev pub output_with : List ℕ → Mind → Output
 output_with output p = record { output = output; mind = p }
 
@@ -32,7 +32,7 @@ pub record Outputs : Type 0 where
   pub outputs : List (List ℕ)
   pub mind : Mind
 
--- the same of its parts
+-- the outputs of commands with the process after them
 abbrev pub outputs_with : List (List ℕ) → Mind → Outputs
 outputs_with outputs p = record { outputs = outputs; mind = p }
 
@@ -74,7 +74,7 @@ run_line (line.TooLong size) text p = say_then p (value_too_long_line size) (out
 abbrev pub output_of : List ℕ → Mind → Plan Output
 output_of text p = run_line (command_line_of text p) text p
 
--- behind these outputs come those of commands, each of which is run where the one before ended
+-- after these outputs come those of commands, each of which is run where the one before ended
 abbrev pub outputs_behind : List (List ℕ) → List (List ℕ) → Mind → Plan Outputs
 outputs_behind outputs [] p = Ends (outputs_with outputs p)
 outputs_behind outputs (text ∷ texts) p = and_then (output_of text p) (λ one. outputs_behind (outputs ++ one.output ∷ []) texts one.mind)
@@ -84,7 +84,7 @@ pub record Read : Type 0 where
   pub line : ProgramLine
   pub mind : Mind
 
--- the same of its parts
+-- a program line with the process after it was read
 abbrev pub read_with : ProgramLine → Mind → Read
 read_with line p = record { line = line; mind = p }
 
@@ -92,7 +92,7 @@ read_with line p = record { line = line; mind = p }
 abbrev pub outputs_of : List (List ℕ) → Mind → Plan Outputs
 outputs_of texts p = outputs_behind [] texts p
 
--- a line that no shell runs is expanded behind its commands
+-- a line that no shell runs is expanded after its commands
 abbrev pub read_line : List ℕ → Mind → Plan Read
 read_line text p =
     if needs_shell text p then Ends (read_with (line_of_words (shell_words text p.vars) p) p)

@@ -180,7 +180,7 @@ write_outcome other = Unwritten
 abbrev pub write : List ℕ → Mind → Plan Tried
 write piece p = and_then (ask (WriteOut piece)) (λ reply. Ends (record { outcome = write_outcome reply; mind = stored_if (write_outcome reply) (codes "|") (length piece) p }))
 
--- the lock is given back behind what was tried
+-- the lock is given back after what was tried
 abbrev pub unlock_behind : List ℕ → ℕ → Tried → Plan Trying
 unlock_behind name forced t =
     and_then (ask (Unlock name)) (λ reply. Ends (record { trial = Locked name forced t.outcome (is_fault reply); mind = record t.mind { locks = without t.mind.locks name } }))
@@ -232,7 +232,7 @@ abbrev pub is_delivery : Purpose → Bool
 is_delivery (Delivers destination) = true
 is_delivery other = false
 
--- what is told, with the abstract of a copy, and what comes behind it, once it is known whether the recipe succeeded
+-- what is told, with the abstract of a copy, and what comes after it, once it is known whether the recipe succeeded
 abbrev pub after_trial : Task → Trying → Plan Turn
 after_trial t done = let q = settled_by done.trial done.mind in say_each q (trial_lines t.flags t.text done.trial ++ copy_lines (is_delivery t.purpose && is_fine_trial done.trial) t.flags q) (trial_turn (is_final t.purpose t.flags) done.trial q)
 
@@ -240,7 +240,7 @@ after_trial t done = let q = settled_by done.trial done.mind in say_each q (tria
 abbrev pub try_and_say : Task → Option (List ℕ) → (Mind → Plan Tried) → Mind → Plan Turn
 try_and_say t lock work p = and_then (try_under lock work p) (after_trial t)
 
--- what stands behind the first `>>`
+-- what stands after the first `>>`
 abbrev pub behind_arrows : List ℕ → List ℕ
 behind_arrows [] = []
 behind_arrows (byte ∷ bytes) = if starts_with nat_eq (byte ∷ bytes) (codes ">>") then drop 1 bytes else behind_arrows bytes
@@ -253,7 +253,7 @@ ends_name byte = is_space_byte byte || list_any (λ other. other == byte) (codes
 abbrev pub up_to_end : List ℕ → List ℕ
 up_to_end text = take (position_or_len ends_name text) text
 
--- the name of the file to which a line appends: it stands behind the first `>>` and blanks
+-- the name of the file to which a line appends: it stands after the first `>>` and blanks
 abbrev pub appended_name : List ℕ → List ℕ
 appended_name line = up_to_end (behind_blanks (behind_arrows line))
 
@@ -274,7 +274,7 @@ lock_mode t = if is_automatic t.lock then Quoted else One
 abbrev pub lacks_lock : Task → Bool
 lacks_lock t = is_automatic t.lock && is_empty t.automatic
 
--- the lock file by what its text expands to: the automatic one has LOCKEXT behind it
+-- the lock file by what its text expands to: the automatic one has LOCKEXT after it
 abbrev pub named_lock : Task → List ℕ → Mind → Option (List ℕ)
 named_lock t value p =
     if lacks_lock t then None

@@ -40,7 +40,7 @@ line_of_words (program ∷ words) p = if list_all is_usable (program ∷ words) 
 abbrev pub shell_words : List ℕ → Table → List (List ℕ)
 shell_words line vars = value_or (codes "/bin/sh") (codes "SHELL") vars ∷ value_or (codes "-c") (codes "SHELLFLAGS") vars ∷ line ∷ []
 
--- one of these bytes stands in the text
+-- the text has a byte of this list
 abbrev pub has_one_of : List ℕ → List ℕ → Bool
 has_one_of bytes text = list_any (λ byte. list_any (λ other. other == byte) bytes) text
 

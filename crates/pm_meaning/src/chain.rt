@@ -37,7 +37,7 @@ pub fn admits(flags: &Flags, chain: &Chain) -> bool
         && (!flags.on_error || chain.failed)
 }
 
-/// The chain behind a recipe of these flags.
+/// The chain after a recipe of these flags.
 pub fn after(flags: &Flags, chain: &Chain, matched: bool, executed: bool, succeeded: bool) -> Chain
     ensures { result ≡ chain_behind flags.now chain.now matched executed succeeded }
 {

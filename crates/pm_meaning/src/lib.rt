@@ -1,4 +1,4 @@
-//! What statements mean: the plan that a process carries out for each, act by act as the replies decide.
+//! The meaning of statements: for each a plan of acts, of which each next one depends on the replies so far.
 #![tactic(auto)]
 
 pub mod chain;

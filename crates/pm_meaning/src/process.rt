@@ -66,7 +66,8 @@ pub struct Destination {
 pub enum Filed {
     /// Each destination has the mail.
     Stored,
-    /// The file of this name couldn't be written to, and is as before; or no file was added to the folder of this name.
+    /// The file of this name couldn't be written to and has its old contents; or no file was added to the directory of
+    /// this name.
     Unwritten(Name),
     /// The file couldn't be written to, and so many bytes of the piece are left at its end.
     Left { name: Name, count: u64 },
@@ -83,7 +84,7 @@ pub enum Attempt {
     Unlocked(Filed),
     /// The lock of this name wasn't got, and no destination was tried.
     NotLocked(Name),
-    /// The lock was got after so many removals by force; `stuck` where its own removal failed behind the delivery.
+    /// The lock was got after so many removals by force; `stuck` where its own removal failed after the delivery.
     Locked {
         name: Name,
         forced: u32,
@@ -132,7 +133,7 @@ pub enum Trial {
     Unlocked(Outcome),
     /// The lock of this name wasn't got, and nothing was tried.
     NotLocked(Name),
-    /// The lock was got after so many removals by force; `stuck` where its own removal failed behind what was tried.
+    /// The lock was got after so many removals by force; `stuck` where its own removal failed after what was tried.
     Locked {
         name: Name,
         forced: u32,

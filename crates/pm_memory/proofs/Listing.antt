@@ -19,13 +19,13 @@ use Rattle.pm_memory.specs.declared.tree.Denied.{Denied}
 use Rattle.pm_memory.specs.declared.tree.Denied.TheVariants.{ToFail, WrongKind, Memory}
 use Rattle.pm_memory.proofs.Updates.{NodeMap}
 
--- what stands behind this front of a text
+-- what stands after this front of a text
 abbrev behind : List ℕ → List ℕ → Option (List ℕ)
 behind [] text = Some text
 behind (a ∷ front) [] = None
 behind (a ∷ front) (b ∷ bs) = cond (nat_eq a b) (behind front bs) None
 
--- the part behind a slash
+-- the part after a slash
 abbrev part_behind : Option (List ℕ) → Option (List ℕ)
 part_behind None = None
 part_behind (Some []) = None

@@ -87,7 +87,7 @@ impl MemoryHost {
         self.plan.limit(call, most)
     }
 
-    /// Others will make these changes, one after the other, in the first `sleep` or `finish` behind those that are
+    /// Others will make these changes, one after the other, in the first `sleep` or `finish` after those that are
     /// for the batches given before. In a sleep a file is made at the moment after it.
     pub fn batch(&mut self, changes: Vec<Change>) -> Result<(), Memory>
         ensures ok { OnOk result (IsToCome changes.items self.old self.new) }
@@ -99,7 +99,7 @@ impl MemoryHost {
         self.tree.add_batch(changes)
     }
 
-    /// A child behind those that were given before will do this. A code that says `Failed` stands for 0.
+    /// A child after those that were given before will do this. A code that says `Failed` stands for 0.
     pub fn child(&mut self, script: Script) -> Result<(), Memory>
         ensures ok { OnOk result (IsScripted script self.old self.new) }
         ensures err { OnErr result (world_of self.new ≡ world_of self.old) }

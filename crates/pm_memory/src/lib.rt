@@ -1,5 +1,5 @@
-//! The outside in memory: a tree of files, a source and a sink that are set up with contents and faults, tell all
-//! that they hold, and keep what was asked of them.
+//! A host in memory for tests: a tree of files, a source and a sink with given contents and faults, which reveal all
+//! that they hold and list the calls that were made.
 #![tactic(auto)]
 
 mod calls;

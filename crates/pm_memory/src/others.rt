@@ -11,7 +11,7 @@ use pm_host::{Change, File, Node};
 impl Tree {
     ghost use Rattle.pm_host.specs.World.{world_with, longer, made_there, taken_away};
 
-    /// A batch behind those that are there.
+    /// A batch after those that are there.
     pub(crate) fn add_batch(&mut self, changes: Vec<Change>) -> Result<(), Memory>
         ensures ok { OnOk result (others_in self.new ≡ others_in self.old ++ changes.items ∷ []) }
         ensures err { OnErr result (others_in self.new ≡ others_in self.old) }

@@ -45,7 +45,7 @@ impl Programs {
         self.inputs.as_slice()
     }
 
-    /// A child behind those that are there.
+    /// A child after those that are there.
     pub(crate) fn add(&mut self, script: Script) -> Result<(), Memory>
         ensures ok { OnOk result (children_in self.new ≡ children_in self.old ++ script ∷ []) }
         ensures err { OnErr result (children_in self.new ≡ children_in self.old) }

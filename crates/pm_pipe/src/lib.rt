@@ -1,4 +1,4 @@
-//! Child programs: a child is started, fed, its output taken, and waited for.
+//! Child processes: to start a child, to feed it, to take its output, and to wait for it.
 #![tactic(auto)]
 
 pub mod child;

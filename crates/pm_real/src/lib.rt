@@ -1,4 +1,4 @@
-//! The outside on a machine: standard input, standard output and standard error, the files, the clock, and children.
+//! The host on a machine: standard input, standard output and standard error, files, the clock, and child processes.
 //! What is here calls the operating system, which is trusted to do what the traits say of contents; the counts, and
 //! whether a child runs, are proved.
 #![tactic(auto)]

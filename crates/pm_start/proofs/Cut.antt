@@ -20,7 +20,7 @@ lacks_before sign hay k within nowhere =
 is_sign : (b sign : ℕ) → (b == sign) ≡ true → b ≡ sign
 is_sign b sign h = grind arith
 
--- the list is what stands before the place, the sign, and what stands behind it
+-- the list is what stands before the place, the sign, and what stands after it
 pub cut_there : (sign : ℕ) (hay : List ℕ) (k : ℕ) → k < length hay → Passes (is_byte sign) hay k → hay ≡ take k hay ++ sign ∷ drop (k + 1) hay
 cut_there sign hay k less here =
     sym (take-append-drop k hay) ∙ ap (λ l. take k hay ++ l) (drop_more hay k 0 less ∙ ap (λ b. b ∷ drop (k + 1) hay) (is_sign (get_or hay k 0) sign here))

@@ -27,7 +27,7 @@ pub fn read_environment<R: Env>(alloc: Global, env: &R) -> Result<Pairs, Memory>
     Ok(Pairs::from_vec(vars))
 }
 
-// How many bytes at the front of the room are the entry, as `NAME=value`; None behind the last one. The room grows until the
+// How many bytes at the front of the room are the entry, as `NAME=value`; None after the last one. The room grows until the
 // entry fits.
 fn read_entry<R: Env>(
     alloc: Global,
@@ -45,7 +45,7 @@ fn read_entry<R: Env>(
     Err(Memory)
 }
 
-/// The name before the first equals sign and the value behind it, where each can be a `Name`.
+/// The name before the first equals sign and the value after it, where each can be a `Name`.
 #[tactic(auto, using(crate::proofs::Machine::unusable_name, crate::proofs::Machine::unusable_value))]
 pub fn read_pair(alloc: Global, entry: &[u8]) -> Result<Option<Pair>, Memory>
     ensures pair { IfOk result (λ found. IfSome found (λ pair. IsEntry entry.now pair.name pair.value)) }

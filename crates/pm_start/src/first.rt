@@ -4,7 +4,7 @@ ghost use Rattle.pm_start.specs.Entry.{Lacks, IsFirstLine};
 
 use memchr::memchr;
 
-/// The bytes before the first sign, and those behind it; None where the sign doesn't stand.
+/// The bytes before the first sign, and those after it; None where the sign doesn't stand.
 pub fn before_sign(bytes: &[u8], sign: u8) -> Option<(&[u8], &[u8])>
     ensures cut { IfSome result (λ cut. (bytes.now ≡ cut.0.now ++ sign ∷ cut.1.now) × Lacks sign cut.0.now) }
     ensures none { result ≡ None → Lacks sign bytes.now }

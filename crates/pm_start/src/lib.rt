@@ -1,5 +1,4 @@
-//! What a program is started with: the words behind its name, its environment, the login name and the
-//! machine's name.
+//! What a program is started with: its arguments, its environment, the login name and the host's name.
 #![tactic(auto)]
 
 mod environment;

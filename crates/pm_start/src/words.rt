@@ -6,7 +6,7 @@ use std::env;
 use std::env::Env;
 use std::io::ErrorKind;
 
-/// The words behind the program's name. `NoText` is a word that isn't UTF-8.
+/// The words after the program's name. `NoText` is a word that isn't UTF-8.
 #[derive(Drop)]
 pub enum Words {
     Read(Vec<String>),
@@ -26,7 +26,7 @@ pub fn read_words<R: Env>(alloc: Global, env: &R) -> Words {
     }
 }
 
-/// The words behind the first, which is the program's name. It takes no memory.
+/// The words after the first, which is the program's name. It takes no memory.
 pub fn without_first(mut words: Vec<String>) -> Vec<String>
     ensures { result.items ≡ drop 1 words.items }
 {

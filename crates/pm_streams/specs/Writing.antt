@@ -33,7 +33,7 @@ abbrev pub is_all : WriteEnd → Bool
 is_all Wrote = true
 is_all (Short n) = false
 
--- the texts were written one behind the other, and the answer says whether all of that was
+-- the texts were written one after the other, and the answer says whether all of that was
 pub record WritesTexts (texts : List (List ℕ)) (all : Bool) (before after : StreamView) : Type 0 where
   pub end : WriteEnd
   pub written : WritesText (concat texts) end before after

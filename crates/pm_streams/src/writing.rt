@@ -27,7 +27,7 @@ pub fn write_text<E: Sink>(sink: &mut E, text: &[u8]) -> WriteEnd
     WriteEnd::Wrote
 }
 
-// Puts the text behind the bytes that the room holds, and gives their new count.
+// Puts the text after the bytes that the room holds, and gives their new count.
 fn fill(room: &mut [u8], held: usize, text: &[u8]) -> usize
     requires { held + length text.now ≤ length room.old }
     ensures within { result ≤ length room.new }
@@ -38,7 +38,7 @@ fn fill(room: &mut [u8], held: usize, text: &[u8]) -> usize
     end
 }
 
-// Puts the text behind the bytes that the room holds. Where it doesn't fit, what is held is written first, and a text
+// Puts the text after the bytes that the room holds. Where it doesn't fit, what is held is written first, and a text
 // that is longer than the room is written itself. `None` says that a write failed.
 fn gather<E: Sink>(sink: &mut E, room: &mut [u8], held: usize, text: &[u8]) -> Option<usize>
     requires { held ≤ length room.old }
@@ -62,7 +62,7 @@ fn gather<E: Sink>(sink: &mut E, room: &mut [u8], held: usize, text: &[u8]) -> O
     Some(0)
 }
 
-/// Writes texts one behind the other until all are taken or a write fails, and says whether all are. Those that are
+/// Writes texts one after the other until all are taken or a write fails, and says whether all are. Those that are
 /// shorter than the room are gathered there, so that many of them cost one write. It takes no memory.
 pub fn write_texts<E: Sink>(sink: &mut E, texts: &[Blob], room: &mut [u8]) -> bool
     ensures { WritesTexts texts.now result (E.told sink.old) (E.told sink.new) }

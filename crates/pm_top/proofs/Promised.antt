@@ -72,7 +72,7 @@ framed_in run (not_begun h) a = frame_at run.entries run.before a.middle a.last 
 framed_in run (left_off h) a = (a.accounts.framed, frame_at h.given a.later a.last a.last a.last.host run a.back.framed refl a.host_same a.out_same)
 framed_in run (meant h) a = frame_at run.entries run.before a.middle a.last a.last.host run a.accounts.framed a.stops a.host_same a.out_same
 
--- no child runs behind the calls of a run
+-- no child runs after the calls of a run
 none_runs : (run : Run) (how : Outcome run) (a : Account run how) → child_after (joined a.accounts.groups ++ calls_in run how ++ joined a.back.groups) NoChild ≡ NoChild
 none_runs run how a =
     child_after-append (joined a.accounts.groups ++ calls_in run how) (joined a.back.groups) NoChild

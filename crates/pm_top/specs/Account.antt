@@ -19,12 +19,12 @@ abbrev pub calls_in : (run : Run) → Outcome run → List Logged
 calls_in run (left_off h) = h.left_off
 calls_in run other = []
 
--- the unlocks behind them
+-- the unlocks after them
 abbrev pub given_in : (run : Run) → Outcome run → List Entry
 given_in run (left_off h) = h.given
 given_in run other = []
 
--- only a run that was left off goes on behind its entries
+-- only a run that was left off goes on after its entries
 abbrev pub StopsAt : (run : Run) → Outcome run → View → View → Type 0
 StopsAt run (left_off h) middle last = Unit {0}
 StopsAt run other middle last = last ≡ middle

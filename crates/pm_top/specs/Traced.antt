@@ -14,7 +14,7 @@ pub record Traced (run : Run) : Type 0 where
   pub how : Outcome run
   pub account : Account run how
 
--- the same for all words that ask for this
+-- the trace of every command line that asks for this run
 abbrev pub RunsLine : CommandLine → (List (String Global) → Run) → Type 0
 RunsLine line run = (words : List (String Global)) → command_line words ≡ Some line → Traced (run words)
 

@@ -1,5 +1,5 @@
-//! The program procmail without its machine: the words and the message are read, the recipes are carried out
-//! through the host and the sinks that are handed in, and every act is noted.
+//! The program procmail without its machine: it reads the arguments and the message, executes the recipes by the host
+//! and the sinks that it is given, and notes every act.
 #![tactic(auto)]
 
 pub mod top;

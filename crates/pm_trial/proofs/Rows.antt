@@ -27,7 +27,7 @@ last : message_of 1999 ≡ codes "From t Thu Jan  1 00:00:00 1970\nTo: l4@x\nSub
 unfolding digits
 last = refl
 
--- With none to three lines a message has so many bytes. Its piece has one more where it has a line: the empty one behind it.
+-- With none to three lines a message has so many bytes. Its piece has one more where it has a line: the empty one after it.
 lengths : length (message_of 0) ∷ length (message_of 1) ∷ length (message_of 2) ∷ length (message_of 3) ∷ [] ≡ 53 ∷ 58 ∷ 63 ∷ 68 ∷ []
 unfolding digits
 lengths = refl

@@ -1,4 +1,4 @@
--- Runs, one behind the other, and what is counted of their entries.
+-- Runs, one after the other, and what is counted of their entries.
 use Rattle.std.proofs.Common.{◌≡◌, ◌≤◌, ℕ, suc, ◌+◌, List, length, cond, [], ◌∷◌, ◌++◌, refl, sym, ap, ◌∙◌, subst, arith, append_assoc, append-nil, length-append}
 use Rattle.std.proofs.lemmas.List.Elements.{All-nil, All-push}
 use Rattle.std.proofs.lemmas.List.Sums.{sum_by-append}
@@ -22,7 +22,7 @@ all_entries-append : (runs : List Run) (run : Run) → all_entries (runs ++ run 
 all_entries-append [] run = append-nil run.entries
 all_entries-append (r ∷ runs) run = ap (λ es. r.entries ++ es) (all_entries-append runs run) ∙ sym (append_assoc r.entries (all_entries runs) run.entries)
 
--- one run more behind them
+-- one run more after them
 runs_more : (env : Environ) (k : ℕ) (runs : List Run) (before middle : View) (run : Run) → AreRuns env k runs before middle → IsRun env (k + length runs) run → run.before ≡ middle → AreRuns env k (runs ++ run ∷ []) before run.after
 runs_more env k [] before middle run h last begins = let e : k + 0 ≡ k = omega arith in (subst (λ n. IsRun env n run) e last, begins ∙ h, refl)
 runs_more env k (r ∷ runs) before middle run h last begins =

@@ -24,7 +24,7 @@ pub record Trial : Type 0 where
   pub before : View
   pub after : View
 
--- run k failed behind k runs with status 0, and nothing was done behind it
+-- run k failed after k runs with status 0, and nothing was done after it
 pub record FailsIn (k : ℕ) (env : Environ) (status : ℕ) (before after : View) : Type 0 where
   pub middle : View
   pub delivered : Delivered env k before middle
@@ -51,13 +51,13 @@ abbrev pub EndsSo : ℕ → Environ → TrialEnd → View → View → Type 0
 EndsSo count env (AllDelivered report) before after = Succeeds count env report before after
 EndsSo count env (Failed status) before after = Fails count env status before after
 
--- memory was wanting outside the runs, behind some with status 0
+-- memory was wanting outside the runs, after some with status 0
 pub record GivesUp (count : ℕ) (env : Environ) (before after : View) : Type 0 where
   pub number : ℕ
   pub within : number ≤ count
   pub delivered : Delivered env number before after
 
--- the status behind the report: 0 where all of it was taken
+-- the status after the report: 0 where all of it was taken
 abbrev pub written_status : WriteEnd → ℕ
 written_status Wrote = status_number Success
 written_status (Short n) = status_number InputOutput

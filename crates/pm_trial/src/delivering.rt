@@ -1,4 +1,4 @@
-//! The runs of a trial, one behind the other.
+//! The runs of a trial, one after the other.
 ghost use Rattle.std.specs.Prelude.{◌≡◌, ◌≤◌, IfOk, OnErr};
 ghost use Rattle.pm_host.specs.declared.answers.Child.{Child};
 ghost use Rattle.pm_journal.specs.Entries.{view_of};

@@ -1,5 +1,5 @@
-//! The program procmail with its trial: by the words `--trial N` it delivers N made messages by the rcfile `rc`, one
-//! behind the other, and tells in five lines what was done. By all other words it is the run of one message.
+//! The program procmail with test deliveries: with `--trial N` it delivers N generated messages by the rcfile `rc`, one
+//! after the other, and writes five lines about them. With other arguments it is the run of one message.
 #![tactic(auto)]
 
 pub mod delivering;

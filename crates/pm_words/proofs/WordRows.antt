@@ -44,7 +44,7 @@ filter = refl
 filter_arguments : line_by (codes "-m" ∷ codes "-a" ∷ codes "x" ∷ codes "rc" ∷ codes "y" ∷ []) ≡ Some (filter_of Keep (codes "x" ∷ codes "y" ∷ []) [] (codes "rc"))
 filter_arguments = refl
 
--- `procmail -m rc -t -- X=1 ''`: behind the rcfile of a mail filter each word is an argument
+-- `procmail -m rc -t -- X=1 ''`: after the rcfile of a mail filter each word is an argument
 options_behind : line_by (codes "-m" ∷ codes "rc" ∷ codes "-t" ∷ codes "--" ∷ codes "X=1" ∷ [] ∷ [])
     ≡ Some (filter_of Keep (codes "-t" ∷ codes "--" ∷ codes "X=1" ∷ [] ∷ []) [] (codes "rc"))
 options_behind = refl
@@ -64,7 +64,7 @@ filter_alone = refl
 filter_variable_alone : line_by (codes "-m" ∷ codes "X=1" ∷ []) ≡ None
 filter_variable_alone = refl
 
--- `procmail rc -m x`, `procmail a X=1 b -m c`: the first rcfile is the filter's, and those behind it are arguments
+-- `procmail rc -m x`, `procmail a X=1 b -m c`: the first rcfile is the filter's, and those after it are arguments
 filter_behind : line_by (codes "rc" ∷ codes "-m" ∷ codes "x" ∷ []) ≡ Some (filter_of Keep (codes "x" ∷ []) [] (codes "rc"))
 filter_behind = refl
 

@@ -44,7 +44,7 @@ CanAdd From text = Unit {0}
 CanAdd Value text = (has_zero text ≡ false) × (list_any is_equals text ≡ true)
 CanAdd Rcfile text = has_zero text ≡ false
 
--- a word's text can be added, and the place behind it knows whether an rcfile was named
+-- a word's text can be added, and the place after it knows whether an rcfile was named
 abbrev pub Fits : Place → Word → Type 0
 Fits place word = CanAdd word.adds word.text.now × (word.place.named ≡ place.named || adds_rcfile word.adds)
 

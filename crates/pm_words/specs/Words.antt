@@ -86,7 +86,7 @@ abbrev pub rest_or_next : Next → List ℕ → CommandLine → Option Said
 rest_or_next awaited [] line = Some (record { line = line; next = awaited })
 rest_or_next awaited (byte ∷ rest) line = text_word awaited (byte ∷ rest) line
 
--- a letter of a group, where it awaits a text or stands alone, and those behind it
+-- a letter of a group, where it awaits a text or stands alone, and those after it
 abbrev pub by_letter : Option Next → List ℕ → CommandLine → Option CommandLine → (CommandLine → Option Said) → Option Said
 by_letter (Some awaited) rest line alone behind = rest_or_next awaited rest line
 by_letter None rest line alone behind = option_and_then behind alone
@@ -110,11 +110,11 @@ abbrev pub has_some : List (List ℕ) → Bool
 has_some [] = false
 has_some (rcfile ∷ rcfiles) = true
 
--- the rcfile of a mail filter was named: all words behind it are its arguments
+-- the rcfile of a mail filter was named: all words after it are its arguments
 abbrev pub is_behind : CommandLine → Bool
 is_behind line = line.filter && has_some line.rcfiles
 
--- A word that is no option. What stands behind the rcfile of a mail filter is kept behind it until the end, as it is.
+-- A word that is no option. What stands after the rcfile of a mail filter is kept after it until the end, as it is.
 abbrev pub operand : Next → List ℕ → CommandLine → Option Said
 operand next word line =
     if has_zero word then None
@@ -137,8 +137,8 @@ abbrev pub kept : Renew → Renew
 kept AddMissing = Keep
 kept other = other
 
--- A mail filter has one rcfile, and what was kept behind it are its arguments, after those of `-a`. So where `-m` comes behind
--- rcfiles, the first is the filter's, and the others are arguments, as are all words behind that `-m`.
+-- A mail filter has one rcfile, and what was kept after it are its arguments, after those of `-a`. So where `-m` comes after
+-- rcfiles, the first is the filter's, and the others are arguments, as are all words after that `-m`.
 abbrev pub filter_line : List (List ℕ) → CommandLine → Option CommandLine
 filter_line [] line = None
 filter_line (rcfile ∷ behind) line =

@@ -1,4 +1,4 @@
-//! What the words of the command line ask for (procmail(1), "SYNOPSIS" and "OPTIONS").
+//! What the arguments of the command line ask for (procmail(1), "SYNOPSIS" and "OPTIONS").
 #![tactic(auto)]
 
 mod lists;

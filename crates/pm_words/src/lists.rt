@@ -113,7 +113,7 @@ fn finish_line(place: Place, lists: Lists) -> Result<Option<CommandLine>, Memory
     }))
 }
 
-// A mail filter has one rcfile, and what stands behind it are arguments.
+// A mail filter has one rcfile, and what stands after it are arguments.
 fn make_filter(softly: bool, lists: Lists) -> Result<Option<CommandLine>, Memory>
     ensures { IfOk result (λ found. found ≡ filter_line lists.rcfiles.items
         (record (line_of lists) { filter = true; fails_softly = softly })) }

@@ -1,11 +1,11 @@
-//! How far the words were read, and what one of them adds.
+//! How far the arguments were read, and what an argument adds.
 
 /// What the next word is.
 #[derive(Clone, Copy)]
 pub enum Next {
     /// Options, a variable or an rcfile.
     Any,
-    /// A variable or an rcfile, behind `--`.
+    /// A variable or an rcfile, after `--`.
     Operand,
     /// The text of `-a`.
     ArgumentText,
@@ -32,7 +32,7 @@ pub enum Adds {
     Rcfile,
 }
 
-/// What a word says: the place behind it, and the text that it adds.
+/// What a word says: the place after it, and the text that it adds.
 #[derive(Clone, Copy)]
 pub struct Word<'a> {
     pub place: Place,

@@ -54,7 +54,7 @@ fn has_options(word: &str) -> bool
     word.as_bytes().starts_with(b"-") && word != "-"
 }
 
-// The letters behind a `-`.
+// The letters after a `-`.
 fn read_letters<'a>(place: Place, word: &'a str) -> Option<Word<'a>>
     requires { place.next ≡ Next.Any }
     ensures says { Says (letters (drop 1 word.now)) place result }
@@ -177,7 +177,7 @@ fn is_sender(text: &str) -> bool
     !text.is_empty() && is_visible(text.as_bytes())
 }
 
-// Whether each byte stands behind the blank.
+// Whether each byte stands after the blank.
 fn is_visible(bytes: &[u8]) -> bool
     ensures { result ≡ list_all (λ byte. nat_le 33 byte) bytes.now }
 {
@@ -215,7 +215,7 @@ fn operand<'a>(place: Place, word: &'a str) -> Option<Word<'a>>
     }
 }
 
-// An rcfile, or an argument behind that of a mail filter.
+// An rcfile, or an argument after that of a mail filter.
 fn rcfile<'a>(place: Place, word: &'a str) -> Word<'a>
     ensures place { result.place ≡ record place { named = true } }
     ensures adds { result.adds ≡ Adds.Rcfile }
