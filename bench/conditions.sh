@@ -53,7 +53,7 @@ lines() {
 printf '%-52s %15s %15s\n' '' 'instructions' 'of 3.22'
 { head_of_mail; echo hi; } > mail
 recipes 0 '' > rc
-row 'no condition, a head of 2 KiB'
+row 'no condition, a header of 2 KiB'
 recipes 200 '^Subject:.*needle%s' > rc
 row '200 recipes with a header condition'
 { head_of_mail; lines; } > mail

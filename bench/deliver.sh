@@ -1,6 +1,6 @@
 #!/usr/bin/env bash
 # What deliveries cost, ours beside procmail 3.22 where it is installed: instructions, by valgrind; system calls, all of them and
-# those behind the program's start, by strace; and the most memory, by time(1). It isn't part of the check.
+# those after the program's start, by strace; and the most memory, by time(1). It isn't part of the check.
 set -eu
 cd "$(dirname "$0")/.."
 [ -x bin/procmail ] || make -s build > /dev/null
@@ -43,7 +43,7 @@ cost() {
                 command -v strace > /dev/null || continue
                 strace -f -o trace "$program" -m "./$rc" < "$mail" > /dev/null 2>&1 || true
                 # The start ends with the loader's last call: what comes from the first read of the message or of the rcfile on counts.
-                printf '%-24s %-14s %9s system calls, %s behind the start\n' "$label" "${program##*/}" \
+                printf '%-24s %-14s %9s system calls, %s after the start\n' "$label" "${program##*/}" \
                     "$(grep -vc -e '+++' trace)" \
                     "$(awk -v rc="$rc" '(index($0, "\"./" rc "\"") && !/execve/ || /read\(0/) && !begun { begun = 1 } begun && !/\+\+\+/ { count++ } END { print count + 0 }' trace)"
                 ;;

@@ -148,7 +148,7 @@ if [ "$counts" = yes ]; then
     printf '%-36s %8s\n' 'in the mean' "$(per_byte $((sum / ${#ordinary[@]})) "$large")"
 fi
 
-# 100 words that don't stand in the ordinary lines.
+# 100 words that the ordinary lines don't have.
 words=(
     lottery casino viagra cialis refinance mortgage guarantee unsubscribe investor jackpot pharmacy discount exclusive
     billion inheritance transfer urgent password verify suspended bitcoin wallet crypto replica rolex luxury

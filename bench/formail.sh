@@ -17,7 +17,7 @@ body() {
     yes "The quick brown fox jumps over the lazy dog, and then it goes home again." | head -n "$1"
 }
 
-# The head of a mail.
+# The header of a mail.
 head_of() {
     printf 'From joe%d@mx Thu Jan  1 00:00:00 1970\nReturn-Path: <joe%d@mx>\nFrom: Joe <joe%d@mx>\n' "$1" "$1" "$1"
     printf 'To: me@mx\nSubject: number %d\nMessage-ID: <%d@mx>\n\n' "$1" "$1"
@@ -32,7 +32,7 @@ for number in $(seq 10000); do
 done > mailbox
 { head_of 1; body 54; } | head -c 4096 > mail
 
-# The processor's milliseconds of a run, for the user and for the system. What it wrote stands in `got`.
+# The processor's milliseconds of a run, for the user and for the system. What it wrote is in `got`.
 milliseconds() {
     { TIMEFORMAT='%U %S'; time "$1" -s < mailbox > got; } 2>&1 | awk '{ printf "%d", ($1 + $2) * 1000 }'
 }

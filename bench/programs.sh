@@ -35,10 +35,10 @@ batch() {
 # Of the batches of each program: the least and the middle one.
 summary() {
     sort -k1,1 -k2,2n | awk -v label="$1" '
-        function told() { if (n) printf "%-20s %-14s %8.2f ms of a processor at least, %8.2f in the middle; %8.2f by the clock\n", label, name, cpu[1], cpu[int((n + 1) / 2)], wall }
-        $1 != name { told(); name = $1; n = 0; wall = $3 }
+        function row() { if (n) printf "%-20s %-14s %8.2f ms of a processor at least, %8.2f in the middle; %8.2f by the clock\n", label, name, cpu[1], cpu[int((n + 1) / 2)], wall }
+        $1 != name { row(); name = $1; n = 0; wall = $3 }
         { cpu[++n] = $2; if ($3 < wall) wall = $3 }
-        END { told() }'
+        END { row() }'
 }
 cp "$ours" ours
 ours=$folder/ours

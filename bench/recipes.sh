@@ -31,7 +31,7 @@ row() {
 
 printf '%-36s %12s %14s\n' "instructions of a recipe" "of 1,000" "of 10,000"
 row "a condition that doesn't hold" ':0\n* ^B:\nbox\n\n'
-row "A behind one that didn't match" ':0 A\nbox\n\n'
-row "E behind one that didn't match" ':0 E\n* ^B:\nbox\n\n'
+row "A after one that didn't match" ':0 A\nbox\n\n'
+row "E after one that didn't match" ':0 E\n* ^B:\nbox\n\n'
 row "a block with such a recipe" ':0\n{\n:0\n* ^B:\nbox\n}\n'
 exit "$failed"

@@ -11,7 +11,7 @@ folder=$(mktemp -d)
 trap 'rm -rf "$folder"' EXIT
 cd "$folder"
 
-# A line for what was done in a folder of its own: `row LABEL COMMAND..`
+# A line for what was done in a directory of its own: `row LABEL COMMAND..`
 row() {
     local label=$1
     shift

@@ -1,5 +1,6 @@
 #!/usr/bin/env bash
-# The pages that are made from the code are what it makes of them now: docs/LAYERS.md and docs/PROMISE_LIST.md.
+# The pages that are made from the code are what it makes of them now: docs/LAYERS.md with docs/layers.svg, and
+# docs/PROMISE_LIST.md.
 set -u
 name=$(basename "$0" .sh)
 cd "$(dirname "$0")/.." || exit 1
@@ -20,8 +21,9 @@ same() {
 same docs/LAYERS.md layers bash .ci/layers
 if python3 -c '' 2> /dev/null; then
     same docs/PROMISE_LIST.md promise python3 .ci/promise_list
+    same docs/layers.svg layers python3 .ci/layers_picture
 else
-    echo "$name: no python3 here: docs/PROMISE_LIST.md: skipped"
+    echo "$name: no python3 here: docs/PROMISE_LIST.md and docs/layers.svg: skipped"
 fi
 [ "$stale" -ne 0 ] || echo "$name: passed"
 exit "$stale"

@@ -88,8 +88,8 @@ sed -n 's/.*codes "procmail: \(.*\)\\n".*/\1/p' crates/pm_top/specs/*.antt >> "$
 section procmail.1 DIAGNOSTICS | sed -n 's/^\.It //p' | sed 's/\\&//g; s/\\(dq/"/g' > "$folder/named"
 same "log lines" procmail.1
 
-# No other file of definitions has a log line of procmail's, but for a worked run.
-grep -l 'codes "procmail: ' crates/*/specs/*.antt | grep -v -e "$texts" -e crates/pm_top/ -e crates/pm_machine/specs/Clones.antt > "$folder/files" || true
+# No other file of definitions has a log line of procmail's, but for worked runs, examples, and the reading of logs.
+grep -l 'codes "procmail: ' crates/*/specs/*.antt | grep -v -e "$texts" -e crates/pm_top/ -e crates/pm_machine/specs/Clones.antt -e /Examples.antt -e crates/log_summary/ > "$folder/files" || true
 [ ! -s "$folder/files" ] || fail "log lines stand elsewhere too: $(cat "$folder/files")"
 
 sed -n 's/.*codes "lockfile: \([^"\\]*\)\\"".*/\1"NAME"/p' crates/lockfile_top/specs/*.antt > "$folder/defined"
@@ -98,8 +98,8 @@ same "lines" lockfile.1
 
 # Variables: names in capitals that the definitions read or set.
 {
-    grep -ho 'codes "[A-Z_][A-Z_]*"' crates/pm_meaning/specs/*.antt crates/pm_machine/specs/*.antt
-    grep -ho 'with_value (codes "[A-Z_][A-Z_]*"' crates/pm_conds/specs/*.antt
+    grep -ho --exclude=Examples.antt 'codes "[A-Z_][A-Z_]*"' crates/pm_meaning/specs/*.antt crates/pm_machine/specs/*.antt
+    grep -ho --exclude=Examples.antt 'with_value (codes "[A-Z_][A-Z_]*"' crates/pm_conds/specs/*.antt
 } | sed 's/.*codes "\(.*\)"/\1/' > "$folder/defined"
 section procmailrc.5 VARIABLES | items Ev > "$folder/named"
 same "variables" procmailrc.5
@@ -148,7 +148,7 @@ words=crates/pm_words/specs/Words.antt
     grep -o 'is letter (codes "[a-zA-Z]")' "$words" | sed 's/.*"\(.\)".*/\1/'
     grep -ho 'codes "--[a-z]*"' crates/pm_*/specs/*.antt | sed 's/codes "-\(.*\)"/\1/'
 } | sort -u > "$folder/defined"
-section procmail.1 DESCRIPTION | items Fl > "$folder/named"
+section procmail.1 OPTIONS | items Fl > "$folder/named"
 same "options" procmail.1
 
 # letters: the letters of the bytes that come by their numbers, a line each.
@@ -163,7 +163,7 @@ words=crates/lockfile_top/specs/Words.antt
     grep -o 'codes "-[a-z!]\{1,\}"' "$words" | sed 's/codes "-\(.*\)"/\1/'
     echo Ns
 } > "$folder/defined"
-section lockfile.1 DESCRIPTION | items Fl > "$folder/named"
+section lockfile.1 OPTIONS | items Fl > "$folder/named"
 same "options" lockfile.1
 
 # Those of formail; `-N` is an item of its own, and `+N` no option.
@@ -173,9 +173,9 @@ words=crates/formail_top/specs/Words.antt
     sed -n 's/.*(codes "\([a-zA-Z]*\)").*/\1/p' "$words" | grep -o .
     echo Ns
 } > "$folder/defined"
-section formail.1 DESCRIPTION | items Fl > "$folder/named"
+section formail.1 OPTIONS | items Fl > "$folder/named"
 same "options" formail.1
-section formail.1 DESCRIPTION | grep -qx '\.It Cm + Ns Ar n' || fail "formail.1 lacks the option +N"
+section formail.1 OPTIONS | grep -qx '\.It Cm + Ns Ar n' || fail "formail.1 lacks the option +N"
 
 # Statuses: procmail's of the runs and the range of EXITCODE, lockfile's, and formail's.
 sed -n 's/^status_number [A-Za-z]* = \([0-9]*\)$/\1/p' crates/pm_machine/specs/Status.antt > "$folder/defined"
