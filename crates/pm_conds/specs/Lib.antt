@@ -3,3 +3,4 @@ pub mod Searching
 pub mod Scores
 pub mod Weighing
 pub mod Judging
+pub mod Examples

@@ -4,6 +4,7 @@
 
 mod counting;
 mod judging;
+mod laws;
 mod leads;
 mod question;
 mod scoring;
@@ -12,6 +13,7 @@ mod sizes;
 mod weighing;
 
 pub use judging::{exited, has_weight, judge_one, question_of, test};
+pub use laws::examples;
 pub use leads::{past_blanks, read_lead};
 pub use question::{Factors, Outcome, Question, Scope, Verdict};
 pub use scoring::{end_of_all, note_score};

@@ -6,3 +6,4 @@ pub mod Laws
 pub mod EndStatus
 pub mod Completeness
 pub mod Clones
+pub mod Examples

@@ -3,6 +3,13 @@ ghost use Rattle.pm_machine.specs.Laws.{EndsOrWants, OneEnd, DeliveredIsDone};
 ghost use Rattle.pm_machine.specs.Clones.{CloneIsWhole, CloneGoesOn};
 ghost use Rattle.pm_machine.specs.Completeness.{ClearIsWell};
 ghost use Rattle.pm_machine.specs.EndStatus.{EndHasStatus, EndsOneWay};
+ghost use Rattle.pm_machine.specs.Examples.{OfStatuses, OfRcfiles};
+
+/// Each definition of a run says in some short cases what the manual does.
+pub fn examples()
+    ensures statuses { OfStatuses }
+    ensures rcfiles { OfRcfiles }
+{}
 
 /// A step that ends over a list of entries asks for no further act over that list.
 pub fn ends_or_wants()

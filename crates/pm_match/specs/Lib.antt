@@ -2,6 +2,8 @@
 pub mod Aim
 pub mod Matching
 pub mod Found
+-- What these say of short areas.
+pub mod Examples
 -- What the proof alone needs: the automaton, and how far a search is.
 pub mod Automaton
 pub mod Postfix

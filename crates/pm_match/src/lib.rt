@@ -13,6 +13,7 @@ mod engine;
 mod find;
 mod forward;
 mod labels;
+mod laws;
 mod marks;
 mod row;
 mod search;
@@ -21,3 +22,4 @@ mod step;
 mod tables;
 
 pub use engine::{Engine, Found};
+pub use laws::examples;

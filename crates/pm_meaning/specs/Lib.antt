@@ -19,3 +19,4 @@ pub mod Acting
 pub mod Blocks
 pub mod Judging
 pub mod Laws
+pub mod Examples

@@ -1,6 +1,8 @@
 -- Digits make a number no smaller.
-use Rattle.std.proofs.Common.{◌≡◌, ◌≤◌, ◌<◌, ◌-◌, ◌*◌, ◌+◌, ℕ, suc, List, [], ◌∷◌, arith, ap, ◌∙◌, drop, drop-cons, get_or, length, true, nat_lt}
+use Rattle.std.proofs.Common.{◌≡◌, ◌≤◌, ◌<◌, ◌-◌, ◌*◌, ◌+◌, ◌^◌, ℕ, suc, List, [], ◌∷◌, arith, ap, sym, ◌∙◌, drop, drop-cons, get_or, length, true, nat_lt}
 use Rattle.std.proofs.lemmas.Bool.Decides.{nat_tests}
+use Rattle.std.proofs.Math.Nat.{pow-suc}
+use Rattle.pm_bytes.specs.Number.{decimal_value}
 use Rattle.pm_recipe.specs.Weights.{digits_value}
 
 pub digits-grow : (value : ℕ) (text : List ℕ) → value ≤ digits_value value text
@@ -17,3 +19,17 @@ past-most most value i text is h over =
     digits-grow (10 * value + (get_or text i 0 - 48)) (drop (suc i) text) in
     let big : most < digits_value 0 text = omega (arith, e, low, over) in
     grind (arith, nat_tests)
+
+-- one place less is ten times as much
+carried : (value d p rest : ℕ) → (10 * value + d) * p + rest ≡ value * (p * 10) + (d * p + rest)
+carried value d p rest = grind arith
+
+-- digits that are read after others, place by place
+pub digits-places : (value : ℕ) (text : List ℕ) → digits_value value text ≡ value * 10 ^ length text + decimal_value text
+digits-places value [] = omega arith
+digits-places value (byte ∷ bytes) =
+    digits-places (10 * value + (byte - 48)) bytes ∙ carried value (byte - 48) (10 ^ length bytes) (decimal_value bytes)
+    ∙ ap (λ places. value * places + ((byte - 48) * 10 ^ length bytes + decimal_value bytes)) (sym (pow-suc 10 (length bytes)))
+
+pub digits-decimal : (text : List ℕ) → digits_value 0 text ≡ decimal_value text
+digits-decimal text = (let e = digits-places 0 text in omega (arith, e))

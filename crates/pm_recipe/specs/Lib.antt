@@ -32,3 +32,4 @@ pub mod Rc
 pub mod Listed
 pub mod Cuts
 pub mod Letters
+pub mod Examples

@@ -2,6 +2,7 @@
 ghost use Rattle.std.specs.Prelude.{List, ℕ, ◌≡◌, ◌++◌, Bool, Option, Some, None, false, true, ◌∷◌};
 ghost use Rattle.pm_bytes.specs.Alphabet.{COLON, BACKSLASH, NEWLINE};
 ghost use Rattle.pm_bytes.specs.Letter.{is_blank_byte};
+ghost use Rattle.pm_bytes.specs.Number.{decimal_value};
 ghost use Rattle.pm_recipe.specs.Conditions.{are_blank};
 ghost use Rattle.pm_recipe.specs.Joins.{unjoined, unindented};
 ghost use Rattle.pm_recipe.specs.Bytes.{begins_with};
@@ -14,6 +15,17 @@ ghost use Rattle.pm_recipe.specs.Tree.{Trees};
 ghost use Rattle.pm_recipe.specs.Rc.{IsRc};
 ghost use Rattle.pm_recipe.specs.Listed.{rc_of};
 ghost use Rattle.pm_recipe.specs.Letters.{AreLetters};
+ghost use Rattle.pm_recipe.specs.Weights.{digits_value};
+ghost use Rattle.pm_recipe.specs.Examples.{OfStatements, OfLines, OfColonLines, OfConditions, OfRcfiles};
+
+/// Each definition of rcfiles says of some short ones what the manual does.
+pub fn examples()
+    ensures statements { OfStatements }
+    ensures lines { OfLines }
+    ensures colon_lines { OfColonLines }
+    ensures conditions { OfConditions }
+    ensures rcfiles { OfRcfiles }
+{}
 
 /// A text has one cut into pieces.
 pub fn one_cut()
@@ -52,4 +64,9 @@ pub fn joins_law()
         → is_blank_byte byte ≡ false → unindented (front ++ (BACKSLASH ∷ (NEWLINE ∷ (blanks ++ (byte ∷ rest)))))
         ≡ front ++ unindented (byte ∷ rest) }
     ensures unindented_plain { (text : List ℕ) → newlines text ≡ 0 → unindented text ≡ text }
+{}
+
+/// The number that a weight's digits write is their decimal value: each counts by the power of ten of its place.
+pub fn digits_law()
+    ensures { (text : List ℕ) → digits_value 0 text ≡ decimal_value text }
 {}

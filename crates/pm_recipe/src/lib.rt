@@ -26,7 +26,7 @@ mod words;
 pub use colon_line::{is_junked, read_flags, read_lock};
 pub use conditions::read_condition;
 pub use fronts::Kind;
-pub use laws::{colon_line_law, joins_law, letters_law, one_cut, one_rc};
+pub use laws::{colon_line_law, digits_law, examples, joins_law, letters_law, one_cut, one_rc};
 pub use reader::{RcRefused, read_rc};
 pub use spans::{Span, cut_rc};
 pub use tree::{
