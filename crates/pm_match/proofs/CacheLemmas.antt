@@ -13,13 +13,13 @@ use Rattle.pm_match.specs.declared.step.Step.TheVariants.{Stop, Go, Fork, Take, 
 use Rattle.pm_match.specs.Matching.{atom_passes}
 use Rattle.pm_match.specs.Automaton.{StepEdge, Edge, Run, passes}
 use Rattle.pm_match.specs.Backward.{ReachesExit, Holds, IsExitSet}
-use Rattle.pm_match.specs.Cache.{context, IsByteAt, Precedes, AreLinks}
+use Rattle.pm_match.specs.Cache.{context, IsByteAt, Precedes, IsNext, AreLinks}
 use Rattle.pm_match.specs.declared.cache.States.{States}
 use Rattle.pm_match.proofs.FindLemmas.{edge_place}
 use Rattle.pm_match.proofs.BackwardLemmas.{longer_out}
 
 -- a place in the area is not its end
-not_end : (area : List ℕ) (i b : ℕ) → slice_get area i ≡ Some b → (i == length area) ≡ false
+pub not_end : (area : List ℕ) (i b : ℕ) → slice_get area i ≡ Some b → (i == length area) ≡ false
 not_end area i b is = let lt = slice_get_within area i b is in grind (arith, lt)
 
 -- by the context
@@ -45,20 +45,14 @@ same_line true b false false e = absurd (omega (arith, e))
 same_line false true true d e = absurd (omega (arith, e))
 same_line false false true d e = absurd (omega (arith, e))
 
-module _ (x y : List ℕ) (i j b c : ℕ) (here : IsByteAt x i b c) (there : IsByteAt y j b c) where
-  same_context : context x i ≡ context y j
-  same_context = here.1 ∙ sym there.1
-
+module _ (x y : List ℕ) (i j : ℕ) (same_context : context x i ≡ context y j) (end : (i == length x) ≡ (j == length y)) where
   first : (i == 0) ≡ (j == 0)
   first = same_first (i == 0) (slice_index x (i - 1) == 10) (j == 0) (slice_index y (j - 1) == 10) same_context
 
   line : ((i == 0) || (slice_index x (i - 1) == 10)) ≡ ((j == 0) || (slice_index y (j - 1) == 10))
   line = same_line (i == 0) (slice_index x (i - 1) == 10) (j == 0) (slice_index y (j - 1) == 10) same_context
 
-  end : (i == length x) ≡ (j == length y)
-  end = not_end x i b here.0 ∙ sym (not_end y j b there.0)
-
-  pub atom_same : (a : Atom) → atom_passes a x i ≡ atom_passes a y j
+  atom_same : (a : Atom) → atom_passes a x i ≡ atom_passes a y j
   atom_same (Byte k) = refl
   atom_same Any = refl
   atom_same LineStart = line
@@ -68,9 +62,13 @@ module _ (x y : List ℕ) (i j b c : ℕ) (here : IsByteAt x i b c) (there : IsB
   atom_same AreaStart = first
   atom_same AreaEnd = end
 
-  pub passes_same : (t : Test) → passes t x i ≡ passes t y j
-  passes_same (test.One a fold) = atom_same a
-  passes_same (test.Set negated fold low high) = refl
+  pub passes_alike : (t : Test) → passes t x i ≡ passes t y j
+  passes_alike (test.One a fold) = atom_same a
+  passes_alike (test.Set negated fold low high) = refl
+
+module _ (x y : List ℕ) (i j b c : ℕ) (here : IsByteAt x i b c) (there : IsByteAt y j b c) where
+  passes_same : (t : Test) → passes t x i ≡ passes t y j
+  passes_same t = passes_alike x y i j (here.1 ∙ sym there.1) (not_end x i b here.0 ∙ sym (not_end y j b there.0)) t
 
   same_byte : (k : ℕ) → slice_get x i ≡ Some k → slice_get y j ≡ Some k
   same_byte k is = let e : Some b ≡ Some k = sym here.0 ∙ is in there.0 ∙ e
@@ -116,7 +114,7 @@ precedes p exit area i b c next set here after now = λ other j there behind q. 
 )
 
 -- what is read where one item of a list was changed
-put_get : {A : Type 0} (xs : List A) (i k : ℕ) (v t : A) → slice_get (set xs i v) k ≡ Some t → ((k ≡ i) × (t ≡ v)) ⊎ (slice_get xs k ≡ Some t)
+pub put_get : {A : Type 0} (xs : List A) (i k : ℕ) (v t : A) → slice_get (set xs i v) k ≡ Some t → ((k ≡ i) × (t ≡ v)) ⊎ (slice_get xs k ≡ Some t)
 put_get [] i k v t e = inr e
 put_get (x ∷ xs) zero zero v t e = inl (refl, cc)
 put_get (x ∷ xs) zero (suc k) v t e = inr e
@@ -128,11 +126,11 @@ got [] k lt = absurd (omega (arith, lt))
 got (x ∷ xs) zero lt = (x, refl)
 got (x ∷ xs) (suc k) lt = got xs k (omega (arith, lt))
 
-module _ (p : List Step) (exit count : ℕ) (sets : List States) where
+module _ (on : Bool) (p : List Step) (exit count : ℕ) (sets : List States) where
   -- one link more
-  pub linked : (links : List ℕ) (at b c to : ℕ) → at < count → to < count → b < 256 → c < 3 → AreLinks p exit count sets links →
-      ((s r : States) → slice_get sets at ≡ Some s → slice_get sets to ≡ Some r → Precedes p exit b c s.set.items r.set.items) →
-      AreLinks p exit count sets (set links (at * 768 + (c * 256 + b)) to)
+  pub linked : (links : List ℕ) (at b c to : ℕ) → at < count → to < count → b < 256 → c < 3 → AreLinks on p exit count sets links →
+      ((s r : States) → slice_get sets at ≡ Some s → slice_get sets to ≡ Some r → IsNext on p exit b c s.set.items r.set.items) →
+      AreLinks on p exit count sets (set links (at * 768 + (c * 256 + b)) to)
   linked links at b c to is_at is_to low_b low_c old new = λ k d e t low_d low_e is lt. ⊎_elim
       (λ same.
       let i = same.0 in
@@ -141,8 +139,8 @@ module _ (p : List Step) (exit count : ℕ) (sets : List States) where
       let c_same : c ≡ e = omega (arith, i, low_b, low_c, low_d, low_e) in (
         omega (arith, at_same, is_at),
         subst (λ x. x < count) (sym same.1) is_to,
-        λ s r is_s is_r. subst (λ x. Precedes p exit x e s.set.items r.set.items) b_same
-            (subst (λ y. Precedes p exit b y s.set.items r.set.items) c_same
+        λ s r is_s is_r. subst (λ x. IsNext on p exit x e s.set.items r.set.items) b_same
+            (subst (λ y. IsNext on p exit b y s.set.items r.set.items) c_same
             (new s r (subst (λ x. slice_get sets x ≡ Some s) at_same is_s) (subst (λ x. slice_get sets x ≡ Some r) same.1 is_r))),
       ))
       (λ other. old k d e t low_d low_e other lt)
@@ -150,7 +148,7 @@ module _ (p : List Step) (exit count : ℕ) (sets : List States) where
 
   -- sets more
   pub links_kept : (many : ℕ) (more : List States) (links : List ℕ) → count ≤ many → ((v : ℕ) → v < count → slice_get more v ≡ slice_get sets v) →
-      AreLinks p exit count sets links → AreLinks p exit many more links
+      AreLinks on p exit count sets links → AreLinks on p exit many more links
   links_kept many more links le kept old = λ at b c t low_b low_c is lt.
       let h = old at b c t low_b low_c is lt in
       let is_at = h.0 in
@@ -161,8 +159,8 @@ module _ (p : List Step) (exit count : ℕ) (sets : List States) where
       )
 
 -- no link
-pub no_links : (p : List Step) (exit count : ℕ) (sets : List States) (links : List ℕ) → ((k t : ℕ) → slice_get links k ≡ Some t → t ≡ 65535) → AreLinks p exit count sets links
-no_links p exit count sets links none = λ at b c t low_b low_c is lt.
+pub no_links : (on : Bool) (p : List Step) (exit count : ℕ) (sets : List States) (links : List ℕ) → ((k t : ℕ) → slice_get links k ≡ Some t → t ≡ 65535) → AreLinks on p exit count sets links
+no_links on p exit count sets links none = λ at b c t low_b low_c is lt.
     let same = none (at * 768 + (c * 256 + b)) t is in absurd (omega (arith, same, lt))
 
 pub replicate_get : {A : Type 0} (n k : ℕ) (v t : A) → slice_get (replicate n v) k ≡ Some t → t ≡ v
@@ -180,7 +178,7 @@ same_items (false ∷ xs) (false ∷ ys) e = ap (λ t. false ∷ t) (same_items 
 same_items (true ∷ xs) (false ∷ ys) e = cc
 same_items (false ∷ xs) (true ∷ ys) e = cc
 
-set_reads : (bs : List Bool) (q : ℕ) (b : Bool) → q < length bs → slice_get (set bs q b) q ≡ Some b
+pub set_reads : (bs : List Bool) (q : ℕ) (b : Bool) → q < length bs → slice_get (set bs q b) q ≡ Some b
 set_reads [] q b lt = absurd (omega (arith, lt))
 set_reads (x ∷ xs) zero b lt = refl
 set_reads (x ∷ xs) (suc q) b lt = set_reads xs q b (omega (arith, lt))
@@ -191,7 +189,7 @@ set_above (x ∷ xs) q zero b lt = absurd (omega (arith, lt))
 set_above (x ∷ xs) zero (suc k) b lt = refl
 set_above (x ∷ xs) (suc q) (suc k) b lt = set_above xs q k b (omega (arith, lt))
 
-some_same : {a b : Bool} → Some a ≡ Some b → a ≡ b
+pub some_same : {a b : Bool} → Some a ≡ Some b → a ≡ b
 some_same e = cc
 
 -- one mark more, before the others

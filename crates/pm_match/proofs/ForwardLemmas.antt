@@ -9,12 +9,13 @@ use Rattle.pm_match.specs.Automaton.{Edge}
 use Rattle.pm_match.specs.Labels.{Below, Hops, here, hop, Crosses, IsClosed, IsEmpty}
 use Rattle.pm_match.specs.Finding.{Reach}
 use Rattle.pm_match.specs.Search.{IsProgram}
-use Rattle.pm_match.specs.Forward.{IsReachedFrom, AreRunLabels, IsLeastEnd}
+use Rattle.pm_match.specs.Backward.{Holds}
+use Rattle.pm_match.specs.Forward.{IsReachedFrom, AreRunLabels, IsRunSet, IsLeastEnd}
 use Rattle.pm_match.proofs.FindLemmas.{edge_place, reach_after}
 use Rattle.pm_match.proofs.BestLemmas.{at_of, reach_of}
 
 module _ (p : List Step) (area : List ℕ) (entry s : ℕ) where
-  leads_more : (q i r k : ℕ) → IsReachedFrom p area entry s q i → Edge p area q i r k → IsReachedFrom p area entry s r k
+  pub leads_more : (q i r k : ℕ) → IsReachedFrom p area entry s q i → Edge p area q i r k → IsReachedFrom p area entry s r k
   leads_more q i r k h e = record { count = suc h.count; reach = (q, i, h.reach, e) }
 
   hops_lead : (i q r : ℕ) → Hops p area i q r → IsReachedFrom p area entry s q i → IsReachedFrom p area entry s r i
@@ -69,11 +70,11 @@ module _ (g : Program) (e : Re) (fold : Bool) (area : List ℕ) (s : ℕ) (is : 
   leads_of : (j : ℕ) → At fold e area s j → IsReachedFrom g.steps.items area g.entry s g.exit j
   leads_of j at = let r = reach_of fold g.steps.items area e g.entry g.exit is.built s j at in record { count = r.0; reach = r.1 }
 
-  module _ (place : ℕ) (labels : List (Option Label)) (ahead : AreRunLabels g.steps.items area g.entry s place labels)
+  module _ (place : ℕ) (set : List Bool) (ahead : IsRunSet g.steps.items area g.entry s place set)
       (none : (j : ℕ) → j < place → IsReachedFrom g.steps.items area g.entry s g.exit j → ⊥) where
-    pub end_some : (v : ℕ) → Below labels g.exit v → place ≤ length area → IsLeastEnd fold e area s (Some place)
-    end_some v b within =
-        let to = ahead.sound g.exit v b in (
+    pub end_some : Holds set g.exit → place ≤ length area → IsLeastEnd fold e area s (Some place)
+    end_some held within =
+        let to = (ahead.states g.exit).0 held in (
           within,
           at_of fold g.steps.items area e g.entry g.exit is.built is.stop s to.count place to.reach,
           λ k at. (
@@ -81,16 +82,16 @@ module _ (g : Program) (e : Re) (fold : Bool) (area : List ℕ) (s : ℕ) (is : 
               ⊎_elim (λ h. h) (λ less. absurd (none k less (leads_of k at))) choice),
         )
 
-    pub end_none : ((v : ℕ) → Below labels g.exit v → ⊥) → length area ≤ place → IsLeastEnd fold e area s None
+    pub end_none : (Holds set g.exit → ⊥) → length area ≤ place → IsLeastEnd fold e area s None
     end_none not high = λ j within at.
         let to = leads_of j at in
         let choice : (j < place) ⊎ (j ≡ place) = grind (arith, within, high) in
         ⊎_elim
         (λ less. none j less to)
-        (λ here. let b = ahead.whole g.exit to.count (subst (λ k. Reach g.steps.items area g.entry s to.count g.exit k) here to.reach) in not b.0 b.1)
+        (λ here. not ((ahead.states g.exit).1 (subst (λ k. IsReachedFrom g.steps.items area g.entry s g.exit k) here to)))
         choice
 
-pub unmet : (p : List Step) (area : List ℕ) (entry s q j place : ℕ) (labels : List (Option Label)) → j ≡ place → AreRunLabels p area entry s place labels →
-    ((v : ℕ) → Below labels q v → ⊥) → IsReachedFrom p area entry s q j → ⊥
-unmet p area entry s q j place labels now ahead none to =
-    let b = ahead.whole q to.count (subst (λ k. Reach p area entry s to.count q k) now to.reach) in none b.0 b.1
+-- where the set lacks a state no run leads to it
+pub unmet : (p : List Step) (area : List ℕ) (entry s q j place : ℕ) (set : List Bool) → j ≡ place → IsRunSet p area entry s place set →
+    (Holds set q → ⊥) → IsReachedFrom p area entry s q j → ⊥
+unmet p area entry s q j place set now ahead none to = none ((ahead.states q).1 (subst (λ k. IsReachedFrom p area entry s q k) now to))

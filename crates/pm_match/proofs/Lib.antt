@@ -27,4 +27,5 @@ pub mod CountOf
 pub mod BackwardLemmas
 pub mod CacheLemmas
 pub mod ForwardLemmas
+pub mod RunLemmas
 pub mod MarkLemmas

@@ -17,4 +17,5 @@ pub mod Shown
 pub mod Backward
 pub mod Cache
 pub mod Forward
+pub mod Begins
 pub mod Checkpoints

@@ -1,5 +1,5 @@
 -- What a search is for.
-use Rattle.std.specs.Prelude.{◌≡◌, Bool, Some, slice_get, IfSome, ℕ, ◌≤◌}
+use Rattle.std.specs.Prelude.{◌≡◌, Bool, false, Some, slice_get, IfSome, ℕ, ◌≤◌}
 use Rattle.pm_regex.specs.Re.{Re}
 use Rattle.pm_match.specs.declared.step.Step.TheVariants.{Stop}
 use Rattle.pm_match.specs.declared.build.Program.{Program}
@@ -7,6 +7,7 @@ use Rattle.pm_match.specs.declared.search.Search.{Search}
 use Rattle.pm_match.specs.declared.marks.Marks.{Marks}
 use Rattle.pm_match.specs.Automaton.{Built}
 use Rattle.pm_match.specs.Automata.{AreWhole, Fits}
+use Rattle.pm_match.specs.Cache.{AreReady}
 use Rattle.pm_match.specs.Checkpoints.{HasRoom}
 
 -- the automaton stands for the expression
@@ -18,7 +19,8 @@ pub record IsProgram (g : Program) (e : Re) (fold : Bool) : Type 0 where
 pub record Runs (g : Search) (l r : Re) (fold : Bool) : Type 0 where
   pub whole : AreWhole g.automata
   pub room : Fits g.automata g.room
-  pub marks : IfSome g.marks (HasRoom g.automata.left.steps.items g.automata.left.exit)
+  pub marks : IfSome g.marks (HasRoom g.automata.left.steps.items g.automata.left.entry g.automata.left.exit)
+  pub cache : IfSome g.cache (AreReady false g.automata.left.steps.items g.automata.left.exit)
   pub left : IsProgram g.automata.left l fold
   pub right : IsProgram g.automata.right r fold
 

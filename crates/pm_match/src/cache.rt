@@ -1,13 +1,14 @@
 //! A cache of the backward pass. It is a deterministic automaton that reads an area from its end (a lazy DFA): its states
-//! are the sets that the pass has met, and its links are made as they are needed.
-ghost use Rattle.std.specs.Prelude.{◌≡◌, ℕ, ◌+◌, ◌*◌, ◌<◌, ◌≤◌, ◌↔◌, List, Some, IfOk, IsTrue, length, vec_len, slice_get};
+//! are the sets that the pass has met, and its links are made as they are needed. Runs that read on have another one.
+ghost use Rattle.std.specs.Prelude.{◌≡◌, ℕ, ◌+◌, ◌*◌, ◌<◌, ◌≤◌, ◌↔◌, Bool, true, false, List, Some, IfOk, IsTrue, IsFalse};
+ghost use Rattle.std.specs.Prelude.{length, vec_len, slice_get};
 ghost use Rattle.pm_match.specs.declared.step.Step.{Step};
 ghost use Rattle.pm_match.specs.declared.cache.States.{States};
 ghost use Rattle.pm_match.specs.Labels.{InRange};
-ghost use Rattle.pm_match.specs.Backward.{IsExitSet, AreMarks};
-ghost use Rattle.pm_match.specs.Cache.{AreLinks, AreReady, HasSets, IsByteAt, IsNumberOf, Precedes, context};
+ghost use Rattle.pm_match.specs.Backward.{AreMarks, Holds, IsExitSet, ReachesExit};
+ghost use Rattle.pm_match.specs.Cache.{AreLinks, AreReady, HasSets, IsByteAt, IsNext, IsNumberOf, context};
 
-use crate::backward::step_back;
+use crate::backward::{set_at_end, step_back};
 use crate::build::Program;
 use std::alloc::{AllocError, Global};
 
@@ -15,10 +16,13 @@ use std::alloc::{AllocError, Global};
 const MOST: usize = 128;
 
 /// How many links a set has: one for each byte in each context.
-const KEYS: usize = 768;
+pub const KEYS: usize = 768;
 
 /// The link to no set.
-const NONE: u16 = 65535;
+pub const NONE: u16 = 65535;
+
+/// How many times a search for the least start may empty the cache.
+const EMPTIED: usize = 4;
 
 /// A set of states.
 #[derive(Drop)]
@@ -26,13 +30,13 @@ pub struct States {
     pub set: Vec<bool>,
 }
 
-/// The sets that were met, and which of them precedes which.
+/// The sets that were met, and which of them is next to which.
 #[derive(Drop)]
 pub struct Cache {
     pub sets: Vec<States>,
     /// How many of the sets are in use.
     pub count: usize,
-    /// For each set, context and byte the number of the set at the place before.
+    /// For each set, context and byte the number of the set at the next place of the pass.
     pub links: Vec<u16>,
     /// The set that was made last.
     pub made: Vec<bool>,
@@ -52,7 +56,8 @@ fn room_for(reach: usize) -> usize
 
 /// An empty cache for so many states and areas of up to this length.
 pub fn make_cache(alloc: Global, size: usize, reach: usize) -> Result<Cache, AllocError>
-    ensures { IfOk result (λ cache. (p : List Step) (exit : ℕ) → length p ≡ size → AreReady p exit cache) }
+    ensures { IfOk result (λ cache. (on : Bool) (p : List Step) (exit : ℕ) → length p ≡ size
+        → AreReady on p exit cache) }
 {
     let room = room_for(reach);
     let mut sets = Vec::with_capacity(alloc, room)?;
@@ -80,7 +85,7 @@ pub fn copy_set(from: &[bool], to: &mut Vec<bool>)
 }
 
 /// What the place is after: nothing, a newline, or another byte.
-fn context_at(area: &[u8], place: usize) -> usize
+pub fn context_at(area: &[u8], place: usize) -> usize
     requires { place < length area.now }
     ensures is { result ≡ context area.now place }
     ensures few { result < 3 }
@@ -137,8 +142,8 @@ fn put(cache: &mut Cache)
     cache.count = number + 1;
 }
 
-/// Links a set to the one that precedes it.
-fn link(cache: &mut Cache, at: usize, context: usize, byte: u8, to: usize)
+/// Links a set to the one that is next to it.
+pub fn link(cache: &mut Cache, at: usize, context: usize, byte: u8, to: usize)
     requires sets { HasSets cache.old }
     requires at { at < cache.old.count }
     requires to { to < cache.old.count }
@@ -147,43 +152,51 @@ fn link(cache: &mut Cache, at: usize, context: usize, byte: u8, to: usize)
     ensures same { cache.new.sets ≡ cache.old.sets }
     ensures count { cache.new.count ≡ cache.old.count }
     ensures made { cache.new.made ≡ cache.old.made }
-    ensures links { (p : List Step) (exit : ℕ)
-        → AreLinks p exit cache.old.count cache.old.sets.items cache.old.links.items
+    ensures links { (on : Bool) (p : List Step) (exit : ℕ)
+        → AreLinks on p exit cache.old.count cache.old.sets.items cache.old.links.items
         → ((s r : States) → slice_get cache.old.sets.items at ≡ Some s → slice_get cache.old.sets.items to ≡ Some r
-        → Precedes p exit byte context s.set.items r.set.items)
-        → AreLinks p exit cache.new.count cache.new.sets.items cache.new.links.items }
+        → IsNext on p exit byte context s.set.items r.set.items)
+        → AreLinks on p exit cache.new.count cache.new.sets.items cache.new.links.items }
 {
     cache.links[at * KEYS + (context * 256 + byte as usize)] = to as u16;
 }
 
+/// Makes all links lead to no set.
+pub fn empty(links: &mut Vec<u16>)
+    ensures len { vec_len links.new ≡ vec_len links.old }
+    ensures none { (k t : ℕ) → slice_get links.new.items k ≡ Some t → t ≡ 65535 }
+{
+    for index in 0..links.len() {
+        links[index] = NONE;
+    }
+}
+
 /// Empties the cache but for the set that was made last, which becomes the first.
-fn restart(cache: &mut Cache)
+pub fn restart(cache: &mut Cache)
     requires { HasSets cache.old }
     ensures sets { HasSets cache.new }
     ensures len { vec_len cache.new.sets ≡ vec_len cache.old.sets }
     ensures count { cache.new.count ≡ 1 }
     ensures made { cache.new.made ≡ cache.old.made }
-    ensures links { (p : List Step) (exit : ℕ)
-        → AreLinks p exit cache.new.count cache.new.sets.items cache.new.links.items }
+    ensures links { (on : Bool) (p : List Step) (exit : ℕ)
+        → AreLinks on p exit cache.new.count cache.new.sets.items cache.new.links.items }
     ensures is { (s : States) → slice_get cache.new.sets.items 0 ≡ Some s → s.set.items ≡ cache.old.made.items }
 {
-    for index in 0..cache.links.len() {
-        cache.links[index] = NONE;
-    }
+    empty(&mut cache.links);
     cache.count = 0;
     put(cache);
 }
 
 /// The number of the set that was made last, which is taken into use if it is new.
-fn number_of(cache: &mut Cache) -> usize
+pub fn number_of(cache: &mut Cache) -> usize
     requires sets { HasSets cache.old }
     requires spare { cache.old.count < vec_len cache.old.sets }
     ensures sets { HasSets cache.new }
     ensures count { cache.old.count ≤ cache.new.count }
     ensures made { cache.new.made ≡ cache.old.made }
-    ensures links { (p : List Step) (exit : ℕ)
-        → AreLinks p exit cache.old.count cache.old.sets.items cache.old.links.items
-        → AreLinks p exit cache.new.count cache.new.sets.items cache.new.links.items }
+    ensures links { (on : Bool) (p : List Step) (exit : ℕ)
+        → AreLinks on p exit cache.old.count cache.old.sets.items cache.old.links.items
+        → AreLinks on p exit cache.new.count cache.new.sets.items cache.new.links.items }
     ensures in_use { result < cache.new.count }
     ensures is { (s : States) → slice_get cache.new.sets.items result ≡ Some s → s.set.items ≡ cache.old.made.items }
     ensures kept { (v : ℕ) → v < cache.old.count
@@ -206,9 +219,9 @@ fn settle(cache: &mut Cache, number: usize) -> usize
     ensures sets { HasSets cache.new }
     ensures spare { cache.new.count < vec_len cache.new.sets }
     ensures made { cache.new.made ≡ cache.old.made }
-    ensures links { (p : List Step) (exit : ℕ)
-        → AreLinks p exit cache.old.count cache.old.sets.items cache.old.links.items
-        → AreLinks p exit cache.new.count cache.new.sets.items cache.new.links.items }
+    ensures links { (on : Bool) (p : List Step) (exit : ℕ)
+        → AreLinks on p exit cache.old.count cache.old.sets.items cache.old.links.items
+        → AreLinks on p exit cache.new.count cache.new.sets.items cache.new.links.items }
     ensures in_use { result < cache.new.count }
     ensures is { (s : States) → slice_get cache.new.sets.items result ≡ Some s → s.set.items ≡ cache.old.made.items }
 {
@@ -221,9 +234,9 @@ fn settle(cache: &mut Cache, number: usize) -> usize
 
 /// The number of a set.
 pub fn enter(cache: &mut Cache, set: &[bool]) -> usize
-    requires ready { (p : List Step) × (exit : ℕ) × AreReady p exit cache.old }
+    requires ready { (p : List Step) × (exit : ℕ) × AreReady false p exit cache.old }
     requires set { vec_len cache.old.made ≡ length set.now }
-    ensures ready { (p : List Step) (exit : ℕ) → AreReady p exit cache.old → AreReady p exit cache.new }
+    ensures ready { (p : List Step) (exit : ℕ) → AreReady false p exit cache.old → AreReady false p exit cache.new }
     ensures in_use { result < cache.new.count }
     ensures is { (s : States) → slice_get cache.new.sets.items result ≡ Some s → s.set.items ≡ set.now }
 {
@@ -237,9 +250,9 @@ fn meet(cache: &mut Cache, program: &Program, area: &[u8], place: usize, at: usi
     requires program { InRange program.now.steps.items }
     requires exit { program.now.exit < length program.now.steps.items }
     requires place { place < length area.now }
-    requires ready { AreReady program.now.steps.items program.now.exit cache.old }
+    requires ready { AreReady false program.now.steps.items program.now.exit cache.old }
     requires at { IsNumberOf program.now.steps.items area.now program.now.exit (place + 1) cache.old at }
-    ensures ready { AreReady program.now.steps.items program.now.exit cache.new }
+    ensures ready { AreReady false program.now.steps.items program.now.exit cache.new }
     ensures number { IsNumberOf program.now.steps.items area.now program.now.exit place cache.new result }
 {
     step_back(
@@ -260,9 +273,9 @@ fn step(cache: &mut Cache, program: &Program, area: &[u8], place: usize, at: usi
     requires program { InRange program.now.steps.items }
     requires exit { program.now.exit < length program.now.steps.items }
     requires place { place < length area.now }
-    requires ready { AreReady program.now.steps.items program.now.exit cache.old }
+    requires ready { AreReady false program.now.steps.items program.now.exit cache.old }
     requires at { IsNumberOf program.now.steps.items area.now program.now.exit (place + 1) cache.old at }
-    ensures ready { AreReady program.now.steps.items program.now.exit cache.new }
+    ensures ready { AreReady false program.now.steps.items program.now.exit cache.new }
     ensures number { IsNumberOf program.now.steps.items area.now program.now.exit place cache.new result }
 {
     let key = context_at(area, place) * 256 + area[place] as usize;
@@ -271,6 +284,19 @@ fn step(cache: &mut Cache, program: &Program, area: &[u8], place: usize, at: usi
         return link as usize;
     }
     meet(cache, program, area, place, at)
+}
+
+/// Whether a set of this number has the state.
+pub fn has_state(cache: &Cache, at: usize, state: usize) -> bool
+    requires sets { HasSets cache.now }
+    requires at { at < cache.now.count }
+    requires state { state < vec_len cache.now.made }
+    ensures yes { IsTrue result
+        → (s : States) × (slice_get cache.now.sets.items at ≡ Some s) × Holds s.set.items state }
+    ensures no { IsFalse result
+        → (s : States) → slice_get cache.now.sets.items at ≡ Some s → Holds s.set.items state → ⊥ }
+{
+    cache.sets[at].set[state]
 }
 
 /// Marks the places from `low` up to `high` where a run from the entry to the exit begins. The set is that of `high`
@@ -291,10 +317,10 @@ pub fn mark_starts(
     requires high { high ≤ length area.now }
     requires room { high ≤ low + vec_len marks.old }
     requires set { vec_len set.old ≡ length program.now.steps.items }
-    requires ready { AreReady program.now.steps.items program.now.exit cache.old }
+    requires ready { AreReady false program.now.steps.items program.now.exit cache.old }
     requires after { IsExitSet program.now.steps.items area.now program.now.exit high set.old.items }
     ensures set { vec_len set.new ≡ length program.now.steps.items }
-    ensures ready { AreReady program.now.steps.items program.now.exit cache.new }
+    ensures ready { AreReady false program.now.steps.items program.now.exit cache.new }
     ensures marks { vec_len marks.new ≡ vec_len marks.old }
     ensures before { IsExitSet program.now.steps.items area.now program.now.exit low set.new.items }
     ensures marked { AreMarks program.now.steps.items program.now.entry program.now.exit area.now low high marks.new.items }
@@ -307,4 +333,64 @@ pub fn mark_starts(
         marks[place - low] = cache.sets[at].set[program.entry];
     }
     copy_set(&cache.sets[at].set, set);
+}
+
+/// The number of the set of the area's end.
+fn last_number(cache: &mut Cache, program: &Program, area: &[u8]) -> usize
+    requires program { InRange program.now.steps.items }
+    requires exit { program.now.exit < length program.now.steps.items }
+    requires ready { AreReady false program.now.steps.items program.now.exit cache.old }
+    ensures ready { AreReady false program.now.steps.items program.now.exit cache.new }
+    ensures number { IsNumberOf program.now.steps.items area.now program.now.exit (length area.now) cache.new result }
+{
+    set_at_end(program, area, &mut cache.made, &cache.sets[0].set);
+    let number = number_of(cache);
+    settle(cache, number)
+}
+
+/// The place, if a run begins there, and else the least place so far.
+fn lower(is_start: bool, place: usize, least: usize) -> usize
+    ensures yes { IsTrue is_start → result ≡ place }
+    ensures no { IsFalse is_start → result ≡ least }
+{
+    if is_start { place } else { least }
+}
+
+/// How many more times the cache may be emptied, by how many of its sets were in use before a step and after it.
+fn left_after(left: usize, before: usize, after: usize) -> usize {
+    if after < before && left > 0 {
+        left - 1
+    } else {
+        left
+    }
+}
+
+/// A place before which no run from the entry to the exit begins: the least place at which one does, or the area's end.
+///
+/// If the cache is emptied again and again, so that it saves nothing, it is 0.
+pub fn least_start(cache: &mut Cache, program: &Program, area: &[u8]) -> usize
+    requires program { InRange program.now.steps.items }
+    requires entry { program.now.entry < length program.now.steps.items }
+    requires exit { program.now.exit < length program.now.steps.items }
+    requires ready { AreReady false program.now.steps.items program.now.exit cache.old }
+    ensures ready { AreReady false program.now.steps.items program.now.exit cache.new }
+    ensures within { result ≤ length area.now }
+    ensures none { (k : ℕ) → k < result
+        → ReachesExit program.now.steps.items area.now program.now.exit program.now.entry k → ⊥ }
+{
+    let mut at = last_number(cache, program, area);
+    let mut place = area.len();
+    let mut least = place;
+    let mut left = EMPTIED;
+    while place > 0 {
+        if left == 0 {
+            return 0;
+        }
+        place -= 1;
+        let used = cache.count;
+        at = step(cache, program, area, place, at);
+        left = left_after(left, used, cache.count);
+        least = lower(has_state(cache, at, program.entry), place, least);
+    }
+    least
 }

@@ -13,9 +13,6 @@ use crate::search::Search;
 /// How many of the first bytes show whether a search visits most bytes.
 const FIRST: usize = 4096;
 
-/// How many bytes for each state an area must have to pay for the sets of the backward pass.
-const STATE: usize = 1024;
-
 /// Where the search goes on after a match: at its end, or one further if it is empty.
 fn next_place(found: Match) -> usize
     requires { found.start < 2 ^ 64 - 1 }
@@ -58,35 +55,33 @@ fn count_next(search: &mut Search, area: &[u8], from: Progress) -> Progress
     }
 }
 
-/// Whether a count by marks is likely to be the faster one: the area is long beside the automaton, and a search of its first
-/// bytes visits most of them.
-fn is_dense(search: &mut Search, area: &[u8]) -> bool
-    requires { (e : Re) × (fold : Bool) × Runs search.old e nothing fold }
-    ensures { (l r : Re) (fold : Bool) → Runs search.old l r fold → Runs search.new l r fold }
-{
-    if area.len() < FIRST || area.len() / STATE < search.states() {
-        return false;
-    }
-    let _found = search.first(&area[..FIRST], 0);
-    search.visits() > FIRST / 2
-}
-
 /// How many places a count may be expected to visit again: none, or all.
 fn expected(search: &mut Search, area: &[u8]) -> usize
     requires { (e : Re) × (fold : Bool) × Runs search.old e nothing fold }
     ensures { (l r : Re) (fold : Bool) → Runs search.old l r fold → Runs search.new l r fold }
 {
-    if is_dense(search, area) {
+    if search.is_dense(area, FIRST) {
         area.len()
     } else {
         0
     }
 }
 
+/// How many places the last search visited that the next one visits again. If it visited many of those that it went past,
+/// and the area is long beside the automaton, it is all that it visited, four times over: sets cost less for each.
+fn burden(search: &Search, length: usize, before: usize, after: usize) -> usize {
+    let visits = search.visits();
+    if search.is_small(length) && visits > after.saturating_sub(before) / 8 {
+        visits.saturating_mul(4)
+    } else {
+        search.last().saturating_sub(after)
+    }
+}
+
 /// How many matches of the left part there are; the right part is to match nothing.
 ///
-/// A search may have to visit places after its match, and the next one visits them again. Once these are an eighth of the
-/// area's, the rest is counted by marks, if room for them was reserved.
+/// A search may have to visit places after its match, and the next one visits them again. Once these, or what sets would
+/// save, are an eighth of the area's, the rest is counted by marks, if room for them was reserved.
 pub fn count(search: &mut Search, area: &[u8]) -> u64
     requires { (e : Re) × (fold : Bool) × Runs search.old e nothing fold }
     ensures kept { (l r : Re) (fold : Bool) → Runs search.old l r fold → Runs search.new l r fold }
@@ -99,8 +94,9 @@ pub fn count(search: &mut Search, area: &[u8]) -> u64
         if again > area.len() / 8 && search.is_reserved(area.len()) {
             return search.count_on(area, at);
         }
+        let before = at.place;
         at = count_next(search, area, at);
-        again = again.saturating_add(search.last().saturating_sub(at.place));
+        again = again.saturating_add(burden(search, area.len(), before, at.place));
     }
     at.count
 }

@@ -1,6 +1,7 @@
-//! Counting of matches in time that grows with the area alone. A pass from the area's end to its start marks where matches
-//! begin, one window of the area at a time, and each match is run from its own start.
-ghost use Rattle.std.specs.Prelude.{◌≡◌, ℕ, min, ◌+◌, ◌-◌, ◌*◌, ◌^◌, ◌<◌, ◌≤◌, Bool, List, Some, IfOk, IsTrue, length, vec_len, slice_get};
+//! Counting of matches in time that grows with the area alone. A pass from the area's end to its start marks where
+//! matches begin, one window of the area at a time, and each match is run from its own start.
+ghost use Rattle.std.specs.Prelude.{◌≡◌, ℕ, min, ◌+◌, ◌-◌, ◌*◌, ◌^◌, ◌<◌, ◌≤◌, Bool, List, Some, IfOk, IsTrue};
+ghost use Rattle.std.specs.Prelude.{length, vec_len, slice_get};
 ghost use Rattle.pm_regex.specs.Re.{Re};
 ghost use Rattle.pm_match.specs.declared.engine.Found.{Found};
 ghost use Rattle.pm_match.specs.declared.step.Step.{Step};
@@ -9,18 +10,18 @@ ghost use Rattle.pm_match.specs.Search.{IsProgram};
 ghost use Rattle.pm_match.specs.Found.{IsRun, place_behind};
 ghost use Rattle.pm_match.specs.Backward.{ReachesExit, IsExitSet, AreMarks};
 ghost use Rattle.pm_match.specs.Checkpoints.{AreCheckpoints, HasRoom, CountsTo};
+ghost use Rattle.pm_match.specs.Begins.{AreRuns};
 
 use crate::backward::set_at_end;
 use crate::build::Program;
 use crate::cache::{Cache, States, copy_set, make_cache, mark_starts};
-use crate::forward::least_end;
-use crate::labels::Labels;
+use crate::forward::{Forward, least_end, make_forward};
 use std::alloc::{AllocError, Global};
 
 /// How many places a window has.
 const WINDOW: usize = 65536;
 
-/// Room for the marks of a window, for the sets of states at two places, and for those at the start of each window.
+/// Room for the marks of a window, for the sets of states at two places and at the start of each window, and for runs.
 #[derive(Drop)]
 pub struct Marks {
     /// How long an area may be.
@@ -29,6 +30,7 @@ pub struct Marks {
     pub window: Vec<bool>,
     pub checkpoints: Vec<States>,
     pub cache: Cache,
+    pub forward: Forward,
 }
 
 /// How many places are marked at a time in an area of this length.
@@ -40,7 +42,8 @@ fn window_of(reach: usize) -> usize
 
 /// Room for so many states and an area of up to this length.
 pub fn make_marks(alloc: Global, size: usize, reach: usize) -> Result<Marks, AllocError>
-    ensures room { IfOk result (λ marks. (p : List Step) (exit : ℕ) → length p ≡ size → HasRoom p exit marks) }
+    ensures room { IfOk result (λ marks. (p : List Step) (entry exit : ℕ) → length p ≡ size
+        → HasRoom p entry exit marks) }
     ensures reach { IfOk result (λ marks. marks.reach ≡ reach) }
 {
     let set = vec![in alloc; false; size]?;
@@ -52,12 +55,14 @@ pub fn make_marks(alloc: Global, size: usize, reach: usize) -> Result<Marks, All
         checkpoints.push(States { set })?;
     }
     let cache = make_cache(alloc, size, reach)?;
+    let forward = make_forward(alloc, size, reach)?;
     Ok(Marks {
         reach,
         set,
         window,
         checkpoints,
         cache,
+        forward,
     })
 }
 
@@ -79,8 +84,7 @@ pub struct Progress {
 /// Goes on from a place of a window: after the match that begins there, or by one place if none does.
 fn count_at(
     program: &Program,
-    labels: &mut Labels,
-    next: &mut Labels,
+    forward: &mut Forward,
     area: &[u8],
     is_marked: bool,
     from: Progress,
@@ -88,18 +92,18 @@ fn count_at(
     requires program { InRange program.now.steps.items }
     requires entry { program.now.entry < length program.now.steps.items }
     requires exit { program.now.exit < length program.now.steps.items }
-    requires labels { vec_len labels.old.of ≡ length program.now.steps.items }
-    requires next { vec_len next.old.of ≡ length program.now.steps.items }
+    requires forward { AreRuns program.now.steps.items program.now.entry forward.old }
     requires few { from.count ≤ from.place }
     requires within { from.place < length area.now }
-    requires marked { ReachesExit program.now.steps.items area.now program.now.exit program.now.entry from.place → IsTrue is_marked }
-    ensures labels { vec_len labels.new.of ≡ length program.now.steps.items }
-    ensures next { vec_len next.new.of ≡ length program.now.steps.items }
+    requires marked { ReachesExit program.now.steps.items area.now program.now.exit program.now.entry from.place
+        → IsTrue is_marked }
+    ensures forward { AreRuns program.now.steps.items program.now.entry forward.new }
     ensures after { from.place < result.place }
     ensures few { result.count ≤ result.place }
     ensures within { result.place ≤ length area.now }
     ensures counted { (e : Re) (fold : Bool) (start : ℕ) → IsProgram program.now e fold
-        → CountsTo fold e area.now start from.count from.place → CountsTo fold e area.now start result.count result.place }
+        → CountsTo fold e area.now start from.count from.place
+        → CountsTo fold e area.now start result.count result.place }
 {
     let past = Progress {
         count: from.count,
@@ -108,7 +112,7 @@ fn count_at(
     if !is_marked {
         return past;
     }
-    match least_end(program, labels, next, area, from.place) {
+    match least_end(program, forward, area, from.place) {
         None => past,
         Some(end) => Progress {
             count: from.count + 1,
@@ -120,8 +124,7 @@ fn count_at(
 /// Counts the matches that begin in a window, from a place on.
 fn count_window(
     program: &Program,
-    labels: &mut Labels,
-    next: &mut Labels,
+    forward: &mut Forward,
     area: &[u8],
     window: &[bool],
     low: usize,
@@ -131,8 +134,7 @@ fn count_window(
     requires program { InRange program.now.steps.items }
     requires entry { program.now.entry < length program.now.steps.items }
     requires exit { program.now.exit < length program.now.steps.items }
-    requires labels { vec_len labels.old.of ≡ length program.now.steps.items }
-    requires next { vec_len next.old.of ≡ length program.now.steps.items }
+    requires forward { AreRuns program.now.steps.items program.now.entry forward.old }
     requires low { low ≤ high }
     requires high { high ≤ length area.now }
     requires room { high ≤ low + length window.now }
@@ -140,18 +142,18 @@ fn count_window(
     requires few { from.count ≤ from.place }
     requires within { from.place ≤ length area.now }
     requires marked { AreMarks program.now.steps.items program.now.entry program.now.exit area.now low high window.now }
-    ensures labels { vec_len labels.new.of ≡ length program.now.steps.items }
-    ensures next { vec_len next.new.of ≡ length program.now.steps.items }
+    ensures forward { AreRuns program.now.steps.items program.now.entry forward.new }
     ensures after { high ≤ result.place }
     ensures few { result.count ≤ result.place }
     ensures within { result.place ≤ length area.now }
     ensures counted { (e : Re) (fold : Bool) (start : ℕ) → IsProgram program.now e fold
-        → CountsTo fold e area.now start from.count from.place → CountsTo fold e area.now start result.count result.place }
+        → CountsTo fold e area.now start from.count from.place
+        → CountsTo fold e area.now start result.count result.place }
 {
     let mut at = from;
     while at.place < high {
         let is_marked = window[at.place - low];
-        at = count_at(program, labels, next, area, is_marked, at);
+        at = count_at(program, forward, area, is_marked, at);
     }
     at
 }
@@ -161,10 +163,10 @@ fn keep_checkpoints(program: &Program, area: &[u8], marks: &mut Marks)
     requires program { InRange program.now.steps.items }
     requires entry { program.now.entry < length program.now.steps.items }
     requires exit { program.now.exit < length program.now.steps.items }
-    requires room { HasRoom program.now.steps.items program.now.exit marks.old }
+    requires room { HasRoom program.now.steps.items program.now.entry program.now.exit marks.old }
     requires some { 0 < length area.now }
     requires short { length area.now ≤ marks.old.reach }
-    ensures room { HasRoom program.now.steps.items program.now.exit marks.new }
+    ensures room { HasRoom program.now.steps.items program.now.entry program.now.exit marks.new }
     ensures reach { marks.new.reach ≡ marks.old.reach }
     ensures kept { AreCheckpoints program.now.steps.items area.now program.now.exit 1 marks.new.checkpoints.items }
 {
@@ -192,11 +194,11 @@ fn keep_checkpoints(program: &Program, area: &[u8], marks: &mut Marks)
 fn set_after_window(program: &Program, area: &[u8], marks: &mut Marks, index: usize) -> usize
     requires program { InRange program.now.steps.items }
     requires exit { program.now.exit < length program.now.steps.items }
-    requires room { HasRoom program.now.steps.items program.now.exit marks.old }
+    requires room { HasRoom program.now.steps.items program.now.entry program.now.exit marks.old }
     requires kept { AreCheckpoints program.now.steps.items area.now program.now.exit 1 marks.old.checkpoints.items }
     requires short { length area.now ≤ marks.old.reach }
     requires index { index * 65536 < length area.now }
-    ensures room { HasRoom program.now.steps.items program.now.exit marks.new }
+    ensures room { HasRoom program.now.steps.items program.now.entry program.now.exit marks.new }
     ensures reach { marks.new.reach ≡ marks.old.reach }
     ensures kept { AreCheckpoints program.now.steps.items area.now program.now.exit 1 marks.new.checkpoints.items }
     ensures after { index * 65536 < result }
@@ -220,11 +222,11 @@ fn mark_window(program: &Program, area: &[u8], marks: &mut Marks, index: usize) 
     requires program { InRange program.now.steps.items }
     requires entry { program.now.entry < length program.now.steps.items }
     requires exit { program.now.exit < length program.now.steps.items }
-    requires room { HasRoom program.now.steps.items program.now.exit marks.old }
+    requires room { HasRoom program.now.steps.items program.now.entry program.now.exit marks.old }
     requires kept { AreCheckpoints program.now.steps.items area.now program.now.exit 1 marks.old.checkpoints.items }
     requires short { length area.now ≤ marks.old.reach }
     requires index { index * 65536 < length area.now }
-    ensures room { HasRoom program.now.steps.items program.now.exit marks.new }
+    ensures room { HasRoom program.now.steps.items program.now.entry program.now.exit marks.new }
     ensures reach { marks.new.reach ≡ marks.old.reach }
     ensures kept { AreCheckpoints program.now.steps.items area.now program.now.exit 1 marks.new.checkpoints.items }
     ensures after { index * 65536 < result }
@@ -248,29 +250,19 @@ fn mark_window(program: &Program, area: &[u8], marks: &mut Marks, index: usize) 
 }
 
 /// How many matches there are; those before the place are counted already.
-pub fn count_marked(
-    program: &Program,
-    labels: &mut Labels,
-    next: &mut Labels,
-    marks: &mut Marks,
-    area: &[u8],
-    from: Progress,
-) -> u64
+pub fn count_marked(program: &Program, marks: &mut Marks, area: &[u8], from: Progress) -> u64
     requires program { InRange program.now.steps.items }
     requires entry { program.now.entry < length program.now.steps.items }
     requires exit { program.now.exit < length program.now.steps.items }
-    requires labels { vec_len labels.old.of ≡ length program.now.steps.items }
-    requires next { vec_len next.old.of ≡ length program.now.steps.items }
-    requires room { HasRoom program.now.steps.items program.now.exit marks.old }
+    requires room { HasRoom program.now.steps.items program.now.entry program.now.exit marks.old }
     requires few { from.count ≤ from.place }
     requires within { from.place ≤ length area.now }
     requires short { length area.now ≤ marks.old.reach }
-    ensures labels { vec_len labels.new.of ≡ length program.now.steps.items }
-    ensures next { vec_len next.new.of ≡ length program.now.steps.items }
-    ensures room { HasRoom program.now.steps.items program.now.exit marks.new }
+    ensures room { HasRoom program.now.steps.items program.now.entry program.now.exit marks.new }
     ensures reach { marks.new.reach ≡ marks.old.reach }
     ensures counted { (e : Re) (fold : Bool) → IsProgram program.now e fold
-        → CountsTo fold e area.now 0 from.count from.place → (ms : List Found) × IsRun fold e area.now 0 ms × (result ≡ length ms) }
+        → CountsTo fold e area.now 0 from.count from.place
+        → (ms : List Found) × IsRun fold e area.now 0 ms × (result ≡ length ms) }
 {
     let mut at = from;
     if area.is_empty() {
@@ -282,8 +274,7 @@ pub fn count_marked(
         let high = mark_window(program, area, marks, index);
         at = count_window(
             program,
-            labels,
-            next,
+            &mut marks.forward,
             area,
             &marks.window,
             index * WINDOW,

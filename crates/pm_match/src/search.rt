@@ -1,10 +1,12 @@
 //! A search for two expressions, one after the other.
-ghost use Rattle.std.specs.Prelude.{◌<◌, length};
+ghost use Rattle.std.specs.Prelude.{◌<◌, false, IfSome, length};
 ghost use Rattle.pm_match.specs.Labels.{InRange};
 ghost use Rattle.pm_match.specs.Starts.{AreStarts};
+ghost use Rattle.pm_match.specs.Cache.{AreReady};
 
 use crate::automata::{Automata, Room};
 use crate::build::{Program, build};
+use crate::cache::{Cache, least_start, make_cache};
 use crate::find::{Match, find};
 use crate::labels::no_labels;
 use crate::marks::{Marks, Progress, count_marked, make_marks};
@@ -19,6 +21,18 @@ const LONG: usize = 256;
 
 /// How long an area is if the tables of later bytes, and rows, save more than it takes to make them.
 const VERY_LONG: usize = 16384;
+
+/// How long an area is if a pass from its end may save more than it takes.
+const LARGE: usize = 65536;
+
+/// How many of its first bytes show whether it does.
+const SAMPLE: usize = 1024;
+
+/// How many bytes for each state an area must have to pay for sets of states.
+const STATE: usize = 1024;
+
+/// The length of areas that the cache of a search for the first match has room for sets by.
+const REACH: usize = 16384;
 
 /// Whether tables are still to be made.
 fn is_needed(starts: &Option<Starts>, size: usize) -> bool {
@@ -47,6 +61,16 @@ fn tables(alloc: Global, program: &Program, is_very_long: bool) -> Option<Starts
     }
 }
 
+/// An empty cache for passes from the end. Where there is no memory for it the search goes on without.
+fn spare_cache(alloc: Global, program: &Program) -> Option<Cache>
+    ensures { IfSome result (AreReady false program.now.steps.items program.now.exit) }
+{
+    match make_cache(alloc, program.steps.len(), REACH) {
+        Err(_) => None,
+        Ok(cache) => Some(cache),
+    }
+}
+
 /// Two automata, and the room to search by them.
 #[derive(Drop)]
 pub struct Search {
@@ -55,13 +79,15 @@ pub struct Search {
     room: Room,
     /// Room to count by marks, once it was asked for.
     marks: Option<Marks>,
+    /// Sets for a pass from the end, once one was worth it.
+    cache: Option<Cache>,
 }
 
 impl Search {
-    ghost use Rattle.std.specs.Prelude.{◌≡◌, ◌≤◌, Bool, List, IfOk, IsTrue, length};
+    ghost use Rattle.std.specs.Prelude.{◌≡◌, ◌≤◌, ℕ, Bool, List, IfOk, IsTrue, length};
     ghost use Rattle.pm_regex.specs.Re.{Re, nothing};
     ghost use Rattle.pm_match.specs.declared.engine.Found.{Found};
-    ghost use Rattle.pm_match.specs.Found.{IsRun};
+    ghost use Rattle.pm_match.specs.Found.{IsMatch, IsRun};
     ghost use Rattle.pm_match.specs.Checkpoints.{CountsTo};
     ghost use Rattle.pm_regex.specs.Postfix.{Spells};
     ghost use Rattle.pm_match.specs.Search.{Runs, IsReserved};
@@ -97,6 +123,7 @@ impl Search {
             automata,
             room,
             marks: None,
+            cache: None,
         })
     }
 
@@ -120,6 +147,75 @@ impl Search {
     {
         self.prepare(area);
         find(&self.automata, &mut self.room, area, from)
+    }
+
+    /// Whether a pass over sets of states is likely to be faster than a search by labels: the area is long beside the
+    /// automaton, and a search of so many of its first bytes visits most of them.
+    pub fn is_dense(&mut self, area: &[u8], first: usize) -> bool
+        requires { (l : Re) × (r : Re) × (fold : Bool) × Runs self.old l r fold }
+        ensures { (l r : Re) (fold : Bool) → Runs self.old l r fold → Runs self.new l r fold }
+    {
+        if area.len() < first || !self.is_small(area.len()) {
+            return false;
+        }
+        self.prepare(area);
+        let _found = self.first(&area[..first], 0);
+        self.visits() > first / 2
+    }
+
+    /// Whether a pass from the end is worth it: a search by labels visits most bytes, and ends in none of the first ones.
+    /// So the pass costs little beside a search that ends early.
+    fn is_worth(&mut self, area: &[u8]) -> bool
+        requires { (l : Re) × (r : Re) × (fold : Bool) × Runs self.old l r fold }
+        ensures { (l r : Re) (fold : Bool) → Runs self.old l r fold → Runs self.new l r fold }
+    {
+        if area.len() < LARGE {
+            return false;
+        }
+        if !self.is_dense(area, SAMPLE) {
+            return false;
+        }
+        let first = area.len() / 32;
+        let _found = self.first(&area[..first], 0);
+        self.room.last >= first
+    }
+
+    /// Makes the sets for a pass from the end.
+    fn prepare_cache(&mut self)
+        requires { (l : Re) × (r : Re) × (fold : Bool) × Runs self.old l r fold }
+        ensures { (l r : Re) (fold : Bool) → Runs self.old l r fold → Runs self.new l r fold }
+    {
+        if self.cache.is_none() {
+            self.cache = spare_cache(self.alloc, &self.automata.left);
+        }
+    }
+
+    /// A place before which no match begins.
+    fn before_all(&mut self, area: &[u8]) -> usize
+        requires { (l : Re) × (r : Re) × (fold : Bool) × Runs self.old l r fold }
+        ensures kept { (l r : Re) (fold : Bool) → Runs self.old l r fold → Runs self.new l r fold }
+        ensures within { result ≤ length area.now }
+        ensures none { (l r : Re) (fold : Bool) → Runs self.old l r fold
+            → (s c j : ℕ) → IsMatch fold l r area.now 0 s c j → result ≤ s }
+    {
+        match &mut self.cache {
+            None => 0,
+            Some(cache) => least_start(cache, &self.automata.left, area),
+        }
+    }
+
+    /// The first match in the area.
+    pub fn first_of_all(&mut self, area: &[u8]) -> Option<Match>
+        requires { (l : Re) × (r : Re) × (fold : Bool) × Runs self.old l r fold }
+        ensures kept { (l r : Re) (fold : Bool) → Runs self.old l r fold → Runs self.new l r fold }
+        ensures first { (l r : Re) (fold : Bool) → Runs self.old l r fold → IsFirst fold l r area.now 0 result }
+    {
+        if !self.is_worth(area) {
+            return self.first(area, 0);
+        }
+        self.prepare_cache();
+        let from = self.before_all(area);
+        self.first(area, from)
     }
 
     /// Whether there is room to count by marks in an area of this length.
@@ -157,14 +253,7 @@ impl Search {
     {
         match &mut self.marks {
             None => from.count,
-            Some(marks) => count_marked(
-                &self.automata.left,
-                &mut self.room.left,
-                &mut self.room.left_next,
-                marks,
-                area,
-                from,
-            ),
+            Some(marks) => count_marked(&self.automata.left, marks, area, from),
         }
     }
 
@@ -178,8 +267,8 @@ impl Search {
         self.room.visits
     }
 
-    /// How many states the automaton of the left part has.
-    pub fn states(&self) -> usize {
-        self.automata.left.steps.len()
+    /// Whether the automaton of the left part is small beside an area of this length, so that sets of its states pay.
+    pub fn is_small(&self, length: usize) -> bool {
+        length / STATE >= self.automata.left.steps.len()
     }
 }

@@ -13,7 +13,7 @@ loop-preserved c = record {
 }
 
 pub returns : goal.returns
-returns c = λ p exit len. record {
+returns c = λ on p exit len. record {
   sets = record {
     sets = subst (λ n. AreSets n c.loop.sets.items) (sym c.in_ok-made.ensures.len) c.loop.invariant.sets;
     links = omega (arith, c.in_ok-links.ensures.len, c.loop.invariant.many, c.loop-test.false, c.loop.auto.counter-end);
@@ -23,7 +23,7 @@ returns c = λ p exit len. record {
   };
   spare = omega (arith, c.loop.invariant.many, c.loop-test.false, c.room_for-room.ensures.many);
   made = c.in_ok-made.ensures.len ∙ sym len;
-  links = no_links p exit 0 c.loop.sets.items c.in_ok-links.links.items (λ k t is.
+  links = no_links on p exit 0 c.loop.sets.items c.in_ok-links.links.items (λ k t is.
       let same = c.in_ok-links.ensures.items_if_clones_equal (λ y e. e) in
       replicate_get (c.room_for-room.result * 768) k 65535 t (subst (λ xs. slice_get xs k ≡ Some t) same is));
 }

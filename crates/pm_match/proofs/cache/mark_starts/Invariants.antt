@@ -1,4 +1,4 @@
-use Rattle.std.proofs.Common.{◌≡◌, ℕ, ◌+◌, ◌<◌, ◌≤◌, ◌↔◌, vec_len}
+use Rattle.std.proofs.Common.{◌≡◌, false, ℕ, ◌+◌, ◌<◌, ◌≤◌, ◌↔◌, vec_len}
 use Rattle.pm_match.specs.Backward.{Holds, ReachesExit}
 use Rattle.pm_match.specs.Cache.{AreReady, IsNumberOf}
 use Rattle.pm_match.proofs.cache.mark_starts.Given as goal
@@ -11,7 +11,7 @@ invariant-loop-place l = record {
   above : l.low ≤ l.place;
   below : l.place ≤ l.high;
   len : vec_len l.marks ≡ vec_len l.initial.marks;
-  ready : AreReady l.program.steps.items l.program.exit l.cache;
+  ready : AreReady false l.program.steps.items l.program.exit l.cache;
   at : IsNumberOf l.program.steps.items l.area l.program.exit l.place l.cache l.at;
   marked : (k : ℕ) → l.place ≤ l.low + k → l.low + k < l.high → Holds l.marks.items k ↔ ReachesExit l.program.steps.items l.area l.program.exit l.program.entry (l.low + k);
 }

@@ -1,4 +1,4 @@
 use Rattle.pm_match.proofs.cache.settle.Goals as goal
 
 pub returns-clause-links : goal.returns-clause-links
-returns-clause-links c = λ p exit old. c.restart.ensures.links p exit
+returns-clause-links c = λ on p exit old. c.restart.ensures.links on p exit

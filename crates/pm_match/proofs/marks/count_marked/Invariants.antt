@@ -1,4 +1,4 @@
-use Rattle.std.proofs.Common.{◌≡◌, ◌+◌, ◌-◌, ◌*◌, ◌<◌, ◌≤◌, Bool, length, vec_len}
+use Rattle.std.proofs.Common.{◌≡◌, ◌+◌, ◌-◌, ◌*◌, ◌<◌, ◌≤◌, Bool, length}
 use Rattle.pm_regex.specs.Re.{Re}
 use Rattle.pm_match.specs.Search.{IsProgram}
 use Rattle.pm_match.specs.Checkpoints.{AreCheckpoints, HasRoom, CountsTo}
@@ -9,10 +9,8 @@ decreases-loop-index l = length l.area - l.index * 65536
 
 abbrev pub invariant-loop-index : goal.invariant-loop-index
 invariant-loop-index l = record {
-  room : HasRoom l.program.steps.items l.program.exit l.marks;
+  room : HasRoom l.program.steps.items l.program.entry l.program.exit l.marks;
   kept : AreCheckpoints l.program.steps.items l.area l.program.exit 1 l.marks.checkpoints.items;
-  labels : vec_len l.labels.of ≡ length l.program.steps.items;
-  next : vec_len l.next.of ≡ length l.program.steps.items;
   few : l.at.count ≤ l.at.place;
   within : l.at.place ≤ length l.area;
   reach : l.marks.reach ≡ l.initial.marks.reach;

@@ -1,7 +1,8 @@
-use Rattle.std.proofs.Common.{◌≡◌, ℕ, ◌-◌, ◌≤◌, Bool, length, vec_len}
+use Rattle.std.proofs.Common.{ℕ, ◌-◌, ◌≤◌, Bool, length}
 use Rattle.pm_regex.specs.Re.{Re}
 use Rattle.pm_match.specs.Search.{IsProgram}
 use Rattle.pm_match.specs.Checkpoints.{CountsTo}
+use Rattle.pm_match.specs.Begins.{AreRuns}
 use Rattle.pm_match.proofs.marks.count_window.Given as goal
 
 abbrev pub decreases-loop-at : goal.decreases-loop-at
@@ -9,8 +10,7 @@ decreases-loop-at l = length l.area - l.at.place
 
 abbrev pub invariant-loop-at : goal.invariant-loop-at
 invariant-loop-at l = record {
-  labels : vec_len l.labels.of ≡ length l.program.steps.items;
-  next : vec_len l.next.of ≡ length l.program.steps.items;
+  forward : AreRuns l.program.steps.items l.program.entry l.forward;
   after : l.low ≤ l.at.place;
   few : l.at.count ≤ l.at.place;
   within : l.at.place ≤ length l.area;

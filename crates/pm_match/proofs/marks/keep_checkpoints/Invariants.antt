@@ -8,7 +8,7 @@ decreases-loop-index l = l.index
 
 abbrev pub invariant-loop-index : goal.invariant-loop-index
 invariant-loop-index l = record {
-  room : HasRoom l.program.steps.items l.program.exit l.marks;
+  room : HasRoom l.program.steps.items l.program.entry l.program.exit l.marks;
   reach : l.marks.reach ≡ l.initial.marks.reach;
   low : l.index * 65536 < l.high;
   high : l.high ≤ l.index * 65536 + 65536;

@@ -23,6 +23,7 @@ returns c = λ l r a b.
         right_next = omega (arith, c.in_ok-right_next.ensures.len, c.len-4.ensures, c.in_ok-right.right.steps.ok.0);
       };
       marks = tt;
+      cache = tt;
       left = record { stop = c.in_ok-left.ensures.exit; built = c.in_ok-left.ensures.built l a };
       right = record { stop = c.in_ok-right.ensures.exit; built = c.in_ok-right.ensures.built r b };
     }
