@@ -33,7 +33,7 @@ fn space_of(bytes: usize, ids: &[Option<Blob>]) -> Option<usize>
 }
 
 /// Takes the memory in which mails with these identifiers are marked by a cache of at most so many bytes.
-pub fn reserve(alloc: Global, bytes: usize, ids: &[Option<Blob>]) -> Result<Room, Memory>
+pub fn make_room(alloc: Global, bytes: usize, ids: &[Option<Blob>]) -> Result<Room, Memory>
     ensures { IfOk result (λ room. HasRoom bytes ids.now room) }
 {
     let size = space_of(bytes, ids).ok_or(Memory)?;

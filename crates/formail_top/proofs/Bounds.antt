@@ -11,7 +11,7 @@ use Rattle.formail_edit.specs.declared.edits.PutKind.{PutKind}
 use Rattle.formail_edit.specs.declared.edits.PutKind.TheVariants.{Old, Replace, IfNone, Always}
 use Rattle.formail_top.specs.Asked.{nothing, asked, is_sound, request_of, request_in, request_for}
 use Rattle.formail_top.specs.Outputs.{id_of, ids_of}
-use Rattle.formail_top.specs.Words.{is_folded, is_put, put_for, take_for, unique_for, setting_for, rename_for, usable_name, bound_in, bound_for, cache_of, cache_at, cache_named, cache_for, setting_for_both, setting_of, takes_text, takes_more, Words, waiting, with_setting, with_text, with_rest, with_split, letters, number_for, with_total, with_skip, behind_minus, group, program_for, argument_for, one_word, then_word, closed, settings_of}
+use Rattle.formail_top.specs.Words.{is_folded, is_put, put_for, take_for, unique_for, setting_for, rename_for, usable_name, bound_in, bound_for, cache_of, cache_named, cache_for, setting_for_both, setting_of, takes_text, takes_more, Words, waiting, with_setting, with_text, with_rest, with_split, letters, number_for, with_total, with_skip, behind_minus, group, program_for, argument_for, one_word, then_word, closed, settings_of}
 use Rattle.pm_bytes.specs.Letter.{is_digit_byte}
 use Rattle.pm_bytes.specs.Number.{count_of}
 use Rattle.formail_top.specs.declared.request.Request.{Request}
@@ -90,17 +90,13 @@ if_small false x h = tt
 text_small : (text : List ℕ) → IfSmall (bound_for text)
 text_small text = if_small (nat_le (length text) 7) (option_and_then bound_in (count_of text)) (then_small (count_of text))
 
-cache_within : (most : ℕ) (name : List ℕ) (lock : Option (List ℕ)) → most ≤ 1048576 → IfBound (option_map (cache_of most name) lock)
-cache_within most name None h = tt
-cache_within most name (Some lock) h = h
-
-named_within : (most : ℕ) (name : Option (List ℕ)) → most ≤ 1048576 → IfBound (option_and_then (cache_at most) name)
+named_within : (most : ℕ) (name : Option (List ℕ)) → most ≤ 1048576 → IfBound (option_map (cache_of most) name)
 named_within most None h = tt
-named_within most (Some name) h = cache_within most name (usable_name (name ++ codes ".lock")) h
+named_within most (Some name) h = h
 
 cache_named_within : (most : ℕ) (name : List ℕ) → most ≤ 1048576 → IfBound (cache_named most name)
 cache_named_within most name h =
-    if_both (nat_lt 0 (length name)) (option_and_then (cache_at most) (usable_name name)) None (named_within most (usable_name name) h) tt
+    if_both (nat_lt 0 (length name)) (option_map (cache_of most) (usable_name name)) None (named_within most (usable_name name) h) tt
 
 cache_bound : (most : Option ℕ) (name : List ℕ) → IfSmall most → IfBound (option_and_then (λ bound. cache_named bound name) most)
 cache_bound None name h = tt

@@ -8,19 +8,19 @@ use Rattle.pm_host.specs.declared.command.Command.{Command}
 use Rattle.pm_streams.specs.Writing.{IsShort}
 use Rattle.pm_streams.specs.declared.writing.WriteEnd.{WriteEnd}
 use Rattle.pm_streams.specs.declared.writing.WriteEnd.TheVariants.{Wrote, Short}
-use Rattle.formail_cache.proofs.Faults.{failed_rose, steps_later}
-use Rattle.formail_cache.specs.Stepping.{Steps}
-use Rattle.formail_cache.specs.declared.stepping.Cache.{Cache}
-use Rattle.formail_cache.specs.declared.stepping.CacheEnd.{CacheEnd}
-use Rattle.formail_cache.specs.declared.stepping.CacheEnd.TheVariants.{Kept, Busy, IsFolder, Failed as CacheFailed, Raced}
+use Rattle.formail_extra.proofs.Faults.{failed_rose, steps_later}
+use Rattle.formail_extra.specs.Stepping.{cache_at}
+use Rattle.formail_extra.specs.declared.stepping.CacheEnd.{CacheEnd}
+use Rattle.formail_extra.specs.declared.stepping.CacheEnd.TheVariants.{Kept, Busy, IsFolder, Failed as CacheFailed, Memory, Raced}
 use Rattle.formail_split.specs.Feeding.{FeedsEach}
 use Rattle.formail_split.specs.Laws.{FailuresHaveCalls}
 use Rattle.formail_split.specs.declared.feeding.Outcome.{Outcome}
 use Rattle.formail_split.specs.declared.feeding.Outcome.TheVariants.{Fine, Amiss, Failed}
 use Rattle.formail_top.specs.Laws.{SomeRose}
 use Rattle.formail_top.specs.Outputs.{mails_of, wants_moment, each_output_of, ids_of, kept_of}
-use Rattle.formail_top.specs.Run.{AsksIf, Seen, IsWriteStatus, Feeds, feed_status, command_for, Puts, PutsKept, AfterStep, Treats, Ended, unread, too_long, lost, memory, put}
+use Rattle.formail_top.specs.Run.{AsksIf, Seen, IsWriteStatus, Feeds, feed_status, command_for, Puts, PutsKept, AfterStep, StepsWith, Treats, Ended, unread, too_long, lost, memory, put}
 use Rattle.formail_top.specs.declared.request.Request.{Request}
+use Rattle.formail_top.specs.declared.settings.Cache.{Cache}
 
 rose_behind : (a b c : ℕ) → a ≤ b → Rose b c → Rose a c
 rose_behind a b c later rose = omega arith
@@ -67,17 +67,18 @@ kept_rose law false kept request vars mails a b x y stops =
     let small = marked_small (list_any (λ keep. keep) kept) 74 stops.0 in absurd (omega (arith, small))
 
 step_rose : FailuresHaveCalls → (cache : Cache) (request : Request) (vars : List Pair) (mails : List (List ℕ)) (end : CacheEnd) (a m b : HostView) (x y : StreamView)
-    → Steps cache (ids_of request mails) end a m → AfterStep end request vars mails 74 m b x y → EitherRose a b x y
+    → StepsWith cache (ids_of request mails) end a m → AfterStep end request vars mails 74 m b x y → EitherRose a b x y
 step_rose law cache request vars mails (Kept kept) a m b x y steps puts =
     elim (kept_rose law request.split kept request vars mails m b x y puts) [
-      | inl host ↦ inl (rose_behind a.faults m.faults b.faults (steps_later cache (ids_of request mails) (Kept kept) a m steps) host)
+      | inl host ↦ inl (rose_behind a.faults m.faults b.faults (steps_later (cache_at cache.name cache.most) (ids_of request mails) (Kept kept) a m steps) host)
       | inr out ↦ inr out
     ]
 step_rose law cache request vars mails Busy a m b x y steps stops = let e : 74 ≡ 73 = stops.0 in absurd (omega (arith, e))
 step_rose law cache request vars mails IsFolder a m b x y steps stops = let e : 74 ≡ 73 = stops.0 in absurd (omega (arith, e))
+step_rose law cache request vars mails Memory a m b x y steps none = absurd none
 step_rose law cache request vars mails Raced a m b x y steps stops = let e : 74 ≡ 73 = stops.0 in absurd (omega (arith, e))
 step_rose law cache request vars mails CacheFailed a m b x y steps stops =
-    inl (subst (λ h. Rose a.faults h.faults) (sym stops.1) (failed_rose cache (ids_of request mails) a m steps))
+    inl (subst (λ h. Rose a.faults h.faults) (sym stops.1) (failed_rose (cache_at cache.name cache.most) (ids_of request mails) a m steps))
 
 treats_rose : FailuresHaveCalls → (cache : Option Cache) (request : Request) (vars : List Pair) (mails : List (List ℕ)) (a b : HostView) (x y : StreamView)
     → Treats cache request vars mails 74 a b x y → EitherRose a b x y

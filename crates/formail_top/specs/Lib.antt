@@ -1,4 +1,5 @@
 pub mod Asked
+pub mod Examples
 pub mod Laws
 pub mod Outputs
 pub mod Run

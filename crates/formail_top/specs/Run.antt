@@ -14,14 +14,14 @@ use Rattle.pm_host.specs.declared.command.Command.{Command}
 use Rattle.formail_split.specs.Feeding.{FeedsEach}
 use Rattle.formail_split.specs.declared.feeding.Outcome.{Outcome}
 use Rattle.formail_split.specs.declared.feeding.Outcome.TheVariants.{Fine, Amiss, Failed}
-use Rattle.formail_cache.specs.Stepping.{Steps}
-use Rattle.formail_cache.specs.Tree.{StepsRight}
-use Rattle.formail_cache.specs.declared.stepping.Cache.{Cache}
-use Rattle.formail_cache.specs.declared.stepping.CacheEnd.{CacheEnd}
-use Rattle.formail_cache.specs.declared.stepping.CacheEnd.TheVariants.{Kept, Busy, IsFolder, Failed as CacheFailed, Raced}
+use Rattle.formail_extra.specs.Stepping.{cache_at, Steps}
+use Rattle.formail_extra.specs.Tree.{StepsRight}
+use Rattle.formail_extra.specs.declared.stepping.CacheEnd.{CacheEnd}
+use Rattle.formail_extra.specs.declared.stepping.CacheEnd.TheVariants.{Kept, Busy, IsFolder, Failed as CacheFailed, Memory, Raced}
 use Rattle.formail_top.specs.Asked.{request_for}
 use Rattle.formail_top.specs.Outputs.{mails_of, wants_moment, outputs_of, each_output_of, ids_of, kept_of}
 use Rattle.formail_top.specs.declared.request.Request.{Request}
+use Rattle.formail_top.specs.declared.settings.Cache.{Cache}
 
 -- the host was asked for the moment, and took no other call
 abbrev pub Asks : ℤ → HostView → HostView → Type 0
@@ -122,15 +122,20 @@ AfterStep (Kept kept) request vars mails status host host' out out' =
 AfterStep Busy request vars mails status host host' out out' = Stops 73 status host host' out out'
 AfterStep IsFolder request vars mails status host host' out out' = Stops 73 status host host' out out'
 AfterStep CacheFailed request vars mails status host host' out out' = Stops 74 status host host' out out'
+AfterStep Memory request vars mails status host host' out out' = ⊥
 AfterStep Raced request vars mails status host host' out out' = Stops 73 status host host' out out'
+
+-- the step with the cache whose name and bound the words give
+abbrev pub StepsWith : Cache → List (Option (List ℕ)) → CacheEnd → HostView → HostView → Type 0
+StepsWith cache ids end before after = Steps (cache_at cache.name cache.most) ids end before after
 
 -- The mails were held against the cache, and treated by what came of that. Of a tree that is told it is stated what the
 -- step with the cache made of it.
 pub record Remembers (cache : Cache) (request : Request) (vars : List Pair) (mails : List (List ℕ)) (status : ℕ) (host host' : HostView) (out out' : StreamView) : Type 0 where
   pub end : CacheEnd
   pub middle : HostView
-  pub steps : Steps cache (ids_of request mails) end host middle
-  pub tree : Tells (StepsRight cache (ids_of request mails) end) host.world middle.world
+  pub steps : StepsWith cache (ids_of request mails) end host middle
+  pub tree : Tells (StepsRight (cache_at cache.name cache.most) (ids_of request mails) end) host.world middle.world
   pub after : AfterStep end request vars mails status middle host' out out'
 
 -- what became of the mails, without `-D` or with it
@@ -144,7 +149,7 @@ Treats (Some cache) request vars mails status host host' out out' =
 -- for at most
 pub data LeavesCache (cache : Cache) (before after : HostView) : Type 0 where
   untouched : after ≡ before → LeavesCache cache before after
-  used : (ids : List (Option (List ℕ))) (end : CacheEnd) (middle : HostView) → Steps cache ids end before middle
+  used : (ids : List (Option (List ℕ))) (end : CacheEnd) (middle : HostView) → StepsWith cache ids end before middle
       → AsksAtMost middle after → LeavesCache cache before after
 
 -- where memory was wanting, without `-D` or with it

@@ -78,17 +78,13 @@ bound_in most = if nat_le 1 most && nat_le most 1_048_576 then Some most else No
 abbrev pub bound_for : List ℕ → Option ℕ
 bound_for text = if nat_le (length text) 7 then option_and_then bound_in (count_of text) else None
 
--- a cache with this bound, name and lock file
-abbrev pub cache_of : ℕ → List ℕ → List ℕ → Setting
-cache_of most name lock = CacheOf (record { most = most; name = name; lock = lock })
-
--- its lock file is the name with `.lock` after it
-abbrev pub cache_at : ℕ → List ℕ → Option Setting
-cache_at most name = option_map (cache_of most name) (usable_name (name ++ codes ".lock"))
+-- a cache with this bound and name
+abbrev pub cache_of : ℕ → List ℕ → Setting
+cache_of most name = CacheOf (record { most = most; name = name })
 
 -- the name isn't empty
 abbrev pub cache_named : ℕ → List ℕ → Option Setting
-cache_named most name = if nat_lt 0 (length name) then option_and_then (cache_at most) (usable_name name) else None
+cache_named most name = if nat_lt 0 (length name) then option_map (cache_of most) (usable_name name) else None
 
 -- `-D`
 abbrev pub cache_for : List ℕ → List ℕ → Option Setting

@@ -1,16 +1,17 @@
 //! A run of formail.
-ghost use Rattle.std.specs.Prelude.{◌≡◌, ◌≤◌, ◌⊎◌, ℕ, List, false, IfOk, IfSome, OnErr, map, string_bytes};
+ghost use Rattle.std.specs.Prelude.{◌≡◌, ◌≤◌, ◌⊎◌, ℕ, List, false, Some, IfOk, IfSome, OnErr, map, string_bytes};
 ghost use Rattle.formail_split.specs.Parts.{parts_of};
+ghost use Rattle.formail_extra.specs.Stepping.{step_end};
 ghost use Rattle.formail_top.specs.Run.{IsOutput, AsksAtMost, WritesAll, Writes, Puts, kept_status, PutsKept, AfterStep, Remembers, Treats, LeavesCache, Leaves, LeavesOff, Ended};
 ghost use Rattle.formail_top.specs.Outputs.{mails_of};
 ghost use Rattle.std.specs.List.{list_any, concat};
 
-use crate::Request;
 use crate::feeding::{command, feed, moment_for};
 use crate::fronts::{unchanged_front, writes_mailbox};
 use crate::outputs::{ids, kept_mails, mails, outputs};
 use crate::request::read_request;
-use formail_cache::{Cache, CacheEnd, cache_step};
+use crate::{Cache, Request};
+use formail_extra::{CacheEnd, cache_step};
 use pm_bytes::{Blob, Environ, Memory, Pairs};
 use pm_host::{Child, Host, Sink, Source};
 use pm_streams::{Mail, read_mail, write_texts};
@@ -186,6 +187,22 @@ fn after_step<H: Host, O: Sink>(
         CacheEnd::IsFolder => Ok(73),
         CacheEnd::Failed => Ok(74),
         CacheEnd::Raced => Ok(73),
+        CacheEnd::Memory => Err(Memory),
+    }
+}
+
+// The end of a step that was made.
+fn made(end: CacheEnd) -> Result<CacheEnd, Memory>
+    ensures ok { IfOk result (λ made. step_end end ≡ Some made) }
+    ensures memory { OnErr result (end ≡ CacheEnd.Memory) }
+{
+    match end {
+        CacheEnd::Memory => Err(Memory),
+        CacheEnd::Kept(kept) => Ok(CacheEnd::Kept(kept)),
+        CacheEnd::Busy => Ok(CacheEnd::Busy),
+        CacheEnd::IsFolder => Ok(CacheEnd::IsFolder),
+        CacheEnd::Failed => Ok(CacheEnd::Failed),
+        CacheEnd::Raced => Ok(CacheEnd::Raced),
     }
 }
 
@@ -208,7 +225,7 @@ fn remember<H: Host, O: Sink>(
     ensures none { (H.told host.new).child ≡ Child.NoChild }
 {
     let ids = ids(alloc, mails, request)?;
-    let end = cache_step(alloc, host, cache, ids.as_slice())?;
+    let end = made(cache_step(alloc, host, &cache.name, cache.most, ids.as_slice()))?;
     let status = after_step(alloc, &end, mails, request, vars, host, out)?;
     Ok(status)
 }

@@ -11,6 +11,6 @@ mod settings;
 mod words;
 
 pub use filtering::formail;
-pub use laws::failures_have_calls;
+pub use laws::{examples, failures_have_calls};
 pub use request::Request;
-pub use settings::{Setting, Waits};
+pub use settings::{Cache, Setting, Waits};

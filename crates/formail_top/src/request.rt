@@ -3,9 +3,8 @@ ghost use Rattle.std.specs.Prelude.{◌≡◌, IfOk, OnOk, map, string_bytes, co
 ghost use Rattle.std.specs.List.{list_any, list_all};
 ghost use Rattle.formail_top.specs.Asked.{is_split, is_skip, is_total, is_reply, is_trust, is_barred, is_once, is_ranged, is_range_sound, is_reply_sound, is_cache, is_beside_cache, is_cache_sound, is_sound, nothing, asked, request_of, request_in, request_for};
 
-use crate::Setting;
 use crate::words::read_words;
-use formail_cache::Cache;
+use crate::{Cache, Setting};
 use formail_edit::{Edits, Listed};
 use pm_bytes::{Blob, Memory, Name};
 use std::alloc::Global;

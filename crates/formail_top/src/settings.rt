@@ -1,7 +1,14 @@
 //! What the words ask for, one by one.
-use formail_cache::Cache;
 use formail_edit::{Put, Rename, Take, Unique};
 use pm_bytes::{Blob, Name};
+
+/// Where identifiers are remembered.
+#[derive(Drop)]
+pub struct Cache {
+    /// Once it has so many bytes it begins anew.
+    pub most: u64,
+    pub name: Name,
+}
 
 /// What one letter, or a number, asks for.
 #[derive(Drop)]

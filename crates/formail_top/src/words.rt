@@ -2,11 +2,10 @@
 ghost use Rattle.std.specs.Prelude.{◌≡◌, ◌++◌, ◌∷◌, [], IfOk, string_bytes, map, option_map, codes};
 ghost use Rattle.std.specs.List.{list_all};
 ghost use Rattle.pm_message.specs.Field.{is_name_byte, is_named};
-ghost use Rattle.formail_top.specs.Words.{is_folded, is_bare_name, may_be_bare, is_put, put_for, take_for, unique_for, setting_for, rename_for, bound_in, bound_for, cache_of, cache_at, cache_named, cache_for, setting_for_both, setting_of, takes_text, takes_more, with_text, with_rest, with_split, letters, number_for, with_skip, with_total, behind_minus, group, one_word, usable_name, program_for, argument_for, waiting, with_setting, Adds, settings_of};
+ghost use Rattle.formail_top.specs.Words.{is_folded, is_bare_name, may_be_bare, is_put, put_for, take_for, unique_for, setting_for, rename_for, bound_in, bound_for, cache_of, cache_named, cache_for, setting_for_both, setting_of, takes_text, takes_more, with_text, with_rest, with_split, letters, number_for, with_skip, with_total, behind_minus, group, one_word, usable_name, program_for, argument_for, waiting, with_setting, Adds, settings_of};
 ghost use Rattle.formail_top.specs.declared.settings.Waits.TheVariants.{Ready, Argument};
 
-use crate::{Setting, Waits};
-use formail_cache::Cache;
+use crate::{Cache, Setting, Waits};
 use formail_edit::{Put, PutKind, Rename, Take, Unique};
 use pm_bytes::{Blob, Memory, Name, NameRefused, is_blank, is_digit, read_count};
 use pm_message::{FieldKind, read_key};
@@ -161,30 +160,7 @@ fn bound(text: &[u8]) -> Option<u64>
     }
 }
 
-// The name of a cache's lock file.
-fn lock_name(alloc: Global, word: &[u8]) -> Result<Option<Name>, Memory>
-    ensures { IfOk result (λ lock. lock ≡ usable_name (word.now ++ codes ".lock")) }
-{
-    let mut lock = Blob::from_slice(alloc, word)?;
-    lock.push_slice(b".lock")?;
-    name(alloc, lock.as_slice())
-}
-
-fn locked_cache(
-    alloc: Global,
-    most: u64,
-    name: Name,
-    word: &[u8],
-) -> Result<Option<Setting>, Memory>
-    requires { word.now ≡ name }
-    ensures { IfOk result (λ setting. setting ≡ cache_at most name) }
-{
-    let Some(lock) = lock_name(alloc, word)? else {
-        return Ok(None);
-    };
-    Ok(Some(Setting::Cache(Cache { most, name, lock })))
-}
-
+// A cache whose name isn't empty.
 fn named_cache(alloc: Global, most: u64, word: &[u8]) -> Result<Option<Setting>, Memory>
     ensures { IfOk result (λ setting. setting ≡ cache_named most word.now) }
 {
@@ -194,7 +170,7 @@ fn named_cache(alloc: Global, most: u64, word: &[u8]) -> Result<Option<Setting>,
     let Some(name) = name(alloc, word)? else {
         return Ok(None);
     };
-    locked_cache(alloc, most, name, word)
+    Ok(Some(Setting::Cache(Cache { most, name })))
 }
 
 // What `-D` asks for.

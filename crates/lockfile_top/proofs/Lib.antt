@@ -4,4 +4,3 @@ pub mod JobLemmas
 pub mod RunLemmas
 pub mod EndLemmas
 pub mod GoneLemmas
-mod Rows

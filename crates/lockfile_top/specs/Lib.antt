@@ -6,3 +6,4 @@ pub mod Status
 pub mod Nowhere
 pub mod Ends
 pub mod Promise
+pub mod Examples

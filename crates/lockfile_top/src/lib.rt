@@ -4,6 +4,7 @@
 
 pub mod doing;
 pub mod jobs;
+pub mod laws;
 pub mod nowhere;
 pub mod status;
 pub mod tasks;

@@ -1,5 +1,0 @@
-use Rattle.formail_cache.proofs.NoChildAsked.{appends_child}
-use Rattle.formail_cache.proofs.adding.add.Goals as goal
-
-pub returns-clause-child : goal.returns-clause-child
-returns-clause-child g c = appends_child _ _ _ _ _ _ c.append_whole.ensures.appends

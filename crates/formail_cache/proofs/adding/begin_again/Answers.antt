@@ -1,6 +1,0 @@
-use Rattle.formail_cache.specs.Adding.{cut}
-use Rattle.formail_cache.proofs.adding.begin_again.Goals as goal
-
-pub returns-in-Cut-clause-begins : goal.returns-in-Cut-clause-begins
-returns-in-Cut-clause-begins g c =
-    cut _ (rw (c.as_str.ensures.same, c.in-Cut.is) at c.cut.ensures) (rw c.clear.ensures.items at c.add_line.ensures.adds)
