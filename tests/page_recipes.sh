@@ -4,28 +4,10 @@
 # scripts of this test. The script of procmail(1) for a system mailbox is run too, if /var/mail can be written to.
 set -eu
 . "$(dirname "$0")/common.bash"
+. "$top/tests/page_rcfiles.bash"
 pages=$top/man
 
-# The displays that have a colon line, each as a file, with the page and the title above it as its name.
-mkdir rcs
-for page in procmail.1 procmailrc.5 procmailsc.5 procmailex.5; do
-    awk -v page="$page" '
-        /^\.S[hs] / { title = substr($0, 5); count = 0 }
-        /^\.Bd -literal/ { inside = 1; text = ""; next }
-        /^\.Ed/ && inside {
-            inside = 0
-            if (text ~ /(^|\n) *:0/ && text !~ /\[flags\]/ && text !~ /^[$] /) {
-                count++
-                file = page " " title (count > 1 ? " " count : "")
-                gsub(/ /, "_", file)
-                printf "%s", text > ("rcs/" file)
-                close("rcs/" file)
-            }
-        }
-        inside { text = text $0 "\n" }' "$pages/$page"
-done
-sed -i 's/\\(ha/^/g; s/\\(ti/~/g; s/\\(ga/`/g; s/\\-/-/g; s/\\&//g; s/\\e/\\/g' rcs/*
-sed -i "s/\\\\(aq/'/g" rcs/*
+write_page_rcfiles
 
 # What each of them makes below the home folder, with a text that stands in it; a pattern of names is one that matches.
 cat > wanted <<'TABLE'

@@ -177,7 +177,7 @@ section formail.1 OPTIONS | items Fl > "$folder/named"
 same "options" formail.1
 section formail.1 OPTIONS | grep -qx '\.It Cm + Ns Ar n' || fail "formail.1 lacks the option +N"
 
-# Statuses: procmail's of the runs and the range of EXITCODE, lockfile's, and formail's.
+# Statuses: procmail's of the runs and the range of EXITCODE, lockfile's, procmail-check's, and formail's.
 sed -n 's/^status_number [A-Za-z]* = \([0-9]*\)$/\1/p' crates/pm_machine/specs/Status.antt > "$folder/defined"
 echo 1 >> "$folder/defined"
 section procmail.1 'EXIT STATUS' | sed -n 's/^\.It \([0-9]*\).*/\1/p' > "$folder/named"
@@ -185,6 +185,9 @@ same "statuses" procmail.1
 sed -n 's/^status_number [A-Za-z]* = \([0-9]*\)$/\1/p' crates/lockfile_top/specs/Status.antt > "$folder/defined"
 section lockfile.1 'EXIT STATUS' | sed -n 's/^\.It \([0-9]*\).*/\1/p' > "$folder/named"
 same "statuses" lockfile.1
+sed -n 's/^status_number [A-Za-z]* = \([0-9]*\)$/\1/p' crates/check_cli/specs/Status.antt > "$folder/defined"
+section procmail-check.1 'EXIT STATUS' | sed -n 's/^\.It \([0-9]*\).*/\1/p' > "$folder/named"
+same "statuses" procmail-check.1
 grep -o -e 'status ≡ [0-9]*' -e 'Stops [0-9]*' -e '^feed_status [A-Za-z]* = [0-9]*' crates/formail_top/specs/Run.antt |
     sed -n 's/.* \([0-9]\{1,\}\)$/\1/p' > "$folder/defined"
 section formail.1 'EXIT STATUS' | sed -n 's/^\.It \([0-9]*\).*/\1/p' > "$folder/named"

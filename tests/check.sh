@@ -1,0 +1,280 @@
+#!/usr/bin/env bash
+# The built program procmail-check: each code is found in a small rcfile, and not in one that is right. The rcfiles of
+# examples/ and of the manual pages have no finding. It is run by its statuses, formats, options and included rcfiles; it
+# makes no call that changes a file, and a large rcfile takes time in proportion.
+set -eu
+. "$(dirname "$0")/common.bash"
+. "$top/tests/page_rcfiles.bash"
+check=$programs/procmail-check
+export HOME=$folder/home LOGNAME=joe
+mkdir home
+
+# ends STATUS ARGUMENT..: the exit status; what was printed is in out and said.
+ends() {
+    local wanted=$1 status=0
+    shift
+    "$check" "$@" > out 2> said || status=$?
+    [ "$status" -eq "$wanted" ] || fail "$*: status $status, not $wanted: $(cat out said)"
+}
+
+# finds CODE TEXT: the text, with \n for a newline, has a finding with this code; lacks CODE TEXT: it has none.
+finds() {
+    printf '%b' "$2" > rc
+    "$check" --no-disk ./rc > out 2> said || true
+    grep -q "\[$1\]\$" out || fail "$1 isn't found in '$2': $(cat out said)"
+}
+
+lacks() {
+    printf '%b' "$2" > rc
+    "$check" --no-disk ./rc > out 2> said || true
+    ! grep -q "\[$1\]\$" out || fail "$1 is found in '$2': $(cat out)"
+}
+
+# Each code: what is wrong, and what is right.
+cat > rows <<'ROWS'
+defect
+(what)\n
+# what\n
+defect
+:0:\n* ^Subject: x\n
+:0:\n* ^Subject: x\nmbox\n
+defect
+:0\n* ^Subject: x\n{\n:0:\nmbox\n
+:0\n* ^Subject: x\n{\n:0:\nmbox\n}\n
+defect
+X="one\n
+X="one"\n
+defect
+* ^Subject: x\n
+:0:\n* ^Subject: x\nmbox\n
+defect
+0:\n* ^Subject: x\nmbox\n
+:0:\n* ^Subject: x\nmbox\n
+defect
+:2:\n^Subject: x\n^From: y\nmbox\n
+:0:\n* ^Subject: x\n* ^From: y\nmbox\n
+defect
+\xef\xbb\xbf:0:\nmbox\n
+:0:\nmbox\n
+weight
+:0:\n* 9876543210^0 ^Subject: x\nmbox\n
+:0:\n* 987654321^0 ^Subject: x\nmbox\n
+size
+:0:\n* < many\nmbox\n
+:0:\n* < 1000\nmbox\n
+expression
+:0:\n* ^Subject: (x\nmbox\n
+:0:\n* ^Subject: (x)\nmbox\n
+expression
+:0:\n* ^Subject: [x\nmbox\n
+:0:\n* ^Subject: [x]\nmbox\n
+no-star
+:0:\n^Subject: x\nmbox\n
+:0:\n* ^Subject: x\nmbox\n
+colon-variable
+FLAGS=c\n:0 $FLAGS\nmbox\n
+:0 c:\nmbox\n
+no-lock
+:0\nmbox\n
+:0:\nmbox\n
+no-lock
+:0\n* ^Subject: x\nlists/rust\n
+:0\n* ^Subject: x\nlists/rust/\n
+words
+:0:\nSent Items\n
+:0:\n"Sent Items"\n
+dot
+:0:\n* ^From:.*@example.org\nmbox\n
+:0:\n* ^From:.*@example\\.org\nmbox\n
+unanchored
+:0:\n* Subject: x\nmbox\n
+:0:\n* ^Subject: x\nmbox\n
+plus
+:0:\n* ^To:.*joe+work@example\\.org\nmbox\n
+:0:\n* ^To:.*joe\\+work@example\\.org\nmbox\n
+tag
+:0:\n* ^Subject:.*[list]\nmbox\n
+:0:\n* ^Subject:.*\\[list\\]\nmbox\n
+pcre
+:0:\n* ^Subject:.*\\bsale\\b\nmbox\n
+:0:\n* ^Subject:.*\\<sale\\>\nmbox\n
+pcre
+:0:\n* ^Subject:.*\\d\\d\nmbox\n
+:0:\n* ^Subject:.*[0-9][0-9]\nmbox\n
+comment
+:0:\n* ^Subject: x # sales\nmbox\n
+# sales\n:0:\n* ^Subject: x\nmbox\n
+filter-w
+:0 f\n| spamc\n
+:0 fw\n| spamc\n
+pipe-f
+:0 h\n| formail -A "X-Seen: yes"\n
+:0 fhw\n| formail -A "X-Seen: yes"\n
+loop
+:0 c\n! joe@example.net\n
+:0 c\n* ! ^X-Loop: joe@example\\.org\n! joe@example.net\n
+lost-part
+:0 h:\nmbox\n
+:0 hc:\nheaders\n
+formail-lock
+:0 Wh: cache.lock\n| formail -D 8192 cache\n
+:0 Wh: other.lock\n| formail -D 8192 cache\n
+tilde
+MAILDIR=~/Mail\n
+MAILDIR=$HOME/Mail\n
+bare-word
+:0 c:\nmbox\nother\n
+:0 c:\nmbox\n:0:\nother\n
+dev
+:0\n/dev/nul\n
+:0\n/dev/null\n
+unreachable
+:0:\nmbox\n\n:0:\n* ^Subject: x\nother\n
+:0:\n* ^Subject: x\nother\n\n:0:\nmbox\n
+ROWS
+count=0
+while IFS= read -r code && IFS= read -r wrong && IFS= read -r right; do
+    finds "$code" "$wrong"
+    lacks "$code" "$right"
+    count=$((count + 1))
+done < rows
+[ "$count" -ge 30 ] || fail "only $count rows were read"
+
+# The page has these codes, and those of the disk; --allow takes each.
+awk '/^\.S[hs] / { if ($0 == ".Sh CODES") inside = 1; else if ($0 ~ /^\.Sh/) inside = 0 } inside' "$top/man/procmail-check.1" > codes
+sed -n 's/^\.It Cm //p' codes | sort > named
+{ awk 'NR % 3 == 1' rows; printf '%s\n' limit maildir path recursion unreadable writable; } | sort -u > wanted
+cmp -s wanted named || fail "the codes of the page aren't those of the rows: $(diff wanted named)"
+printf ':0:\nmbox\n' > rc
+while read -r code; do ends 0 --no-disk --allow "$code" rc; done < named
+
+# Each message of the page is one of the definitions, and the other way round.
+sed -n 's/^[a-z_]*_text [A-Za-z.]* =//p; s/^    codes/ codes/p' "$top/crates/check_text/specs/Messages.antt" |
+    sed -n 's/^ codes "\(.*\)"$/\1/p' | sed 's/\\\\/\\/g' | sort -u > defined
+sed -n 's/^\.\(It \)\{0,1\}Dq "\([^"]*\)".*/\2/p' codes | sed 's/\\(ha/^/g; s/\\(ti/~/g; s/\\-/-/g; s/\\e/\\/g' | sort -u > named
+[ "$(wc -l < defined)" -ge 20 ] && cmp -s defined named || fail "the messages of the page: $(diff defined named)"
+
+# What people keep has no finding: the examples, and the rcfiles of the manual pages.
+for rc in "$top"/examples/*.rc; do ends 0 --no-disk "$rc"; done
+write_page_rcfiles
+for rc in rcs/*; do ends 0 --no-disk "$rc"; done
+
+# The form of a line, and the statuses.
+printf ':0\n* ^Subject: x\n  * ^From: (y\nmbox\n' > rc
+ends 2 --no-disk rc
+grep -q '^rc:3:[0-9]*: error: the regular expression is not valid \[expression\]$' out || fail "a line: $(cat out)"
+printf ':0\nmbox\n' > rc
+ends 1 --no-disk rc
+printf ':0:\nmbox\n' > rc
+ends 0 --no-disk rc
+[ ! -s out ] || fail "a right rcfile: $(cat out)"
+ends 66 none
+[ "$(cat said)" = "procmail-check: can't read none" ] && [ ! -s out ] || fail "a missing rcfile: $(cat said)"
+ends 66
+ends 64 --format xml rc
+ends 64 --allow nothing rc
+ends 64 1X=y rc
+ends 64 -x rc
+ends 0 --help
+for option in $(sed -n 's/^\.It Fl \([^ ]*\).*/-\1/p' "$top/man/procmail-check.1"); do
+    grep -q -e "$option" out || fail "--help has no $option: $(cat out)"
+done
+ends 0 --version
+[ "$(cat out)" = "procmail-check $(cat "$top/VERSION")" ] || fail "--version: $(cat out)"
+(unset HOME; "$check" > out 2> said) && fail "without HOME" || [ $? -eq 64 ] || fail "without HOME: $(cat said)"
+cp rc home/.procmailrc
+ends 0
+printf ':0\nmbox\n' > home/.procmailrc
+ends 1
+grep -q "^$HOME/.procmailrc:2:" out || fail "the user's own rcfile: $(cat out)"
+ends 1 - < home/.procmailrc
+grep -q "^-:2:" out || fail "standard input: $(cat out)"
+ends 1 -q - < home/.procmailrc
+[ ! -s out ] || fail "-q prints: $(cat out)"
+
+# Codes that are allowed, by the option and by a comment.
+ends 0 --allow no-lock home/.procmailrc
+ends 1 --allow words home/.procmailrc
+printf ':0\n# check: allow words no-lock\nmbox\n' > rc
+ends 0 --no-disk rc
+printf ':0\n# check: allow words\nmbox\n' > rc
+ends 1 --no-disk rc
+printf ':0\n# check: allow no-lock\n\nmbox\n' > rc
+ends 1 --no-disk rc
+
+# The other formats.
+printf ':0\n* ^Subject: (x\nmbox\n' > 'an rc'
+ends 2 --no-disk --format json 'an rc'
+if command -v jq > /dev/null; then
+    [ "$(jq -r '.errors, .warnings, .findings[0].file, .findings[1].code' out | paste -sd ' ')" = '1 1 an rc no-lock' ] ||
+        fail "JSON: $(cat out)"
+    jq -e '.findings | all(.line >= 1 and .column >= 1 and .message != "" and .severity != "")' out > same || fail "JSON: $(cat out)"
+    ends 2 --no-disk --format sarif 'an rc'
+    [ "$(jq -r '.version, .runs[0].tool.driver.name' out | paste -sd ' ')" = '2.1.0 procmail-check' ] || fail "SARIF: $(cat out)"
+    [ "$(jq -r '.runs[0].results[] | select(.ruleId == "expression") | .level, .locations[0].physicalLocation.artifactLocation.uri,
+        .locations[0].physicalLocation.region.startLine' out | paste -sd ' ')" = 'error an%20rc 2' ] || fail "SARIF: $(cat out)"
+else
+    echo "$name: no jq here: the members of JSON and SARIF: skipped"
+fi
+
+# Rcfiles that are named: by a fixed name, relative to MAILDIR, and not after a value that depends on the mail.
+mkdir -p home/Mail home/rcs
+printf ':0\nmbox\n' > home/Mail/one.rc
+cp home/Mail/one.rc home/rcs/two.rc
+printf 'MAILDIR=$HOME/Mail\nRCS=$HOME/rcs\nINCLUDERC=one.rc\nSWITCHRC="${RCS}/two.rc"\n' > home/.procmailrc
+ends 1
+[ "$(cut -d : -f 1 out | paste -sd ' ')" = "$HOME/Mail/one.rc $HOME/rcs/two.rc" ] || fail "included rcfiles: $(cat out)"
+ends 0 --no-disk
+printf 'MAILDIR=Mail\n:0\n* ^Subject: x\n{ RCS=$HOME }\nINCLUDERC=$RCS/none.rc\nINCLUDERC=$MATCH.rc\nINCLUDERC=`date`\n' > home/.procmailrc
+ends 0 RCS=rcs
+printf 'INCLUDERC=$RCS/two.rc\nINCLUDERC=$RCS/two.rc\n' > home/.procmailrc
+ends 1 RCS=rcs
+[ "$(wc -l < out)" -eq 1 ] || fail "an rcfile is read twice: $(cat out)"
+
+# What the disk shows.
+printf 'MAILDIR=$HOME/none\nINCLUDERC=none.rc\nINCLUDERC=.procmailrc\n' > home/.procmailrc
+ends 1
+[ "$(sed 's/.*\[\(.*\)\]$/\1/' out | paste -sd ' ')" = 'maildir unreadable recursion' ] || fail "the disk: $(cat out)"
+ends 0 --no-disk
+printf ':0:\nmbox\n' > home/Mail/open.rc
+chmod 666 home/Mail/open.rc
+printf 'INCLUDERC=Mail/open.rc\n' > home/.procmailrc
+ends 1
+grep -q "^$HOME/Mail/open.rc:1:1: warning: .* \[writable\]$" out || fail "a writable rcfile: $(cat out)"
+(cd home/Mail && ln -sf ../.procmailrc rc && cd .. && "$check" -m ./.procmailrc > ../out) && fail "-m: $(cat out)"
+cd home && mkdir -p there && printf 'INCLUDERC=there/open.rc\n' > m.rc && cp Mail/open.rc there/ && chmod 644 there/open.rc
+cd "$folder/home" && "$check" -m m.rc > ../out || fail "-m: $(cat ../out)"
+cd "$folder"
+
+# It makes no call that changes a file or starts a program.
+if command -v strace > /dev/null && strace -f -o calls true 2> /dev/null; then
+    printf 'INCLUDERC=Mail/one.rc\nX=`touch made`\n:0\n* ? touch made\n| touch made\n' > home/.procmailrc
+    strace -f -o calls "$check" > out 2> said || true
+    ! grep -E '^[0-9]+ +(rename|unlink|mkdir|rmdir|link|symlink|truncate|ftruncate|chmod|fchmod|chown|mknod|fork|vfork|utime)' calls ||
+        fail "calls that change files"
+    ! grep -E 'O_(WRONLY|RDWR|CREAT|TRUNC|APPEND)' calls || fail "files are opened for writing"
+    [ "$(grep -c execve calls)" -eq 1 ] && ! grep -q 'clone' calls || fail "a program is started"
+    [ ! -e made ] && [ ! -e home/made ] || fail "a command was executed"
+else
+    echo "$name: no strace here: the calls: skipped"
+fi
+
+# A rcfile that is too long, and time in proportion to the text.
+cat "$top"/examples/*.rc > part
+while [ "$(wc -c < part)" -lt 65536 ]; do cat part part > twice && mv twice part; done
+head -c 65536 part | sed '$d' > small
+for _ in $(seq 16); do cat small; done > large
+{ cat large; head -c 100000 large; } > over
+ends 2 --no-disk over
+grep -q '^over:1:1: error: .* \[limit\]$' out || fail "an rcfile that is too long: $(cat out)"
+# checks COUNT FILE: milliseconds of a processor that so many checks of the file take.
+checks() {
+    local TIMEFORMAT='%U %S'
+    { time for _ in $(seq "$1"); do "$check" --no-disk -q "$2" > printed 2>&1 || true; done; } 2>&1 |
+        awk '{ printf "%d\n", ($1 + $2) * 1000 }'
+}
+small_time=$(checks 16 small)
+large_time=$(checks 1 large)
+[ "$large_time" -lt 1000 ] || fail "1 MiB takes $large_time ms of a processor"
+[ "$large_time" -le $((small_time * 3 / 2)) ] || fail "64 KiB sixteen times take $small_time ms, 1 MiB $large_time ms"
+echo "check: passed, with $count rows; 1 MiB takes $large_time ms of a processor"
