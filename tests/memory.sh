@@ -1,7 +1,8 @@
 #!/usr/bin/env bash
 # Want of memory at each place where the program asks for some, in a run under a lock file, in one that ends in the default
 # mailbox, in one with LOCKFILE, and in one with a filter and a capture: no lock file is left, the status is 71 or 0, and the
-# mailbox has all of the mail or none of it. And in a run of formail with a cache, which has what is new or is as it was.
+# mailbox has all of the mail or none of it. In one that hands the mail on, with a log file, 71 says that nobody has the mail.
+# And in a run of formail with a cache, which has what is new or is as it was.
 set -eu
 . "$(dirname "$0")/common.bash"
 # The allocations of a program with the C library as a shared one can be made to fail: rt's own programs have it so.
@@ -120,6 +121,59 @@ each "LOCKFILE" -m global
 # The programs themselves get all memory.
 printf 'LD_PRELOAD=\n:0 fw:filter.lock\n| /bin/cat\n:0 w:capture.lock\nN=| /bin/echo 1\n:0:\nmbox\n' > programs
 each "a filter and a capture under lock files" -m programs
+
+# Runs with this rcfile, once for each allocation; the mail is handed on to the file got. A mail server tries a mail again
+# after 71, so got is empty then.
+handed() {
+    about=$1
+    for later in '' yes; do
+        number=0
+        failed=0
+        while :; do
+            number=$((number + 1))
+            rm -f mark
+            : > got
+            status=0
+            env -i LOGNAME=joe HOME="$folder" FAIL_MARK="$FAIL_MARK" FAIL_AT=$number ${later:+FAIL_LATER=yes} LD_PRELOAD="$folder/failing.so" \
+                "$program" -m "$2" < message >> got 2> said || status=$?
+            for lock in *.lock; do
+                [ ! -e "$lock" ] || fail "$about: allocation $number: the lock file $lock is left"
+            done
+            if [ -s got ]; then
+                [ "$status" -eq 0 ] || fail "$about: allocation $number: status $status, and the mail was handed on"
+                cmp -s got message || fail "$about: allocation $number: status 0, and another mail was handed on"
+            else
+                case $status in
+                    71 | 66 | 73) ;;
+                    *) fail "$about: allocation $number: status $status, and nothing was handed on" ;;
+                esac
+                failed=$((failed + 1))
+            fi
+            [ -e mark ] || break
+            [ "$number" -lt 20000 ] || fail "$about: no end of allocations"
+        done
+        [ "$status" -eq 0 ] || fail "$about: status $status where none failed"
+        [ "$failed" -gt 20 ] || fail "$about: only $failed of $number allocations mattered"
+        echo "memory: $about: each of $((number - 1)) allocations${later:+ and all behind it}: no mail that was handed on ended with 71"
+    done
+}
+
+# The programs themselves get all memory.
+printf 'LD_PRELOAD=\nLOGFILE=log\n' > first
+printf '#!/bin/sh\nexec /bin/cat >> got\n' > takes
+chmod +x takes
+{ cat first; printf ':0\n|\n'; } > out
+handed "standard output" out
+{ cat first; printf 'LOCKFILE=global.lock\n:0\n|\n'; } > locked
+handed "standard output under LOCKFILE" locked
+{ cat first; printf ':0:block.lock\n{\n:0:out.lock\n|\n}\n'; } > inside
+handed "standard output in a block with a lock file" inside
+{ cat first; printf ':0:pipe.lock\n| ./takes\n'; } > pipe
+handed "a pipe under a lock file" pipe
+{ cat first; printf 'SENDMAIL=./takes\nSENDMAILFLAGS\n:0\n! joe@example.org\n'; } > forward
+handed "a forward" forward
+{ cat first; printf ':0 fw\n| /bin/cat\n:0\n|\n'; } > filtered
+handed "standard output after a filter" filtered
 
 # Runs formail with a cache, once for each allocation: with status 1 what is new was added, and with 71 nothing was. A call
 # of the system for which memory is wanting is one that fails: 74.

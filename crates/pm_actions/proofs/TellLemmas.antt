@@ -1,6 +1,7 @@
 -- Lines that are logged, in plans.
-use Rattle.std.proofs.Common.{◌≡◌, true, false, List, ℕ, Option, Some, None, refl, sym, ap, ◌∙◌, subst}
-use Rattle.std.specs.Prelude.{if◌then◌else◌}
+use Rattle.std.proofs.Common.{◌≡◌, true, false, List, ℕ, [], Option, Some, None, refl, sym, ap, ◌∙◌, subst}
+use Rattle.std.specs.Prelude.{Bool, not, ◌&&◌, codes, if◌then◌else◌}
+use Rattle.pm_bytes.specs.Path.{full_name}
 use Rattle.pm_journal.specs.JournalState.{JournalState}
 use Rattle.pm_journal.specs.Entries.{View}
 use Rattle.pm_journal.specs.declared.acts.Act.TheVariants.{SayFile}
@@ -10,10 +11,12 @@ use Rattle.pm_journal.proofs.ActPlans.{executes_then}
 use Rattle.pm_journal.proofs.WantsMemory.{executes_nothing, out_front}
 use Rattle.pm_append.specs.Saying.{say_act}
 use Rattle.pm_acts.specs.Acts.{SaysTo}
-use Rattle.pm_meaning.specs.Locks.{is_nothing}
+use Rattle.pm_journal.specs.Held.{holds_name}
+use Rattle.pm_meaning.specs.Locks.{is_nothing, value_or}
+use Rattle.pm_meaning.specs.Texts.{is_file_text}
 use Rattle.pm_meaning.specs.Logging.{log_to, log_file, log, logged}
 use Rattle.pm_meaning.specs.Minds.{Mind}
-use Rattle.pm_actions.specs.Telling.{is_nowhere}
+use Rattle.pm_actions.specs.Telling.{is_nowhere, log_name, free_name}
 use Rattle.pm_actions.proofs.Choices.{choose_then}
 
 -- `/dev/null` takes the line
@@ -41,3 +44,13 @@ tells_line to text p x y a b is e h =
 pub tells_none : (to : Option (List ℕ)) (text : List ℕ) (p : Mind) (x y : JournalState) (a b : View) → to ≡ log_file p → is_nowhere to ≡ false → OutOfMemory (ask (say_act to text)) x y a b → OutOfMemory (log text p) x y a b
 tells_none to text p x y a b is e h =
     subst (λ plan. OutOfMemory plan x y a b) (said_as to text p is e) (out_front (ask (say_act to text)) (λ reply. Ends logged) x y a b h)
+
+-- the file by its name, where that is free
+free_by : (usable : Bool) (locks : List (List ℕ)) (file : List ℕ) → free_name (if usable then Some file else None) locks ≡ (if usable && not (holds_name locks file) then Some file else None)
+free_by true locks file = refl
+free_by false locks file = refl
+
+pub named_file : (name to : Option (List ℕ)) (p : Mind) → name ≡ log_name (value_or [] (codes "LOGFILE") p.vars) p.base → to ≡ free_name name p.locks → to ≡ log_file p
+named_file name to p named free =
+    let value = value_or [] (codes "LOGFILE") p.vars in
+    free ∙ (ap (λ n. free_name n p.locks) named ∙ free_by (is_file_text value) p.locks (full_name p.base value))

@@ -8,3 +8,4 @@ pub mod Telling
 pub mod Placing
 pub mod Filing
 pub mod Errands
+pub mod AbstractParts

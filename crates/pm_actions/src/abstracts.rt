@@ -1,5 +1,5 @@
 //! The abstract of a delivery, and when it is logged (procmailrc(5), LOGFILE and LOGABSTRACT).
-ghost use Rattle.std.specs.Prelude.{◌≡◌, ◌==◌, ◌++◌, position, take, drop, IfOk, OnOk, map};
+ghost use Rattle.std.specs.Prelude.{◌≡◌, ◌==◌, ◌≤◌, ◌-◌, ◌++◌, position, take, drop, IfOk, OnOk, map, vec_capacity, vec_len};
 ghost use Rattle.pm_bytes.specs.Letter.{lower_case};
 ghost use Rattle.pm_message.specs.Field.{texts_of};
 ghost use Rattle.pm_journal.specs.LogText.{shown_byte, quoted};
@@ -8,6 +8,7 @@ ghost use Rattle.pm_meaning.specs.Abstracts.{from_part as part_of_from, is_subje
 ghost use Rattle.pm_meaning.specs.Abstracts.{subject_part as part_of_subject, folder_part as part_of_folder};
 ghost use Rattle.pm_meaning.specs.Abstracts.{has_log as log_is_there, logs_all as all_are_logged, logs_last as last_is_logged, copy_lines};
 ghost use Rattle.pm_meaning.specs.Minds.{mind_of};
+ghost use Rattle.pm_actions.specs.AbstractParts.{mail_part as part_of_mail};
 
 use crate::programs::value_or;
 use itoa::Buffer;
@@ -24,13 +25,22 @@ use std::collections::VecDeque;
 pub fn abstract_of(alloc: Global, process: &Process) -> Result<Blob, Memory>
     ensures { IfOk result (λ text. text ≡ abstract_in (mind_of process.now)) }
 {
-    let parts = process.message.parts();
-    let mut text = from_part(alloc, parts.head.as_slice())?;
-    let subject = subject_part(alloc, parts)?;
-    let folder = folder_part(alloc, &process.stored)?;
+    let mut text = mail_part(alloc, process.message.parts(), 0)?;
+    push_folder(&process.stored, &mut text)?;
+    Ok(Blob::from_vec(text))
+}
+
+/// What an abstract says of the mail itself, with room for so many bytes more.
+pub fn mail_part(alloc: Global, message: &Message, room: usize) -> Result<Vec<u8>, Memory>
+    ensures text { IfOk result (λ text. text.items ≡ part_of_mail message.now.head) }
+    ensures room { IfOk result (λ text. room ≤ vec_capacity text - vec_len text) }
+{
+    let mut text = from_part(alloc, message.head.as_slice())?;
+    let subject = subject_part(alloc, message)?;
     text.push_slice(subject.as_slice())?;
-    text.push_slice(folder.as_slice())?;
-    Ok(text)
+    let mut bytes = text.into_vec(alloc)?;
+    bytes.try_reserve_exact(room)?;
+    Ok(bytes)
 }
 
 // The line From, where the mail has one.
@@ -124,25 +134,27 @@ fn behind(text: &[u8], count: usize) -> &[u8]
     }
 }
 
-// Where the mail was delivered to, and how many bytes.
-fn folder_part(alloc: Global, stored: &Stored) -> Result<Blob, Memory>
-    ensures { IfOk result (λ text. text ≡ part_of_folder stored.now) }
+/// Adds where the mail was delivered to, and how many bytes.
+pub fn push_folder(stored: &Stored, text: &mut Vec<u8>) -> Result<(), Memory>
+    ensures { OnOk result (text.new.items ≡ text.old.items ++ part_of_folder stored.now) }
 {
     let mut buffer = Buffer::new();
-    let folder = quote(alloc, stored.folder.as_slice())?;
-    let mut line = Blob::from_slice(alloc, b"  Folder: ")?;
-    line.push_slice(folder.as_slice())?;
-    line.push_slice(b" ")?;
-    line.push_slice(buffer.format(stored.size).as_bytes())?;
-    line.push_slice(b"\n")?;
-    Ok(line)
+    text.extend_from_slice(b"  Folder: ")?;
+    push_quoted(stored.folder.as_slice(), text)?;
+    text.extend_from_slice(b" ")?;
+    text.extend_from_slice(buffer.format(stored.size).as_bytes())?;
+    text.extend_from_slice(b"\n")?;
+    Ok(())
 }
 
-// The bytes below 32 are shown as blanks.
-fn quote(alloc: Global, bytes: &[u8]) -> Result<Vec<u8>, AllocError>
-    ensures { IfOk result (λ shown. shown.items ≡ quoted bytes.now) }
+// Adds the bytes; those below 32 are shown as blanks.
+fn push_quoted(bytes: &[u8], text: &mut Vec<u8>) -> Result<(), Memory>
+    ensures { OnOk result (text.new.items ≡ text.old.items ++ quoted bytes.now) }
 {
-    bytes.iter().map(|byte| shown(*byte)).collect(alloc)
+    for byte in bytes {
+        text.push(shown(*byte))?;
+    }
+    Ok(())
 }
 
 fn shown(byte: u8) -> u8

@@ -27,7 +27,7 @@ pub mod tasks;
 pub mod telling;
 pub mod trying;
 
-pub use abstracts::{abstract_of, logs_last};
+pub use abstracts::{abstract_of, logs_last, mail_part, push_folder};
 pub use attempting::is_stuck;
 pub use delivering::{deliver_default, perform, refuse};
 pub use expanding::{Expansion, expand_text, first_word};
@@ -38,4 +38,4 @@ pub use programs::{
     code_of, command_line, expanded_line, needs_shell, note_code, program_line, shell_line,
 };
 pub use skipping::skip_value;
-pub use telling::tell;
+pub use telling::{log_name, tell, tell_in};

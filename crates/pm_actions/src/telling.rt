@@ -1,10 +1,11 @@
 //! Lines are logged in LOGFILE's file, or on `err` (procmailrc(5), LOGFILE).
-ghost use Rattle.std.specs.Prelude.{◌≡◌, not, Some, None, IfOk, if◌then◌else◌};
+ghost use Rattle.std.specs.Prelude.{◌≡◌, [], codes, IfOk};
 ghost use Rattle.pm_journal.specs.Executed.{Carries};
-ghost use Rattle.pm_journal.specs.Held.{Keeping, holds_name};
-ghost use Rattle.pm_meaning.specs.Logging.{log, logged, log_file as file_of_log};
+ghost use Rattle.pm_journal.specs.Held.{Keeping};
+ghost use Rattle.pm_meaning.specs.Locks.{value_or};
+ghost use Rattle.pm_meaning.specs.Logging.{log, logged};
 ghost use Rattle.pm_meaning.specs.Minds.{mind_of};
-ghost use Rattle.pm_actions.specs.Telling.{is_nowhere as goes_nowhere};
+ghost use Rattle.pm_actions.specs.Telling.{is_nowhere as goes_nowhere, log_name as name_of_log, free_name};
 
 use crate::filing::is_nothing;
 use crate::names::file_name;
@@ -29,30 +30,51 @@ pub fn tell<D: Outside>(
         journal.old journal.new (D.told outside.old) (D.told outside.new) }
     ensures keeping { Keeping journal.new process.now.locks.names }
 {
-    let to = log_file(alloc, process)?;
+    let name = log_name(alloc, process)?;
+    tell_in(name, process, line, outside, journal)
+}
+
+/// LOGFILE's file, as seen from where the run began, where it can be a file's name.
+pub fn log_name(alloc: Global, process: &Process) -> Result<Option<Name>, Memory>
+    ensures { let p = mind_of process.now in
+        IfOk result (λ name. name ≡ name_of_log (value_or [] (codes "LOGFILE") p.vars) p.base) }
+{
+    match file_name(alloc, value_or(b"", b"LOGFILE", &process.vars))? {
+        None => Ok(None),
+        Some(name) => Ok(Some(full(alloc, &process.base, &name)?)),
+    }
+}
+
+/// Logs the line where this is LOGFILE's file. Memory is wanted for the entry alone.
+pub fn tell_in<D: Outside>(
+    name: Option<Name>,
+    process: &Process,
+    line: Blob,
+    outside: &mut D,
+    journal: &mut Journal,
+) -> Result<(), Memory>
+    requires named { let p = mind_of process.now in
+        name ≡ name_of_log (value_or [] (codes "LOGFILE") p.vars) p.base }
+    requires keeping { Keeping journal.old process.now.locks.names }
+    ensures carries { Carries (log line (mind_of process.now)) (λ _. logged) result
+        journal.old journal.new (D.told outside.old) (D.told outside.new) }
+    ensures keeping { Keeping journal.new process.now.locks.names }
+{
+    let to = unless_held(name, &process.locks);
     if is_nowhere(&to) {
         return Ok(());
     }
     say_to(&process.locks, to, line, outside, journal)
 }
 
-// LOGFILE's file, as seen from where the run began, where it can be a file's name and no held lock has it.
-fn log_file(alloc: Global, process: &Process) -> Result<Option<Name>, Memory>
-    ensures { IfOk result (λ file. file ≡ file_of_log (mind_of process.now)) }
+// A held lock's file isn't written to.
+fn unless_held(name: Option<Name>, locks: &HeldLocks) -> Option<Name>
+    ensures { result ≡ free_name name locks.now.names }
 {
-    match file_name(alloc, value_or(b"", b"LOGFILE", &process.vars))? {
-        None => Ok(None),
-        Some(name) => {
-            let file = full(alloc, &process.base, &name)?;
-            Ok(unless_held(file, &process.locks))
-        }
+    match name {
+        None => None,
+        Some(file) => { if locks.holds(&file) { None } else { Some(file) } }
     }
-}
-
-fn unless_held(file: Name, locks: &HeldLocks) -> Option<Name>
-    ensures { result ≡ (if not (holds_name locks.now.names file) then Some file else None) }
-{
-    if locks.holds(&file) { None } else { Some(file) }
 }
 
 // Whether `/dev/null` takes what goes there.

@@ -59,6 +59,7 @@ pub fn try_under<D: Outside>(
     }
 }
 
+// The entry of an abstract has room too.
 fn try_free<D: Outside>(
     alloc: Global,
     errand: Errand,
@@ -74,12 +75,12 @@ fn try_free<D: Outside>(
     ensures sure { OnErr result (is_for_good errand ≡ true → journal.new.entries ≡ journal.old.entries) }
     ensures keeping { Keeping journal.new process.new.locks.names }
 {
-    journal.reserve(process.locks.len() + 1)?;
+    journal.reserve(process.locks.len() + 2)?;
     let outcome = carry(alloc, errand, flags, process, outside, journal)?;
     Ok(Trial::Unlocked(outcome))
 }
 
-// Copies the lock's name; its entry and that of its removal have room too.
+// Copies the lock's name; its entry, that of its removal and that of an abstract have room too.
 fn lock_request(
     alloc: Global,
     name: Name,
@@ -99,7 +100,7 @@ fn lock_request(
     let noted = name.copy(alloc)?;
     let kept = name.copy(alloc)?;
     locks.reserve()?;
-    journal.reserve(locks.len() + 3)?;
+    journal.reserve(locks.len() + 4)?;
     Ok(LockRequest { name, noted, kept })
 }
 

@@ -48,14 +48,22 @@ unlocked_out name p reply x y a b n =
     let r = without_global name p in
     first_act_out (Unlock name) (after_giving name r) reply x x y y a b b refl n (out_anywhere (after_giving name r reply) y y b refl)
 
--- there is no lock of LOCKFILE, or it isn't held
-pub none_global : (global : Option (List ℕ)) (p : Mind) → global ≡ None → Ends p ≡ give_named global p
-none_global global p e = ap (λ g. give_named g p) (sym e)
+-- there is no lock of LOCKFILE
+pub none_left : (global left : Option (List ℕ)) (p : Mind) (x : JournalState) (s : View) → global ≡ None → left ≡ None → Executes (give_named global (record p { global = global })) (record p { global = left }) x x s s
+none_left global left p x s none gone =
+    subst (λ h. Executes (give_named global (record p { global = global })) (record p { global = h }) x x s s) (sym gone)
+    (subst (λ h. Executes (give_named h (record p { global = h })) (record p { global = None }) x x s s) (sym none) (executes_nothing (record p { global = None }) x x s refl))
 
-pub not_held : (global : Option (List ℕ)) (name shown : List ℕ) (p : Mind) → global ≡ Some shown → name ≡ shown → holds_name p.locks name ≡ false → Ends p ≡ give_named global p
-not_held global name shown p is same free =
-    if_no (holds_name p.locks name) (and_then (ask (Unlock name)) (after_giving name (without_global name p))) (Ends p) free
-    ∙ (ap (λ n. give_named (Some n) p) same ∙ ap (λ g. give_named g p) (sym is))
+-- it isn't held
+not_held : (name : List ℕ) (p : Mind) → holds_name p.locks name ≡ false → Ends p ≡ give_named (Some name) p
+not_held name p free = if_no (holds_name p.locks name) (and_then (ask (Unlock name)) (after_giving name (without_global name p))) (Ends p) free
+
+pub not_given : (global : Option (List ℕ)) (name : List ℕ) (p : Mind) (x : JournalState) (s : View) → global ≡ Some name → holds_name p.locks name ≡ false
+    → Executes (give_named global (record p { global = global })) (record p { global = Some name }) x x s s
+not_given global name p x s there free =
+    let q : Mind = record p { global = Some name } in
+    subst (λ h. Executes (give_named h (record p { global = h })) q x x s s) (sym there)
+    (subst (λ plan. Executes plan q x x s s) (not_held name q free) (executes_nothing q x x s refl))
 
 -- it is there, and held
 pub is_held : (global : Option (List ℕ)) (name shown : List ℕ) (p : Mind) → global ≡ Some shown → name ≡ shown → holds_name p.locks name ≡ true → and_then (ask (Unlock name)) (after_giving name (without_global name p)) ≡ give_named global p

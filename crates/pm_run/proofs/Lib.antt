@@ -16,3 +16,4 @@ pub mod ArriveLemmas
 mod RunLemmas
 mod CloneLemmas
 mod OtherLemmas
+mod DraftLemmas

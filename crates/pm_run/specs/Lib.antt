@@ -7,3 +7,4 @@ pub mod Walk
 pub mod Opening
 pub mod Others
 pub mod Codes
+pub mod Drafts

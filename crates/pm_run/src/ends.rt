@@ -5,10 +5,10 @@ ghost use Rattle.pm_journal.specs.Executed.{Carries};
 ghost use Rattle.pm_journal.specs.Held.{Keeping};
 ghost use Rattle.pm_vars.specs.Variables.{value_of};
 ghost use Rattle.pm_journal.specs.LogText.{unusable_name_line, value_too_long_line};
-ghost use Rattle.pm_meaning.specs.Abstracts.{logs_last as last_is_logged};
+ghost use Rattle.pm_meaning.specs.Abstracts.{abstract_of as abstract_in, logs_last as last_is_logged};
 ghost use Rattle.pm_meaning.specs.Changes.{is_given as given_in, overflowed};
 ghost use Rattle.pm_meaning.specs.Locks.{value_or};
-ghost use Rattle.pm_meaning.specs.Logging.{logged};
+ghost use Rattle.pm_meaning.specs.Logging.{log, logged};
 ghost use Rattle.pm_meaning.specs.Minds.{mind_of};
 ghost use Rattle.pm_meaning.specs.Turns.{say_then};
 ghost use Rattle.pm_machine.specs.Ends.{tell_delivery as delivery_told, is_delivered, is_trapped as trapped_at, trap as trap_run};
@@ -19,6 +19,8 @@ ghost use Rattle.pm_machine.specs.Status.{chosen_status as status_chosen, exit_s
 ghost use Rattle.pm_run.specs.Codes.{code_written};
 ghost use Rattle.pm_run.specs.Stretches.{Walks};
 
+use crate::draft::Draft;
+use crate::drafting::{is_for, tell_draft};
 use crate::falling_off::value;
 use crate::global_lock::give_lock;
 use itoa::Buffer;
@@ -31,10 +33,12 @@ use pm_machine::{Ending, Status, status_of};
 use pm_meaning::{End, Process, ProgramLine};
 use std::alloc::Global;
 
-/// The process is over: the abstract of its delivery is logged, TRAP's program runs, and LOCKFILE's lock is given back.
+/// The process is over: the abstract of its delivery, of which there may be a draft, is logged, TRAP's program runs, and
+/// LOCKFILE's lock is given back.
 pub fn close<D: Outside>(
     alloc: Global,
     end: End,
+    draft: Option<Draft>,
     process: &mut Process,
     outside: &mut D,
     journal: &mut Journal,
@@ -44,7 +48,7 @@ pub fn close<D: Outside>(
         journal.old journal.new (D.told outside.old) (D.told outside.new) }
     ensures keeping { Keeping journal.new process.new.locks.names }
 {
-    tell_delivery(alloc, end, process, outside, journal)?;
+    tell_delivery(alloc, end, draft, process, outside, journal)?;
     let code = trap(alloc, end, process, outside, journal)?;
     let status = exit_status(end, code, process);
     give_lock(alloc, process, outside, journal)?;
@@ -55,6 +59,7 @@ pub fn close<D: Outside>(
 fn tell_delivery<D: Outside>(
     alloc: Global,
     end: End,
+    draft: Option<Draft>,
     process: &Process,
     outside: &mut D,
     journal: &mut Journal,
@@ -66,6 +71,27 @@ fn tell_delivery<D: Outside>(
 {
     if !is_told(end, process) {
         return Ok(());
+    }
+    tell_abstract(alloc, draft, process, outside, journal)
+}
+
+// A draft that is for this process is finished.
+fn tell_abstract<D: Outside>(
+    alloc: Global,
+    draft: Option<Draft>,
+    process: &Process,
+    outside: &mut D,
+    journal: &mut Journal,
+) -> Result<(), Memory>
+    requires keeping { Keeping journal.old process.now.locks.names }
+    ensures carries { let p = mind_of process.now in Carries (log (abstract_in p) p) (λ _. logged) result
+        journal.old journal.new (D.told outside.old) (D.told outside.new) }
+    ensures keeping { Keeping journal.new process.now.locks.names }
+{
+    if let Some(draft) = draft {
+        if is_for(&draft, process) {
+            return tell_draft(draft, process, outside, journal);
+        }
     }
     let text = abstract_of(alloc, process)?;
     tell(alloc, process, text, outside, journal)

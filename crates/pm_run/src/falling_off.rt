@@ -3,12 +3,17 @@ ghost use Rattle.std.specs.Prelude.{◌≡◌, ◌++◌, IfOk, OnOk, []};
 ghost use Rattle.pm_journal.specs.Executed.{Carries};
 ghost use Rattle.pm_journal.specs.Held.{Keeping};
 ghost use Rattle.pm_journal.specs.Walking.{Go};
+ghost use Rattle.pm_meaning.specs.Delivering.{deliver_default as to_default};
 ghost use Rattle.pm_meaning.specs.Locks.{value_or};
 ghost use Rattle.pm_meaning.specs.Minds.{mind_of};
 ghost use Rattle.pm_machine.specs.Running.{Running, FallingOff, Over, step, unless_same};
 ghost use Rattle.pm_machine.specs.Running.{default_mailboxes as mailboxes_by_default};
+ghost use Rattle.pm_actions.specs.Turning.{turn_of};
+ghost use Rattle.pm_run.specs.Drafts.{IsDrafted};
 ghost use Rattle.pm_run.specs.Stretches.{Walks};
 
+use crate::draft::Draft;
+use crate::drafting::draft_for;
 use pm_actions::{deliver_default, tell};
 use pm_acts::Outside;
 use pm_bytes::{Blob, Memory};
@@ -18,10 +23,11 @@ use pm_vars::Vars;
 use std::alloc::Global;
 use std::collections::VecDeque;
 
-/// Tries DEFAULT, and then ORGMAIL where it is another mailbox.
+/// Tries DEFAULT, and then ORGMAIL where it is another mailbox. The draft is that of the delivery's abstract.
 pub fn fall_off<D: Outside>(
     alloc: Global,
     process: &mut Process,
+    draft: &mut Option<Draft>,
     outside: &mut D,
     journal: &mut Journal,
 ) -> Result<End, Memory>
@@ -31,7 +37,7 @@ pub fn fall_off<D: Outside>(
     ensures keeping { Keeping journal.new process.new.locks.names }
 {
     let mailboxes = default_mailboxes(alloc, &process.vars)?;
-    try_each(alloc, mailboxes, process, outside, journal)
+    try_each(alloc, mailboxes, process, draft, outside, journal)
 }
 
 // DEFAULT and ORGMAIL, unless they are unset, empty or the same.
@@ -77,6 +83,7 @@ fn try_each<D: Outside>(
     alloc: Global,
     mut mailboxes: VecDeque<Blob>,
     process: &mut Process,
+    draft: &mut Option<Draft>,
     outside: &mut D,
     journal: &mut Journal,
 ) -> Result<End, Memory>
@@ -87,11 +94,31 @@ fn try_each<D: Outside>(
     ensures keeping { Keeping journal.new process.new.locks.names }
 {
     while let Some(mailbox) = mailboxes.pop_front() {
-        if let Some(end) = deliver_default(alloc, &mailbox, process, outside, journal)? {
+        if let Some(end) = try_mailbox(alloc, &mailbox, process, draft, outside, journal)? {
             return Ok(end);
         }
     }
     lose(alloc, process, outside, journal)
+}
+
+// Delivers to the mailbox, once the draft of its abstract is there.
+fn try_mailbox<D: Outside>(
+    alloc: Global,
+    mailbox: &Blob,
+    process: &mut Process,
+    draft: &mut Option<Draft>,
+    outside: &mut D,
+    journal: &mut Journal,
+) -> Result<Option<End>, Memory>
+    requires keeping { Keeping journal.old process.old.locks.names }
+    ensures carries { Carries (to_default mailbox.now (mind_of process.old))
+        (λ end. turn_of end (mind_of process.new)) result
+        journal.old journal.new (D.told outside.old) (D.told outside.new) }
+    ensures drafted { IfOk result (λ _. IsDrafted draft.new (mind_of process.old)) }
+    ensures keeping { Keeping journal.new process.new.locks.names }
+{
+    *draft = draft_for(alloc, process)?;
+    deliver_default(alloc, mailbox, process, outside, journal)
 }
 
 // No mailbox took the mail.

@@ -63,7 +63,8 @@ pub fn drop_lock<D: Outside>(
     Ok(None)
 }
 
-/// Gives the lock of LOCKFILE back, where there is one and it is held.
+/// Gives the lock of LOCKFILE back, where there is one and it is held. Only the line about a lock file that stays wants
+/// memory.
 pub fn give_lock<D: Outside>(
     alloc: Global,
     process: &mut Process,
@@ -76,14 +77,16 @@ pub fn give_lock<D: Outside>(
         journal.old journal.new (D.told outside.old) (D.told outside.new) }
     ensures keeping { Keeping journal.new process.new.locks.names }
 {
-    let name = match &process.global {
-        Some(name) => name.copy(alloc)?,
-        None => return Ok(()),
-    };
-    if !process.locks.holds(&name) {
-        return Ok(());
+    match process.global.take() {
+        None => Ok(()),
+        Some(name) => {
+            if !process.locks.holds(&name) {
+                process.global = Some(name);
+                return Ok(());
+            }
+            give_held(alloc, &name, process, outside, journal)
+        }
     }
-    give_held(alloc, &name, process, outside, journal)
 }
 
 fn give_held<D: Outside>(

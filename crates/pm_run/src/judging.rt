@@ -14,8 +14,11 @@ ghost use Rattle.pm_meaning.specs.Turns.{Turn, GoesOn, say_then};
 ghost use Rattle.pm_actions.specs.Names.{top_of};
 ghost use Rattle.pm_actions.specs.Turning.{turn_of};
 ghost use Rattle.pm_run.specs.Coming.{ComesTo, is_matched as is_match};
+ghost use Rattle.pm_run.specs.Drafts.{IsDrafted};
 
 use crate::conditions::judge;
+use crate::draft::Draft;
+use crate::drafting::draft_for;
 use pm_actions::{perform, skip_value, tell};
 use pm_acts::Outside;
 use pm_bytes::{Blob, Memory};
@@ -138,6 +141,7 @@ pub fn run_recipe<D: Outside>(
     alloc: Global,
     recipe: &Recipe,
     process: &mut Process,
+    draft: &mut Option<Draft>,
     outside: &mut D,
     journal: &mut Journal,
 ) -> Result<Option<End>, Memory>
@@ -149,7 +153,28 @@ pub fn run_recipe<D: Outside>(
     ensures keeping { Keeping journal.new process.new.locks.names }
 {
     match come_to(alloc, recipe, process, outside, journal)? {
-        Come::Acts => perform(alloc, recipe, process, outside, journal),
+        Come::Acts => act(alloc, recipe, process, draft, outside, journal),
         Come::Ended(end) => Ok(end),
     }
+}
+
+// Does the action, and before it the draft of its abstract.
+fn act<D: Outside>(
+    alloc: Global,
+    recipe: &Recipe,
+    process: &mut Process,
+    draft: &mut Option<Draft>,
+    outside: &mut D,
+    journal: &mut Journal,
+) -> Result<Option<End>, Memory>
+    requires keeping { Keeping journal.old process.old.locks.names }
+    ensures carries { Carries
+        (act_on (top_of recipe.now) (act_of recipe.now.action) (mind_of process.old))
+        (λ end. turn_of end (mind_of process.new)) result
+        journal.old journal.new (D.told outside.old) (D.told outside.new) }
+    ensures drafted { IfOk result (λ _. IsDrafted draft.new (mind_of process.old)) }
+    ensures keeping { Keeping journal.new process.new.locks.names }
+{
+    *draft = draft_for(alloc, process)?;
+    perform(alloc, recipe, process, outside, journal)
 }

@@ -7,6 +7,8 @@ mod arriving;
 mod assigning;
 mod cloning;
 mod conditions;
+mod draft;
+mod drafting;
 mod ends;
 mod falling_off;
 mod first_values;

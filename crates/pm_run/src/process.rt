@@ -101,7 +101,7 @@ fn run_first<D: Outside>(
             let mut frame = begin_frame(alloc, code);
             run_to_end(alloc, &mut frame, process, queue, outside, journal)
         }
-        Opened::Ended(end) => close(alloc, end, process, outside, journal),
+        Opened::Ended(end) => close(alloc, end, None, process, outside, journal),
         Opened::Nothing => close_without(alloc, process, outside, journal),
     }
 }
@@ -118,8 +118,9 @@ fn close_without<D: Outside>(
         journal.old journal.new (D.told outside.old) (D.told outside.new) }
     ensures keeping { Keeping journal.new process.new.locks.names }
 {
-    let end = fall_off(alloc, process, outside, journal)?;
-    close(alloc, end, process, outside, journal)
+    let mut draft = None;
+    let end = fall_off(alloc, process, &mut draft, outside, journal)?;
+    close(alloc, end, draft, process, outside, journal)
 }
 
 // A process, from what is left of its rcfiles to its end.
@@ -138,8 +139,9 @@ fn run_to_end<D: Outside>(
     ensures few { copies_left queue.new ≤ copies_left queue.old }
     ensures keeping { Keeping journal.new process.new.locks.names }
 {
-    match run_frame(alloc, frame, process, queue, outside, journal)? {
-        Some(end) => close(alloc, end, process, outside, journal),
+    let mut draft = None;
+    match run_frame(alloc, frame, process, queue, &mut draft, outside, journal)? {
+        Some(end) => close(alloc, end, draft, process, outside, journal),
         None => close_without(alloc, process, outside, journal),
     }
 }

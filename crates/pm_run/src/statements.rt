@@ -10,6 +10,7 @@ ghost use Rattle.pm_run.specs.Turned.{turn_in};
 ghost use Rattle.pm_run.specs.Walk.{plan_of};
 
 use crate::assigning::{assign_text, unset_variable};
+use crate::draft::Draft;
 use crate::judging::run_recipe;
 use crate::turned::{Turned, turned_by};
 use pm_actions::tell;
@@ -20,11 +21,12 @@ use pm_journal::{Journal, skipped};
 use pm_meaning::{End, Process};
 use std::alloc::Global;
 
-/// Does a step that is a statement; the beginning and the end of a block are none.
+/// Does a step that is a statement; the beginning and the end of a block are none. The draft is that of a recipe's abstract.
 pub fn run_statement<D: Outside>(
     alloc: Global,
     step: &Step,
     process: &mut Process,
+    draft: &mut Option<Draft>,
     outside: &mut D,
     journal: &mut Journal,
 ) -> Result<Turned, Memory>
@@ -44,7 +46,9 @@ pub fn run_statement<D: Outside>(
             journal,
         ),
         Step::Unset { name } => unset_variable(alloc, name.as_slice(), process, outside, journal),
-        Step::Plain(recipe) => turned_by(run_recipe(alloc, recipe, process, outside, journal)),
+        Step::Plain(recipe) => turned_by(run_recipe(
+            alloc, recipe, process, draft, outside, journal,
+        )),
         Step::Defect { text, .. } => turned_by(skip_line(
             alloc,
             text.as_slice(),

@@ -11,6 +11,7 @@ ghost use Rattle.pm_run.specs.Stretches.{Walks, Proceeds};
 ghost use Rattle.pm_run.specs.Walk.{stands, less_by, IsStepAt, EndsAt, Entered, ComesBack, IsBehind, stepped_of};
 
 use crate::cloning::make_clone;
+use crate::draft::Draft;
 use crate::gates::{Gate, pass_gate};
 use crate::leaving::{give_maybe, leave_blocks};
 use crate::opening::{Halted, open_later};
@@ -39,12 +40,14 @@ pub enum Stepped {
     Clones(usize),
 }
 
-/// Runs what is left of the rcfiles, up to the process's end, if a statement ends it. Then the open blocks are left.
+/// Runs what is left of the rcfiles, up to the process's end, if a statement ends it. Then the open blocks are left. The
+/// draft is that of the last action's abstract.
 pub fn run_frame<D: Outside>(
     alloc: Global,
     frame: &mut RcFrame,
     process: &mut Process,
     queue: &mut Queue,
+    draft: &mut Option<Draft>,
     outside: &mut D,
     journal: &mut Journal,
 ) -> Result<Option<End>, Memory>
@@ -56,7 +59,7 @@ pub fn run_frame<D: Outside>(
     ensures keeping { Keeping journal.new process.new.locks.names }
 {
     loop {
-        match step_frame(alloc, frame, process, outside, journal)? {
+        match step_frame(alloc, frame, process, draft, outside, journal)? {
             Stepped::Went => {}
             Stepped::Over => return Ok(None),
             Stepped::Halts(end) => match halt(alloc, end, frame, process, outside, journal)? {
@@ -103,6 +106,7 @@ fn step_frame<D: Outside>(
     alloc: Global,
     frame: &mut RcFrame,
     process: &mut Process,
+    draft: &mut Option<Draft>,
     outside: &mut D,
     journal: &mut Journal,
 ) -> Result<Stepped, Memory>
@@ -136,7 +140,7 @@ fn step_frame<D: Outside>(
                     }
                 }
             }
-            _ => match run_statement(alloc, step, process, outside, journal) {
+            _ => match run_statement(alloc, step, process, draft, outside, journal) {
                 Err(Memory) => Err(Memory),
                 Ok(turned) => {
                     process.openings = opened;

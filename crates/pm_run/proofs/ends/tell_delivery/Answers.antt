@@ -1,6 +1,6 @@
-use Rattle.std.proofs.Common.{rules, refl, sym, ◌∙◌}
-use Rattle.pm_journal.proofs.WantsMemory.{on_err, out_anywhere}
+use Rattle.std.proofs.Common.{refl, sym, ◌∙◌}
 use Rattle.pm_machine.specs.Ends.{tell_delivery}
+use Rattle.pm_meaning.specs.Abstracts.{abstract_of}
 use Rattle.pm_meaning.specs.Minds.{mind_of}
 use Rattle.pm_actions.proofs.DeliverLemmas.{carried}
 use Rattle.pm_run.proofs.EndLemmas.{untold, abstract_told}
@@ -10,10 +10,7 @@ pub returns-then-not-is_told-clause-carries : goal.returns-then-not-is_told-clau
 returns-then-not-is_told-clause-carries g c =
     (untold c.args.end (mind_of c.args.process.now) _ _ (sym c.is_told.ensures ∙ c.if-not-is_told.true), tt)
 
-pub returns-in_err-text-clause-carries : goal.returns-in_err-text-clause-carries
-returns-in_err-text-clause-carries g c = (search rules, on_err _ _ (out_anywhere _ _ _ _ refl))
-
 pub returns-clause-carries : goal.returns-clause-carries
 returns-clause-carries g c =
     let p = mind_of c.args.process.now in
-    carried _ (tell_delivery c.args.end p) _ _ _ _ _ _ (abstract_told c.args.end c.in_ok-text.text p (sym c.is_told.ensures ∙ c.if-not-is_told.false) c.in_ok-text.ensures) c.tell.ensures.carries
+    carried _ (tell_delivery c.args.end p) _ _ _ _ _ _ (abstract_told c.args.end (abstract_of p) p (sym c.is_told.ensures ∙ c.if-not-is_told.false) refl) c.tell_abstract.ensures.carries

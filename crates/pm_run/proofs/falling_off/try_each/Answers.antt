@@ -13,13 +13,13 @@ loop-mailbox-init g c = record { reaches = reaches_itself step _ _ _; keeping = 
 pub returns-in_err-end-clause-walks : goal.returns-in_err-end-clause-walks
 returns-in_err-end-clause-walks g c =
     let start = FallingOff c.args.mailboxes.items (mind_of c.args.process.now) in
-    (search rules, on_err _ _ (mailbox_wants start c.loop-mailbox.mailboxes.items c.pop_front.new.self.items c.in-Some.mailbox (mind_of c.loop-mailbox.process) c.args.journal.now c.loop-mailbox.journal c.deliver_default.new.journal _ _ _ c.in-Some.ensures.items c.loop-mailbox.invariant.reaches c.in_err-end.ensures.carries.1))
+    (search rules, on_err _ _ (mailbox_wants start c.loop-mailbox.mailboxes.items c.pop_front.new.self.items c.in-Some.mailbox (mind_of c.loop-mailbox.process) c.args.journal.now c.loop-mailbox.journal c.try_mailbox.new.journal _ _ _ c.in-Some.ensures.items c.loop-mailbox.invariant.reaches c.in_err-end.ensures.carries.1))
 
 pub returns-in-Some-2-clause-walks : goal.returns-in-Some-2-clause-walks
 returns-in-Some-2-clause-walks g c =
     let start = FallingOff c.args.mailboxes.items (mind_of c.args.process.now) in
     let ended = rw c.in-Some-2.is at c.in_ok-end.ensures.carries.0 in
-    (mailbox_ends start c.loop-mailbox.mailboxes.items c.pop_front.new.self.items c.in-Some.mailbox (mind_of c.loop-mailbox.process) (mind_of c.deliver_default.new.process) c.in-Some-2.end c.args.journal.now c.loop-mailbox.journal c.deliver_default.new.journal _ _ _ c.in-Some.ensures.items c.loop-mailbox.invariant.reaches ended, tt)
+    (mailbox_ends start c.loop-mailbox.mailboxes.items c.pop_front.new.self.items c.in-Some.mailbox (mind_of c.loop-mailbox.process) (mind_of c.try_mailbox.new.process) c.in-Some-2.end c.args.journal.now c.loop-mailbox.journal c.try_mailbox.new.journal _ _ _ c.in-Some.ensures.items c.loop-mailbox.invariant.reaches ended, tt)
 
 -- twice, since a mailbox that is dropped may have other owners
 pub loop-mailbox-preserved : goal.loop-mailbox-preserved
@@ -27,8 +27,8 @@ loop-mailbox-preserved g c =
     let start = FallingOff c.args.mailboxes.items (mind_of c.args.process.now) in
     let tried = rw c.in_default-2.is at c.in_ok-end.ensures.carries.0 in
     record {
-      reaches = mailbox_on start c.loop-mailbox.mailboxes.items c.pop_front.new.self.items c.in-Some.mailbox (mind_of c.loop-mailbox.process) (mind_of c.deliver_default.new.process) c.args.journal.now c.loop-mailbox.journal c.deliver_default.new.journal _ _ _ c.in-Some.ensures.items c.loop-mailbox.invariant.reaches tried;
-      keeping = c.deliver_default.ensures.keeping;
+      reaches = mailbox_on start c.loop-mailbox.mailboxes.items c.pop_front.new.self.items c.in-Some.mailbox (mind_of c.loop-mailbox.process) (mind_of c.try_mailbox.new.process) c.args.journal.now c.loop-mailbox.journal c.try_mailbox.new.journal _ _ _ c.in-Some.ensures.items c.loop-mailbox.invariant.reaches tried;
+      keeping = c.try_mailbox.ensures.keeping;
     }
 
 pub loop-mailbox-preserved-in_default-2 : goal.loop-mailbox-preserved-in_default-2
@@ -36,8 +36,8 @@ loop-mailbox-preserved-in_default-2 g c =
     let start = FallingOff c.args.mailboxes.items (mind_of c.args.process.now) in
     let tried = rw c.in_default-2.is at c.in_ok-end.ensures.carries.0 in
     record {
-      reaches = mailbox_on start c.loop-mailbox.mailboxes.items c.pop_front.new.self.items c.in-Some.mailbox (mind_of c.loop-mailbox.process) (mind_of c.deliver_default.new.process) c.args.journal.now c.loop-mailbox.journal c.deliver_default.new.journal _ _ _ c.in-Some.ensures.items c.loop-mailbox.invariant.reaches tried;
-      keeping = c.deliver_default.ensures.keeping;
+      reaches = mailbox_on start c.loop-mailbox.mailboxes.items c.pop_front.new.self.items c.in-Some.mailbox (mind_of c.loop-mailbox.process) (mind_of c.try_mailbox.new.process) c.args.journal.now c.loop-mailbox.journal c.try_mailbox.new.journal _ _ _ c.in-Some.ensures.items c.loop-mailbox.invariant.reaches tried;
+      keeping = c.try_mailbox.ensures.keeping;
     }
 
 pub returns-clause-walks : goal.returns-clause-walks

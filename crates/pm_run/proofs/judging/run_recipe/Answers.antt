@@ -21,7 +21,7 @@ returns-in-Acts-clause-carries g c =
     let top = top_of c.args.recipe.now in
     let acts : Mind → Plan Turn = λ q. act_on top (act_of c.args.recipe.now.action) q in
     let comes = rw c.in-Acts.is at c.in_ok-come_to.ensures.comes in
-    acts_on (judge_first top acts (mind_of c.args.process.now)) (acts (mind_of c.come_to.new.process)) _ _ _ _ _ _ _ _ (comes acts) c.perform.ensures.carries
+    acts_on (judge_first top acts (mind_of c.args.process.now)) (acts (mind_of c.come_to.new.process)) _ _ _ _ _ _ _ _ (comes acts) c.act.ensures.carries
 
 pub returns-in-Ended-clause-carries : goal.returns-in-Ended-clause-carries
 returns-in-Ended-clause-carries g c =

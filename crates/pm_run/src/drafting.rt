@@ -1,0 +1,81 @@
+//! Drafts of abstracts. What an abstract says of the mail is written before a delivery, with room for the rest, and the name
+//! of its log file too. So no memory is wanted for it once the mail is delivered.
+ghost use Rattle.std.specs.Prelude.{◌≡◌, ◌≤◌, ◌-◌, true, [], codes, IfOk, vec_capacity, vec_len};
+ghost use Rattle.pm_journal.specs.Executed.{Carries};
+ghost use Rattle.pm_journal.specs.Held.{Keeping};
+ghost use Rattle.pm_meaning.specs.Abstracts.{abstract_of as abstract_in};
+ghost use Rattle.pm_meaning.specs.Locks.{value_or};
+ghost use Rattle.pm_meaning.specs.Logging.{log, logged};
+ghost use Rattle.pm_meaning.specs.Minds.{mind_of};
+ghost use Rattle.pm_run.specs.Drafts.{IsDrafted, is_draft_for};
+
+use crate::draft::Draft;
+use crate::falling_off::value;
+use pm_actions::{log_name, logs_last, mail_part, push_folder, tell_in};
+use pm_acts::Outside;
+use pm_bytes::{Blob, Memory};
+use pm_journal::Journal;
+use pm_meaning::Process;
+use std::alloc::Global;
+
+/// How many bytes a draft has room for after the mail's part: twice the longest name of a file, and the other words.
+const ROOM: usize = 8_300;
+
+/// The draft for the next delivery, where its abstract will be logged.
+pub fn draft_for(alloc: Global, process: &Process) -> Result<Option<Draft>, Memory>
+    ensures { IfOk result (λ draft. IsDrafted draft (mind_of process.now)) }
+{
+    if !logs_last(process) {
+        return Ok(None);
+    }
+    let draft = draft_of(alloc, process)?;
+    Ok(Some(draft))
+}
+
+fn draft_of(alloc: Global, process: &Process) -> Result<Draft, Memory>
+    ensures head { IfOk result (λ draft. draft.head ≡ process.now.message.head) }
+    ensures value { IfOk result (λ draft. draft.value ≡ value_or [] (codes "LOGFILE") process.now.vars) }
+    ensures base { IfOk result (λ draft. draft.base ≡ process.now.base) }
+    ensures room { IfOk result (λ draft. 8300 ≤ vec_capacity draft.text - vec_len draft.text) }
+{
+    let parts = process.message.parts();
+    let head = parts.head.copy(alloc)?;
+    let text = mail_part(alloc, parts, ROOM)?;
+    let logfile = Blob::from_slice(alloc, value(&process.vars, b"LOGFILE"))?;
+    let base = process.base.copy(alloc)?;
+    let file = log_name(alloc, process)?;
+    Ok(Draft {
+        head,
+        text,
+        value: logfile,
+        base,
+        file,
+    })
+}
+
+/// Whether the draft is that of this process's mail and log file.
+pub fn is_for(draft: &Draft, process: &Process) -> bool
+    ensures { result ≡ is_draft_for draft.now (mind_of process.now) }
+{
+    draft.head.as_slice() == process.message.parts().head.as_slice()
+        && draft.value.as_slice() == value(&process.vars, b"LOGFILE")
+        && draft.base.as_str().as_bytes() == process.base.as_str().as_bytes()
+}
+
+/// Finishes the draft, which is for this process, and logs it as the abstract of the last delivery.
+pub fn tell_draft<D: Outside>(
+    draft: Draft,
+    process: &Process,
+    outside: &mut D,
+    journal: &mut Journal,
+) -> Result<(), Memory>
+    requires suits { is_draft_for draft (mind_of process.now) ≡ true }
+    requires keeping { Keeping journal.old process.now.locks.names }
+    ensures carries { let p = mind_of process.now in Carries (log (abstract_in p) p) (λ _. logged) result
+        journal.old journal.new (D.told outside.old) (D.told outside.new) }
+    ensures keeping { Keeping journal.new process.now.locks.names }
+{
+    let Draft { mut text, file, .. } = draft;
+    push_folder(&process.stored, &mut text)?;
+    tell_in(file, process, Blob::from_vec(text), outside, journal)
+}
