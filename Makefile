@@ -1,9 +1,9 @@
 # Each target works on a fresh checkout with nothing built, says at once how long it may take, and keeps a log in bin/.
 
-.PHONY: build build-procmail build-lockfile build-formail build-stat build-check build-cases install uninstall dist deb demo \
+.PHONY: build build-procmail build-lockfile build-formail build-stat build-check build-explain build-cases install uninstall dist deb demo \
 	test cases try bench plots promise layers check bugs clean
 
-build: build-procmail build-lockfile build-formail build-stat build-check
+build: build-procmail build-lockfile build-formail build-stat build-check build-explain
 
 # A program of bin/, built once its crates are proved, several at a time.
 build-procmail:
@@ -20,6 +20,9 @@ build-stat:
 
 build-check:
 	@bash .ci/build procmail-check
+
+build-explain:
+	@bash .ci/build procmail-explain
 
 # The programs that run the cases of tests/cases.
 build-cases:

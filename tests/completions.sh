@@ -30,7 +30,7 @@ of_fish() {
         "$top/completions/fish/$1.fish" | sort -u
 }
 
-for one in procmail formail lockfile procmail-stat procmail-check; do
+for one in procmail formail lockfile procmail-stat procmail-check procmail-explain; do
     options_of "$top/man/$one.1" > page
     [ "$(wc -l < page)" -ge 5 ] || fail "man/$one.1 names only $(tr '\n' ' ' < page)"
     for shell in bash zsh fish; do

@@ -1,0 +1,4 @@
+mod Alters
+mod Lists
+mod Steps
+mod Updates

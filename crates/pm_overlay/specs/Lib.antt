@@ -1,0 +1,5 @@
+pub mod Base
+pub mod Changes
+pub mod Steps
+pub mod Given
+pub mod Programs
