@@ -99,6 +99,11 @@ layers:
 	@bash .ci/layers > docs/.LAYERS.md && mv docs/.LAYERS.md docs/LAYERS.md
 	@python3 .ci/layers_picture > docs/.layers.svg && mv docs/.layers.svg docs/layers.svg
 
+# The public calls of each crate, with the names of their clauses: docs/SURFACE.md, which needs python3.
+.PHONY: surface
+surface:
+	@python3 .ci/surface > docs/.SURFACE.md && mv docs/.SURFACE.md docs/SURFACE.md
+
 # The merge gate.
 check:
 	@mkdir -p bin

@@ -2,7 +2,7 @@
 # The pages are written in the words that a reader searches for: no word or phrase of the list below stands in
 # README.md, man/*, docs/*.md or bench/README.md, and no sentence of the plain ones has more than 40 words.
 #
-# Not looked at are quotations, code spans, examples, a macro's arguments (identifiers and log texts) and the two pages
+# Not looked at are quotations, code spans, examples, a macro's arguments (identifiers and log texts) and the pages
 # that are made from the code. It prints FILE:LINE with each word and each sentence that is found.
 set -u
 name=$(basename "$0" .sh)
@@ -52,7 +52,7 @@ my @avoided = (
 );
 my $limit = 40;
 my $plain = qr{^(?:README\.md|man/.*|docs/(?:KNOWN_BUGS|PROMISES|DECISIONS|CASES|WORKING)\.md)$};
-my $made = qr{^docs/(?:LAYERS|PROMISE_LIST)\.md$};
+my $made = qr{^docs/(?:LAYERS|PROMISE_LIST|SURFACE)\.md$};
 
 # A word that goes over the end of a line is found where it ends.
 sub words_in {
