@@ -89,7 +89,7 @@ section procmail.1 DIAGNOSTICS | sed -n 's/^\.It //p' | sed 's/\\&//g; s/\\(dq/"
 same "log lines" procmail.1
 
 # No other file of definitions has a log line of procmail's, but for worked runs, examples, and the reading of logs.
-grep -l 'codes "procmail: ' crates/*/specs/*.antt | grep -v -e "$texts" -e crates/pm_top/ -e crates/pm_machine/specs/Clones.antt -e /Examples.antt -e crates/log_summary/ > "$folder/files" || true
+grep -l 'codes "procmail: ' crates/*/specs/*.antt | grep -v -e "$texts" -e crates/pm_top/ -e crates/pm_meaning/specs/Clones.antt -e /Examples.antt -e crates/log_summary/ > "$folder/files" || true
 [ ! -s "$folder/files" ] || fail "log lines stand elsewhere too: $(cat "$folder/files")"
 
 sed -n 's/.*codes "lockfile: \([^"\\]*\)\\"".*/\1"NAME"/p' crates/lockfile_top/specs/*.antt > "$folder/defined"
@@ -98,8 +98,7 @@ same "lines" lockfile.1
 
 # Variables: names in capitals that the definitions read or set.
 {
-    grep -ho --exclude=Examples.antt 'codes "[A-Z_][A-Z_]*"' crates/pm_meaning/specs/*.antt crates/pm_machine/specs/*.antt
-    grep -ho --exclude=Examples.antt 'with_value (codes "[A-Z_][A-Z_]*"' crates/pm_conds/specs/*.antt
+    grep -ho --exclude='*Examples.antt' --exclude=Leads.antt 'codes "[A-Z_][A-Z_]*"' crates/pm_meaning/specs/*.antt
 } | sed 's/.*codes "\(.*\)"/\1/' > "$folder/defined"
 section procmailrc.5 VARIABLES | items Ev > "$folder/named"
 same "variables" procmailrc.5
@@ -178,7 +177,7 @@ same "options" formail.1
 section formail.1 OPTIONS | grep -qx '\.It Cm + Ns Ar n' || fail "formail.1 lacks the option +N"
 
 # Statuses: procmail's of the runs and the range of EXITCODE, lockfile's, procmail-check's, and formail's.
-sed -n 's/^status_number [A-Za-z]* = \([0-9]*\)$/\1/p' crates/pm_machine/specs/Status.antt > "$folder/defined"
+sed -n 's/^status_number [A-Za-z]* = \([0-9]*\)$/\1/p' crates/pm_meaning/specs/Status.antt > "$folder/defined"
 echo 1 >> "$folder/defined"
 section procmail.1 'EXIT STATUS' | sed -n 's/^\.It \([0-9]*\).*/\1/p' > "$folder/named"
 same "statuses" procmail.1

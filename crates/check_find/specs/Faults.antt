@@ -2,10 +2,10 @@
 use Rattle.std.specs.Prelude.{ℕ, ◌&&◌, ◌||◌, List, drop, codes, nat_eq, if◌then◌else◌, Option, Some, None, is_some}
 use Rattle.std.specs.List.{starts_with}
 use Rattle.pm_recipe.specs.declared.tree.Condition.{Condition}
-use Rattle.pm_conds.specs.Leads.{Asking, asked, asking_of}
-use Rattle.pm_conds.specs.Judging.{question_by, number_between, is_expanded, is_program}
-use Rattle.pm_conds.specs.Searching.{expression_of}
-use Rattle.pm_conds.specs.declared.question.Question.{Question}
+use Rattle.pm_meaning.specs.Leads.{Asking, asked, asking_of}
+use Rattle.pm_meaning.specs.Evaluating.{question_by, number_between, is_expanded, is_program}
+use Rattle.pm_meaning.specs.Searching.{expression_of}
+use Rattle.pm_meaning.specs.declared.question.Question.{Question}
 use Rattle.check_find.specs.declared.codes.Fault.{Fault}
 use Rattle.check_find.specs.declared.codes.Fault.TheVariants.{Weight, Size, Expression}
 

@@ -2,8 +2,8 @@
 ghost use Rattle.std.specs.Prelude.{◌≡◌, IfOk, length, position};
 ghost use Rattle.std.specs.List.{list_all};
 ghost use Rattle.pm_bytes.specs.Letter.{is_blank_byte};
-ghost use Rattle.pm_conds.specs.Leads.{asking_of};
-ghost use Rattle.pm_conds.specs.Judging.{number_between, word_number as number_of_word};
+ghost use Rattle.pm_meaning.specs.Leads.{asking_of};
+ghost use Rattle.pm_meaning.specs.Evaluating.{number_between, word_number as number_of_word};
 ghost use Rattle.check_find.specs.Faults.{fault_of as fault_in, fault_by as fault_asked, test_fault as fault_tested};
 ghost use Rattle.check_find.specs.Faults.{size_fault as fault_of_size, expression_fault as fault_of_expression};
 ghost use Rattle.check_find.specs.Reports.{fault_at};

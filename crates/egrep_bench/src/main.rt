@@ -7,8 +7,8 @@
 mod area;
 
 use area::{kind_of, make};
-use pm_match::{Engine, Found};
-use pm_regex::{ReadRefused, read};
+use pm_match::Engine;
+use pm_regex::{Found, ReadRefused, read};
 use std::alloc::AllocError;
 use std::process::ExitCode;
 use std::{env, io};

@@ -1,6 +1,6 @@
 //! The file to which a program line appends: its name gives the automatic lock file (procmailrc(5), "Local lockfile").
 ghost use Rattle.std.specs.Prelude.{◌≡◌, position};
-ghost use Rattle.pm_conds.specs.Leads.{is_no_blank, behind_blanks as past_blanks};
+ghost use Rattle.pm_meaning.specs.Leads.{is_no_blank, behind_blanks as past_blanks};
 ghost use Rattle.pm_meaning.specs.ProgramActions.{behind_arrows as past_arrows, ends_name, up_to_end, appended_name as name_appended};
 
 use pm_bytes::{is_blank, is_space};

@@ -5,7 +5,7 @@ use Rattle.std.specs.List.{position_or_len}
 use Rattle.std.proofs.lemmas.Bool.{cases_lt, lt-ltb, le-ltb}
 use Rattle.std.proofs.lemmas.List.Sums.{prefix_len-le-length}
 use Rattle.pm_bytes.specs.declared.error.Memory.{Memory}
-use Rattle.pm_conds.specs.declared.question.Outcome.{Outcome}
+use Rattle.pm_meaning.specs.declared.question.Outcome.{Outcome}
 
 -- an outcome that is the same as another
 pub comes_to : (r : Result Outcome Memory) (x y : Outcome) → x ≡ y → IfOk r (λ come. come ≡ x) → IfOk r (λ come. come ≡ y)

@@ -1,6 +1,6 @@
 -- How far what stands before a test is read.
 use Rattle.std.proofs.Common.{◌≡◌, ◌≢◌, ℕ, zero, suc, ◌+◌, ◌-◌, ◌<◌, ◌≤◌, length, Option, Some, None, refl, ◌∙◌, ap, arith}
-use Rattle.pm_conds.specs.Leads.{Asking, next_asking, asked_within, asked}
+use Rattle.pm_meaning.specs.Leads.{Asking, next_asking, asked_within, asked}
 
 -- some steps lead from the one to the other, and each takes a byte at least
 pub record IsPassed (start now : Asking) : Type 0 where

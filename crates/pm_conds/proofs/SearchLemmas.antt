@@ -4,11 +4,11 @@ use Rattle.pm_regex.specs.Re.{Re, Whole}
 use Rattle.pm_regex.specs.Reading.{Reads, HasNoReading}
 use Rattle.pm_regex.proofs.ReadLemmas.{one_reading_of}
 use Rattle.pm_regex.proofs.ReadOrNot.{read_or_not}
-use Rattle.pm_match.specs.declared.engine.Found.{Found}
-use Rattle.pm_match.specs.Found.{IsFound, IsFoundOf}
-use Rattle.pm_match.proofs.MatchOrNot.{at_after}
-use Rattle.pm_match.proofs.FoundOrNot.{found_of, one_found}
-use Rattle.pm_conds.specs.Searching.{expression_from, expression_of, IsWithin}
+use Rattle.pm_regex.specs.declared.found.Found.{Found}
+use Rattle.pm_regex.specs.Found.{IsFound, IsFoundOf}
+use Rattle.pm_regex.proofs.MatchOrNot.{at_after}
+use Rattle.pm_regex.proofs.FoundOrNot.{found_of, one_found}
+use Rattle.pm_meaning.specs.Searching.{expression_from, expression_of, IsWithin}
 
 from_reading : (text : List ℕ) (e : Whole) → Reads text e → (d : ((f : Whole) × Reads text f) ⊎ HasNoReading text) → expression_from d ≡ Some e
 from_reading text e r (inl h) = ap (λ w. Some w) (one_reading_of text h.0 e h.1 r)

@@ -1,11 +1,11 @@
 -- Conditions with a weight are counted and judged.
 use Rattle.std.proofs.Common.{◌≡◌, ℕ, Bool, false, List, Option, Some, None, refl, sym, ap, ◌∙◌}
 use Rattle.pm_regex.specs.Re.{Whole}
-use Rattle.pm_match.specs.Found.{IsCount}
-use Rattle.pm_match.proofs.CountOf.{count_of, one_count}
-use Rattle.pm_conds.specs.declared.question.Factors.{Factors}
-use Rattle.pm_conds.specs.declared.question.Outcome.TheVariants.{Defective}
-use Rattle.pm_conds.specs.Weighing.{sought_outcome}
+use Rattle.pm_regex.specs.Found.{IsCount}
+use Rattle.pm_regex.proofs.CountOf.{count_of, one_count}
+use Rattle.pm_meaning.specs.declared.question.Factors.{Factors}
+use Rattle.pm_meaning.specs.declared.question.Outcome.TheVariants.{Defective}
+use Rattle.pm_meaning.specs.Weighing.{sought_outcome}
 
 -- what was counted is how many there are
 pub count_is : (fold : Bool) (e : Whole) (area : List ℕ) (n : ℕ) → IsCount fold e area n → n ≡ (count_of fold e area).0

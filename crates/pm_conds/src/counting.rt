@@ -1,15 +1,15 @@
 //! Conditions with a weight that count the matches of an expression (procmailsc(5)).
 ghost use Rattle.std.specs.Prelude.{◌≡◌, IfOk, IfSome, not, max};
-ghost use Rattle.pm_match.proofs.FoundOrNot.{found_of};
-ghost use Rattle.pm_match.proofs.CountOf.{count_of};
-ghost use Rattle.pm_conds.specs.Searching.{IsWithin, match_in};
-ghost use Rattle.pm_conds.specs.Weighing.{counted_outcome as outcome, count_in, match_bytes};
+ghost use Rattle.pm_regex.proofs.FoundOrNot.{found_of};
+ghost use Rattle.pm_regex.proofs.CountOf.{count_of};
+ghost use Rattle.pm_meaning.specs.Searching.{IsWithin, match_in};
+ghost use Rattle.pm_meaning.specs.Weighing.{counted_outcome as outcome, count_in, match_bytes};
 
-use crate::question::{Factors, Outcome};
+use pm_meaning::question::{Factors, Outcome};
 use crate::searching::matched;
 use pm_bytes::{Blob, Memory};
-use pm_match::{Engine, Found};
-use pm_regex::Expr;
+use pm_match::Engine;
+use pm_regex::{Expr, Found};
 use std::alloc::Global;
 
 /// What is found of an expression in an area, and how many matches of it stand there.

@@ -1,16 +1,16 @@
 //! What a recipe's conditions ask for, and what comes of each in order (procmailrc(5), "Conditions").
 ghost use Rattle.std.specs.Prelude.{◌≡◌, IfOk, pos, neg_ℤ, ◌≤ℤ◌};
 ghost use Rattle.std.specs.List.{list_any};
-ghost use Rattle.pm_conds.specs.Leads.{asking_of};
-ghost use Rattle.pm_conds.specs.Searching.{sight_of};
-ghost use Rattle.pm_conds.specs.Judging.{test_outcome, exited as outcome_of_exit, question_by};
-ghost use Rattle.pm_conds.specs.Judging.{judged_one, course_of, is_weighted};
+ghost use Rattle.pm_meaning.specs.Leads.{asking_of};
+ghost use Rattle.pm_meaning.specs.Searching.{sight_of};
+ghost use Rattle.pm_meaning.specs.Evaluating.{test_outcome, exited as outcome_of_exit, question_by};
+ghost use Rattle.pm_meaning.specs.Evaluating.{judged_one, course_of, is_weighted};
 
-use crate::question::{Factors, Outcome, Question, Scope, Verdict};
+use pm_meaning::question::{Factors, Outcome, Question, Scope, Verdict};
 use crate::scoring::{end_at, set_match};
 use crate::searching::{length_of, search};
 use crate::sizes::{measured_outcome, number_in, outcome_if};
-use crate::weighing::{add_code, add_length, add_score};
+use pm_meaning::{add_code, add_length, add_score};
 use pm_bytes::{Blob, Memory};
 use pm_message::Mail;
 use pm_recipe::{Condition, Flags, Weight};

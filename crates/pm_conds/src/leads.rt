@@ -1,29 +1,15 @@
 //! What stands before the test of a condition: `!`, and names with `??`.
 ghost use Rattle.std.specs.Prelude.{◌≡◌, ◌<◌, ◌≤◌, IfOk, IfSome, length, position, Some, None};
 ghost use Rattle.std.specs.List.{position_or_len};
-ghost use Rattle.pm_conds.specs.Leads.{is_no_blank, behind_blanks, ends_name, begins_name as name_begins};
-ghost use Rattle.pm_conds.specs.Leads.{name_length as length_of_name, is_named, behind_name, scope_of as scope_named};
-ghost use Rattle.pm_conds.specs.Leads.{Asking, next_asking, asked, asking_of};
+ghost use Rattle.pm_meaning.specs.Leads.{is_no_blank, behind_blanks, ends_name, begins_name as name_begins};
+ghost use Rattle.pm_meaning.specs.Leads.{name_length as length_of_name, is_named, behind_name, scope_of as scope_named};
+ghost use Rattle.pm_meaning.specs.Leads.{Asking, next_asking, asked, asking_of};
 
-use crate::question::{Question, Scope};
-use pm_bytes::{Blob, Memory, begins_name, continues_name, is_blank};
+use pm_bytes::{Blob, Memory, begins_name, continues_name};
+use pm_meaning::past_blanks;
+use pm_meaning::question::{Question, Scope};
 use pm_message::Place;
 use std::alloc::Global;
-
-/// The place of the first byte that is no blank.
-fn blanks_end(text: &[u8]) -> Option<usize>
-    ensures { result ≡ position is_no_blank text.now }
-{
-    text.iter().position(|byte| !is_blank(*byte))
-}
-
-/// The text without the blanks at its front.
-pub fn past_blanks(text: &[u8]) -> &[u8]
-    ensures value { result.now ≡ behind_blanks text.now }
-    ensures shorter { length result.now ≤ length text.now }
-{
-    &text[blanks_end(text).unwrap_or(text.len())..]
-}
 
 /// The place of the first byte that is in no name.
 fn name_end(text: &[u8]) -> Option<usize>

@@ -1,9 +1,9 @@
 //! The score of a recipe while its conditions are judged (procmailsc(5)).
 ghost use Rattle.std.specs.Prelude.{◌≡◌, IfOk};
-ghost use Rattle.pm_conds.specs.Judging.{with_score, with_matched};
-ghost use Rattle.pm_conds.specs.Weighing.{end_at as end_by, end_of_all as end_by_all};
+ghost use Rattle.pm_meaning.specs.Evaluating.{with_score, with_matched};
+ghost use Rattle.pm_meaning.specs.Weighing.{end_at as end_by, end_of_all as end_by_all};
 
-use crate::question::Verdict;
+use pm_meaning::question::Verdict;
 use pm_bytes::{Blob, Memory};
 use pm_vars::Vars;
 

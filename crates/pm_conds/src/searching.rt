@@ -1,22 +1,22 @@
 //! Conditions that search for an expression.
 ghost use Rattle.std.specs.Prelude.{◌≡◌, ◌≤◌, not, IfOk, IfSome, length};
 ghost use Rattle.pm_message.specs.Area.{area_of};
-ghost use Rattle.pm_match.proofs.FoundOrNot.{found_of};
-ghost use Rattle.pm_conds.specs.Searching.{Sight, sight_of, part_of, area_in, match_text, found_outcome as outcome};
-ghost use Rattle.pm_conds.specs.Searching.{match_in, behind_newline, before_newline, bytes_in, input_in};
-ghost use Rattle.pm_conds.specs.Searching.{value_or_empty, expression_of, IsWithin};
-ghost use Rattle.pm_conds.specs.Judging.{compared_length};
-ghost use Rattle.pm_conds.specs.Weighing.{sought_outcome};
+ghost use Rattle.pm_regex.proofs.FoundOrNot.{found_of};
+ghost use Rattle.pm_meaning.specs.Searching.{Sight, sight_of, part_of, area_in, match_text, found_outcome as outcome};
+ghost use Rattle.pm_meaning.specs.Searching.{match_in, behind_newline, before_newline, bytes_in, input_in};
+ghost use Rattle.pm_meaning.specs.Searching.{value_or_empty, expression_of, IsWithin};
+ghost use Rattle.pm_meaning.specs.Evaluating.{compared_length};
+ghost use Rattle.pm_meaning.specs.Weighing.{sought_outcome};
 ghost use Rattle.pm_vars.specs.Variables.{value_of};
 
 use crate::counting::count_area;
-use crate::question::{Outcome, Question, Scope};
+use pm_meaning::question::{Outcome, Question, Scope};
 use crate::sizes::outcome_if;
 use pm_bytes::{Blob, Memory};
-use pm_match::{Engine, Found};
+use pm_match::Engine;
 use pm_message::{Mail, Place};
 use pm_recipe::Flags;
-use pm_regex::{Expr, ReadRefused, read};
+use pm_regex::{Expr, Found, ReadRefused, read};
 use pm_vars::Vars;
 use std::alloc::Global;
 

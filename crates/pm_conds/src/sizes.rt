@@ -2,14 +2,14 @@
 ghost use Rattle.std.specs.Prelude.{◌≡◌, length, position};
 ghost use Rattle.std.specs.List.{list_all};
 ghost use Rattle.pm_bytes.specs.Letter.{is_blank_byte};
-ghost use Rattle.pm_conds.specs.Judging.{word_length as length_of_word, word_number as number_of_word};
-ghost use Rattle.pm_conds.specs.Judging.{number_between, inverted_if, size_outcome as outcome};
-ghost use Rattle.pm_conds.specs.Judging.{measured_outcome as measured};
-ghost use Rattle.pm_conds.specs.Weighing.{weighed_size as weighed};
-ghost use Rattle.pm_conds.specs.Searching.{holds_if};
+ghost use Rattle.pm_meaning.specs.Evaluating.{word_length as length_of_word, word_number as number_of_word};
+ghost use Rattle.pm_meaning.specs.Evaluating.{number_between, inverted_if, size_outcome as outcome};
+ghost use Rattle.pm_meaning.specs.Evaluating.{measured_outcome as measured};
+ghost use Rattle.pm_meaning.specs.Weighing.{weighed_size as weighed};
+ghost use Rattle.pm_meaning.specs.Searching.{holds_if};
 
-use crate::leads::past_blanks;
-use crate::question::{Factors, Outcome, Question};
+use pm_meaning::past_blanks;
+use pm_meaning::question::{Factors, Outcome, Question};
 use pm_bytes::{is_blank, read_count};
 
 /// The place of the first blank.

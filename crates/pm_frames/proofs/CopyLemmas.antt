@@ -4,7 +4,7 @@ use Rattle.pm_recipe.specs.Tree.{Trees, nil, cons}
 use Rattle.pm_code.specs.Flat.{flats_of}
 use Rattle.pm_code.specs.Ahead.{first, others, lists_of}
 use Rattle.pm_meaning.specs.declared.chain.Chain.{Chain}
-use Rattle.pm_machine.specs.Running.{Item, Do, BlockEnd, FileEnd, ahead, unlocked, inside}
+use Rattle.pm_meaning.specs.Running.{Item, Do, BlockEnd, FileEnd, ahead, unlocked, inside}
 use Rattle.pm_frames.specs.Frames.{weave, end_of, outer_items}
 use Rattle.pm_frames.specs.Copies.{Left, left_of, unlocked_block, unlocked_left}
 use Rattle.pm_frames.specs.declared.frames.Open.{Open}

@@ -7,7 +7,7 @@ use Rattle.pm_code.specs.Flat.{Flat, Does, Enters, Leaves, flats_of}
 use Rattle.pm_code.specs.Ahead.{first, others, lists_of, ends_of, is_first, is_single, ends_right, nth}
 use Rattle.pm_code.specs.Laws.{EndsThere}
 use Rattle.pm_code.proofs.Reading.{ends_there}
-use Rattle.pm_machine.specs.Running.{Item, Do, ahead, locks_of, locks_in_file, behind_file}
+use Rattle.pm_meaning.specs.Running.{Item, Do, ahead, locks_of, locks_in_file, behind_file}
 use Rattle.pm_frames.specs.Frames.{weave, end_of, block_locks, outer_items, outer_locks}
 use Rattle.pm_frames.specs.declared.frames.Open.{Open}
 use Rattle.pm_frames.specs.declared.frames.Waiting.{Waiting}

@@ -5,9 +5,9 @@ use Rattle.pm_code.specs.Flat.{Flat, flats_of}
 use Rattle.pm_code.specs.Ahead.{first, lists_of}
 use Rattle.pm_meaning.specs.Minds.{mind_of}
 use Rattle.pm_meaning.specs.declared.chain.Chain.{Chain}
-use Rattle.pm_machine.specs.Courses.{Others}
-use Rattle.pm_machine.specs.Running.{Task}
-use Rattle.pm_machine.specs.declared.ending.Ending.{Ending}
+use Rattle.pm_meaning.specs.Courses.{Others}
+use Rattle.pm_meaning.specs.Running.{Task}
+use Rattle.pm_meaning.specs.declared.ending.Ending.{Ending}
 use Rattle.pm_frames.specs.Frames.{items_of, steps_of}
 use Rattle.pm_frames.specs.declared.frames.Open.{Open}
 use Rattle.pm_frames.specs.declared.frames.RcFrame.{RcFrame}

@@ -3,7 +3,7 @@ use Rattle.std.specs.Prelude.{ℕ, ◌+◌, ◌-◌, ◌*◌, ◌^◌, length, d
 use Rattle.pm_recipe.specs.Tree.{Trees}
 use Rattle.pm_code.specs.Flat.{Flat, flats_of}
 use Rattle.pm_code.specs.Ahead.{first, others, lists_of}
-use Rattle.pm_machine.specs.Running.{Item, BlockEnd, FileEnd, ahead}
+use Rattle.pm_meaning.specs.Running.{Item, BlockEnd, FileEnd, ahead}
 use Rattle.pm_frames.specs.declared.frames.Open.{Open}
 use Rattle.pm_frames.specs.declared.frames.RcFrame.{RcFrame}
 use Rattle.pm_frames.specs.declared.frames.Waiting.{Waiting}

@@ -3,7 +3,7 @@ ghost use Rattle.std.specs.Prelude.{◌≡◌, List, [], drop, map, None, IfOk};
 ghost use Rattle.pm_code.specs.Ahead.{lists_of, others};
 ghost use Rattle.pm_meaning.specs.Blocks.{begun_block};
 ghost use Rattle.pm_meaning.specs.Minds.{mind_of};
-ghost use Rattle.pm_machine.specs.Running.{Item, clone_of, copied, inside, unlocked};
+ghost use Rattle.pm_meaning.specs.Running.{Item, clone_of, copied, inside, unlocked};
 ghost use Rattle.pm_frames.specs.Frames.{items_of, steps_of, weave};
 ghost use Rattle.pm_frames.specs.declared.frames.Open.{Open as OpenBlock};
 ghost use Rattle.pm_frames.specs.Copies.{task_of, block_at, left_of, unlocked_block, unlocked_left, IsCopied};

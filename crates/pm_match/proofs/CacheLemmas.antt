@@ -10,7 +10,7 @@ use Rattle.pm_match.specs.declared.step.Test.{Test}
 use Rattle.pm_match.specs.declared.step.Test.TheVariants as test
 use Rattle.pm_match.specs.declared.step.Step.{Step}
 use Rattle.pm_match.specs.declared.step.Step.TheVariants.{Stop, Go, Fork, Take, Range}
-use Rattle.pm_match.specs.Matching.{atom_passes}
+use Rattle.pm_regex.specs.Matching.{atom_passes}
 use Rattle.pm_match.specs.Automaton.{StepEdge, Edge, Run, passes}
 use Rattle.pm_match.specs.Backward.{ReachesExit, Holds, IsExitSet}
 use Rattle.pm_match.specs.Cache.{context, IsByteAt, Precedes, IsNext, AreLinks}

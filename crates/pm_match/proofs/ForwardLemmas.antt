@@ -4,7 +4,7 @@ use Rattle.pm_regex.specs.Re.{Re}
 use Rattle.pm_match.specs.declared.step.Step.{Step}
 use Rattle.pm_match.specs.declared.labels.Label.{Label}
 use Rattle.pm_match.specs.declared.build.Program.{Program}
-use Rattle.pm_match.specs.Matching.{At}
+use Rattle.pm_regex.specs.Matching.{At}
 use Rattle.pm_match.specs.Automaton.{Edge}
 use Rattle.pm_match.specs.Labels.{Below, Hops, here, hop, Crosses, IsClosed, IsEmpty}
 use Rattle.pm_match.specs.Finding.{Reach}

@@ -20,10 +20,6 @@ pub mod EngineLemmas
 pub mod CountLemmas
 pub mod JoinLemmas
 pub mod FinalLemmas
-pub mod Deciding
-pub mod MatchOrNot
-pub mod FoundOrNot
-pub mod CountOf
 pub mod BackwardLemmas
 pub mod CacheLemmas
 pub mod ForwardLemmas

@@ -2,10 +2,10 @@
 use Rattle.std.proofs.Common.{◌≡◌, ◌⊎◌, ℕ, zero, suc, ◌+◌, ◌<◌, ◌≤◌, Bool, List, [], ◌∷◌, ◌++◌, Some, None, length, refl, subst, ⊎_elim, arith}
 use Rattle.pm_regex.specs.Re.{Re}
 use Rattle.pm_match.specs.declared.build.Program.{Program}
-use Rattle.pm_match.specs.declared.engine.Found.{Found}
-use Rattle.pm_match.specs.Matching.{At}
+use Rattle.pm_regex.specs.declared.found.Found.{Found}
+use Rattle.pm_regex.specs.Matching.{At}
 use Rattle.pm_match.specs.Search.{IsProgram}
-use Rattle.pm_match.specs.Found.{IsPlainMatch, IsRun, place_behind}
+use Rattle.pm_regex.specs.Found.{IsPlainMatch, IsRun, place_behind}
 use Rattle.pm_match.specs.Backward.{ReachesExit}
 use Rattle.pm_match.specs.Forward.{IsLeastEnd}
 use Rattle.std.specs.Prelude.{vec_len}

@@ -2,13 +2,13 @@
 use Rattle.std.specs.Prelude.{◌≡◌, ℕ, min, ◌+◌, ◌*◌, ◌≤◌, ◌<◌, Bool, false, List, length, vec_len, Some, slice_get}
 use Rattle.pm_regex.specs.Re.{Re}
 use Rattle.pm_match.specs.declared.step.Step.{Step}
-use Rattle.pm_match.specs.declared.engine.Found.{Found}
+use Rattle.pm_regex.specs.declared.found.Found.{Found}
 use Rattle.pm_match.specs.declared.cache.States.{States}
 use Rattle.pm_match.specs.declared.marks.Marks.{Marks}
 use Rattle.pm_match.specs.Backward.{IsExitSet}
 use Rattle.pm_match.specs.Cache.{AreSets, AreReady}
 use Rattle.pm_match.specs.Begins.{AreRuns}
-use Rattle.pm_match.specs.Found.{IsRun}
+use Rattle.pm_regex.specs.Found.{IsRun}
 
 -- from window w on, the set at the start of each window that begins in the area is kept
 abbrev pub AreCheckpoints : List Step → List ℕ → ℕ → ℕ → List States → Type 0

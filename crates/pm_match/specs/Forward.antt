@@ -3,7 +3,7 @@ use Rattle.std.specs.Prelude.{◌≡◌, ◌↔◌, ℕ, ◌+◌, ◌≤◌, ◌
 use Rattle.pm_regex.specs.Re.{Re}
 use Rattle.pm_match.specs.declared.step.Step.{Step}
 use Rattle.pm_match.specs.declared.labels.Label.{Label}
-use Rattle.pm_match.specs.Matching.{At}
+use Rattle.pm_regex.specs.Matching.{At}
 use Rattle.pm_match.specs.Labels.{Below}
 use Rattle.pm_match.specs.Finding.{Reach}
 use Rattle.pm_match.specs.Backward.{Holds}

@@ -1,9 +1,5 @@
--- What a reader of the contracts needs: where an expression matches, and which match is found.
+-- What a reader of the contracts needs: for which expression an engine was built. Where it matches is in pm_regex.
 pub mod Aim
-pub mod Matching
-pub mod Found
--- What these say of short areas.
-pub mod Examples
 -- What the proof alone needs: the automaton, and how far a search is.
 pub mod Automaton
 pub mod Postfix

@@ -1,9 +1,9 @@
 //! How many matches there are, one after the other.
 ghost use Rattle.std.specs.Prelude.{◌≡◌, ℕ, ◌-◌, ◌^◌, ◌<◌, ◌≤◌, Bool, List, length};
 ghost use Rattle.pm_regex.specs.Re.{Re, nothing};
-ghost use Rattle.pm_match.specs.declared.engine.Found.{Found};
+ghost use Rattle.pm_regex.specs.declared.found.Found.{Found};
 ghost use Rattle.pm_match.specs.Search.{Runs};
-ghost use Rattle.pm_match.specs.Found.{IsRun, place_behind};
+ghost use Rattle.pm_regex.specs.Found.{IsRun, place_behind};
 ghost use Rattle.pm_match.specs.Checkpoints.{CountsTo};
 
 use crate::find::Match;

@@ -13,7 +13,6 @@ mod engine;
 mod find;
 mod forward;
 mod labels;
-mod laws;
 mod marks;
 mod row;
 mod search;
@@ -21,5 +20,4 @@ mod starts;
 mod step;
 mod tables;
 
-pub use engine::{Engine, Found};
-pub use laws::examples;
+pub use engine::Engine;

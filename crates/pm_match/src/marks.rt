@@ -3,11 +3,11 @@
 ghost use Rattle.std.specs.Prelude.{◌≡◌, ℕ, min, ◌+◌, ◌-◌, ◌*◌, ◌^◌, ◌<◌, ◌≤◌, Bool, List, Some, IfOk, IsTrue};
 ghost use Rattle.std.specs.Prelude.{length, vec_len, slice_get};
 ghost use Rattle.pm_regex.specs.Re.{Re};
-ghost use Rattle.pm_match.specs.declared.engine.Found.{Found};
+ghost use Rattle.pm_regex.specs.declared.found.Found.{Found};
 ghost use Rattle.pm_match.specs.declared.step.Step.{Step};
 ghost use Rattle.pm_match.specs.Labels.{InRange};
 ghost use Rattle.pm_match.specs.Search.{IsProgram};
-ghost use Rattle.pm_match.specs.Found.{IsRun, place_behind};
+ghost use Rattle.pm_regex.specs.Found.{IsRun, place_behind};
 ghost use Rattle.pm_match.specs.Backward.{ReachesExit, IsExitSet, AreMarks};
 ghost use Rattle.pm_match.specs.Checkpoints.{AreCheckpoints, HasRoom, CountsTo};
 ghost use Rattle.pm_match.specs.Begins.{AreRuns};

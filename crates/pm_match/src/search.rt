@@ -86,8 +86,8 @@ pub struct Search {
 impl Search {
     ghost use Rattle.std.specs.Prelude.{◌≡◌, ◌≤◌, ℕ, Bool, List, IfOk, IsTrue, length};
     ghost use Rattle.pm_regex.specs.Re.{Re, nothing};
-    ghost use Rattle.pm_match.specs.declared.engine.Found.{Found};
-    ghost use Rattle.pm_match.specs.Found.{IsMatch, IsRun};
+    ghost use Rattle.pm_regex.specs.declared.found.Found.{Found};
+    ghost use Rattle.pm_regex.specs.Found.{IsMatch, IsRun};
     ghost use Rattle.pm_match.specs.Checkpoints.{CountsTo};
     ghost use Rattle.pm_regex.specs.Postfix.{Spells};
     ghost use Rattle.pm_match.specs.Search.{Runs, IsReserved};

@@ -3,3 +3,25 @@ pub mod StoredDone
 mod ProgramRows
 mod FolderRows
 mod AbstractRows
+pub mod ScoreLemmas
+pub mod OneOutcome
+pub mod Lines
+pub mod Unlocks
+pub mod Closings
+pub mod NoDelivery
+pub mod NoLast
+pub mod RecipeReady
+pub mod MailboxDelivered
+pub mod ProgramDelivered
+pub mod TreeDelivered
+pub mod LastStep
+pub mod FirstKept
+pub mod EndStatus
+mod OneEnding
+pub mod DeliveredLast
+pub mod NoStray
+pub mod DefaultDelivered
+pub mod ClearRun
+pub mod Lifting
+mod StatusRows
+mod ClearRow

@@ -9,15 +9,15 @@ use Rattle.pm_vars.specs.Table.{Table}
 use Rattle.pm_subst.specs.Commands.{commands_in}
 use Rattle.pm_subst.specs.Words.{words_in}
 use Rattle.pm_subst.specs.declared.kinds.Mode.TheVariants.{Quoted}
-use Rattle.pm_conds.specs.Leads.{Asking, asking_of, asked, behind_blanks}
-use Rattle.pm_conds.specs.Searching.{Sight, sight_of, input_in}
-use Rattle.pm_conds.specs.Judging.{Course, judged_one, test_outcome, exited, is_expanded, is_program, question_by, with_score, is_weighted}
-use Rattle.pm_conds.specs.Weighing.{end_of_all}
-use Rattle.pm_conds.specs.declared.question.Outcome.{Outcome}
-use Rattle.pm_conds.specs.declared.question.Outcome.TheVariants as outcome
-use Rattle.pm_conds.specs.declared.question.Question.{Question}
-use Rattle.pm_conds.specs.declared.question.Verdict.{Verdict}
-use Rattle.pm_conds.specs.declared.question.Verdict.TheVariants.{Matched, Unmatched, Defective, TooLong}
+use Rattle.pm_meaning.specs.Leads.{Asking, asking_of, asked, behind_blanks}
+use Rattle.pm_meaning.specs.Searching.{Sight, sight_of, input_in}
+use Rattle.pm_meaning.specs.Evaluating.{Course, judged_one, test_outcome, exited, is_expanded, is_program, question_by, with_score, is_weighted}
+use Rattle.pm_meaning.specs.Weighing.{end_of_all}
+use Rattle.pm_meaning.specs.declared.question.Outcome.{Outcome}
+use Rattle.pm_meaning.specs.declared.question.Outcome.TheVariants as outcome
+use Rattle.pm_meaning.specs.declared.question.Question.{Question}
+use Rattle.pm_meaning.specs.declared.question.Verdict.{Verdict}
+use Rattle.pm_meaning.specs.declared.question.Verdict.TheVariants.{Matched, Unmatched, Defective, TooLong}
 use Rattle.pm_journal.specs.LogText.{defective_condition_line, value_too_long_line}
 use Rattle.pm_journal.specs.Outcomes.{run_end}
 use Rattle.pm_journal.specs.declared.acts.Act.TheVariants.{Run}

@@ -1,3 +1,4 @@
+-- The meaning of statements.
 pub mod Texts
 pub mod Minds
 pub mod Chains
@@ -17,6 +18,22 @@ pub mod Delivering
 pub mod ProgramActions
 pub mod Acting
 pub mod Blocks
+pub mod Leads
+pub mod Searching
+pub mod Scores
+pub mod Weighing
+pub mod Evaluating
 pub mod Judging
 pub mod Laws
 pub mod Examples
+pub mod RunExamples
+pub mod ConditionExamples
+-- A run as a machine, and how it ends.
+pub mod Status
+pub mod Ends
+pub mod Running
+pub mod Courses
+pub mod RunLaws
+pub mod EndStatus
+pub mod Completeness
+pub mod Clones

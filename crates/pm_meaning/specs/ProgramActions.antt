@@ -2,7 +2,7 @@
 use Rattle.std.specs.Prelude.{ℕ, Bool, true, false, not, ◌&&◌, ◌||◌, ◌==◌, nat_eq, nat_lt, List, [], ◌∷◌, ◌++◌, Option, Some, None, is_some, length, take, drop, codes, if◌then◌else◌}
 use Rattle.std.specs.List.{list_any, starts_with, position_or_len}
 use Rattle.pm_bytes.specs.Letter.{is_space_byte}
-use Rattle.pm_conds.specs.Leads.{behind_blanks}
+use Rattle.pm_meaning.specs.Leads.{behind_blanks}
 use Rattle.pm_host.specs.declared.command.Command.{Command}
 use Rattle.pm_message.specs.Piece.{piece_of}
 use Rattle.pm_message.specs.Split.{split_of}

@@ -8,3 +8,7 @@ pub mod GroupLemmas
 pub mod ReaderLemmas
 pub mod ReadLemmas
 pub mod ReadOrNot
+pub mod Deciding
+pub mod MatchOrNot
+pub mod FoundOrNot
+pub mod CountOf

@@ -3,6 +3,7 @@
 
 mod error;
 mod expr;
+mod found;
 mod group;
 mod laws;
 mod macros;
@@ -14,6 +15,7 @@ mod sign;
 
 pub use error::ReadRefused;
 pub use expr::Expr;
-pub use laws::examples;
+pub use found::Found;
+pub use laws::{examples, match_examples};
 pub use op::{Atom, Op, Times};
 pub use reading::{one_reading, read};

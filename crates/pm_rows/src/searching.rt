@@ -1,7 +1,7 @@
 //! Rows of expressions and the areas in which they are searched for.
 use case_file::{Refused, Words, number_word, one_number, one_word};
-use pm_match::{Engine, Found};
-use pm_regex::{Expr, ReadRefused, read};
+use pm_match::Engine;
+use pm_regex::{Expr, Found, ReadRefused, read};
 use std::alloc::Global;
 
 /// Where the expression matches: its start and end, with its cut between them, or `none`.

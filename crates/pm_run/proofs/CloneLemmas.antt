@@ -12,9 +12,9 @@ use Rattle.pm_journal.proofs.WalkJoin.{reaches_once, interrupted_at_once}
 use Rattle.pm_journal.proofs.WantsMemory.{executes_nothing, out_anywhere}
 use Rattle.pm_meaning.specs.Chains.{succeeded}
 use Rattle.pm_meaning.specs.Minds.{Mind}
-use Rattle.pm_machine.specs.Courses.{Others, Course, now_at, with_copy, make_clone, advance}
-use Rattle.pm_machine.specs.Running.{State, Item, Event, Running, Cloning, Refusing, Task, clone_of, step}
-use Rattle.pm_machine.specs.declared.ending.Ending.{Ending}
+use Rattle.pm_meaning.specs.Courses.{Others, Course, now_at, with_copy, make_clone, advance}
+use Rattle.pm_meaning.specs.Running.{State, Item, Event, Running, Cloning, Refusing, Task, clone_of, step}
+use Rattle.pm_meaning.specs.declared.ending.Ending.{Ending}
 use Rattle.pm_frames.specs.Copies.{task_of, others_of}
 use Rattle.pm_frames.specs.declared.queue.Copy.{Copy}
 use Rattle.pm_frames.specs.declared.queue.Queue.{Queue}

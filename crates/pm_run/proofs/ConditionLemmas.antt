@@ -21,14 +21,14 @@ use Rattle.pm_journal.specs.declared.children.RunEnd.{RunEnd}
 use Rattle.pm_journal.proofs.ActPlans.{executes_then}
 use Rattle.pm_journal.proofs.PlanLeads.{leads_itself, leads_on, leads_to_end, leads_to_want}
 use Rattle.pm_journal.proofs.WantsMemory.{executes_nothing, out_front, out_then, out_anywhere}
-use Rattle.pm_conds.specs.Leads.{Asking, asking_of, asked, behind_blanks}
-use Rattle.pm_conds.specs.Judging.{course_of, judged_one, test_outcome, exited, is_expanded, is_program, question_by, with_score, is_weighted}
-use Rattle.pm_conds.specs.Searching.{input_in}
-use Rattle.pm_conds.specs.Weighing.{end_of_all}
-use Rattle.pm_conds.specs.declared.question.Outcome.{Outcome}
-use Rattle.pm_conds.specs.declared.question.Outcome.TheVariants.{Defective, TooLong}
-use Rattle.pm_conds.specs.declared.question.Question.{Question}
-use Rattle.pm_conds.specs.declared.question.Verdict.{Verdict}
+use Rattle.pm_meaning.specs.Leads.{Asking, asking_of, asked, behind_blanks}
+use Rattle.pm_meaning.specs.Evaluating.{course_of, judged_one, test_outcome, exited, is_expanded, is_program, question_by, with_score, is_weighted}
+use Rattle.pm_meaning.specs.Searching.{input_in}
+use Rattle.pm_meaning.specs.Weighing.{end_of_all}
+use Rattle.pm_meaning.specs.declared.question.Outcome.{Outcome}
+use Rattle.pm_meaning.specs.declared.question.Outcome.TheVariants.{Defective, TooLong}
+use Rattle.pm_meaning.specs.declared.question.Question.{Question}
+use Rattle.pm_meaning.specs.declared.question.Verdict.{Verdict}
 use Rattle.pm_meaning.specs.Assigning.{first_word}
 use Rattle.pm_meaning.specs.Judging.{seen, with_table, ask_program, by_line, ask_line, comes_by, judge, Come, come_with, tested, read_again, expanded, comes_within, comes_of, Judged, judged_with, judged_by, judge_each}
 use Rattle.pm_meaning.specs.Minds.{Mind}

@@ -27,10 +27,10 @@ use Rattle.pm_meaning.specs.Programs.{code_of, with_code, with_exit_code}
 use Rattle.pm_meaning.specs.Turns.{say_then}
 use Rattle.pm_meaning.specs.declared.process.End.{End}
 use Rattle.pm_meaning.specs.declared.process.End.TheVariants.{Delivered, FellOff, NoRc, HostOff}
-use Rattle.pm_machine.specs.Ends.{is_delivered, tell_delivery, is_trapped, Trapped, trapped_with, run_trap, trap_by, trap_line, trap}
-use Rattle.pm_machine.specs.Running.{State, Event, Over, Trapping, Unlocking, Closing, ending_of, step}
-use Rattle.pm_machine.specs.Status.{is_code, code_in, is_set, is_there_empty, base_status, chosen_status, exit_status, with_exit_status}
-use Rattle.pm_machine.specs.declared.ending.Ending.{Ending}
+use Rattle.pm_meaning.specs.Ends.{is_delivered, tell_delivery, is_trapped, Trapped, trapped_with, run_trap, trap_by, trap_line, trap}
+use Rattle.pm_meaning.specs.Running.{State, Event, Over, Trapping, Unlocking, Closing, ending_of, step}
+use Rattle.pm_meaning.specs.Status.{is_code, code_in, is_set, is_there_empty, base_status, chosen_status, exit_status, with_exit_status}
+use Rattle.pm_meaning.specs.declared.ending.Ending.{Ending}
 use Rattle.pm_journal.proofs.ActPlans.{executes_then}
 use Rattle.pm_journal.proofs.WantsMemory.{executes_nothing, out_front, out_then}
 use Rattle.pm_journal.proofs.WalkJoin.{reaches_once, reaches_then, interrupted_at_once, interrupted_then}

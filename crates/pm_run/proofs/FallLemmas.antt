@@ -9,7 +9,7 @@ use Rattle.pm_meaning.specs.Delivering.{deliver_default}
 use Rattle.pm_meaning.specs.Minds.{Mind}
 use Rattle.pm_meaning.specs.Turns.{Turn, GoesOn, Halts}
 use Rattle.pm_meaning.specs.declared.process.End.{End}
-use Rattle.pm_machine.specs.Running.{State, Event, Running, FallingOff, Over, step, default_mailboxes, next_default}
+use Rattle.pm_meaning.specs.Running.{State, Event, Running, FallingOff, Over, step, default_mailboxes, next_default}
 use Rattle.pm_journal.proofs.ActPlans.{executes_then}
 use Rattle.pm_journal.proofs.WantsMemory.{executes_nothing, out_front}
 use Rattle.pm_journal.proofs.WalkJoin.{reaches_then, interrupted_then}

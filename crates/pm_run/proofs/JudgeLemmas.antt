@@ -11,8 +11,8 @@ use Rattle.pm_journal.proofs.PlanLeads.{leads_itself, leads_on, leads_to_end, le
 use Rattle.pm_journal.proofs.WantsMemory.{executes_nothing, out_front, out_then}
 use Rattle.pm_recipe.specs.Tree.{Top}
 use Rattle.pm_recipe.specs.declared.tree.Condition.{Condition}
-use Rattle.pm_conds.specs.declared.question.Verdict.{Verdict}
-use Rattle.pm_conds.specs.declared.question.Verdict.TheVariants.{Matched, Unmatched, Defective, TooLong}
+use Rattle.pm_meaning.specs.declared.question.Verdict.{Verdict}
+use Rattle.pm_meaning.specs.declared.question.Verdict.TheVariants.{Matched, Unmatched, Defective, TooLong}
 use Rattle.pm_meaning.specs.Chains.{is_admitted, passed, executed}
 use Rattle.pm_meaning.specs.Judging.{Judged, judge, judged_with, by_verdict, behind_conditions, judge_first}
 use Rattle.pm_meaning.specs.Minds.{Mind}

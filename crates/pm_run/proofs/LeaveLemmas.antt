@@ -20,7 +20,7 @@ use Rattle.pm_meaning.specs.Locks.{is_fault}
 use Rattle.pm_meaning.specs.Logging.{log, logged}
 use Rattle.pm_meaning.specs.Minds.{Mind}
 use Rattle.pm_meaning.specs.Turns.{say_then}
-use Rattle.pm_machine.specs.Running.{State, Item, Event, Running, LeavingFile, Leaving, Over, left_by, step}
+use Rattle.pm_meaning.specs.Running.{State, Item, Event, Running, LeavingFile, Leaving, Over, left_by, step}
 use Rattle.pm_meaning.specs.declared.process.End.{End}
 use Rattle.pm_meaning.specs.declared.process.End.TheVariants.{Delivered, FellOff, NoRc, HostOff}
 use Rattle.pm_actions.proofs.Choices.{choose_then, then_out, line_told, line_out}

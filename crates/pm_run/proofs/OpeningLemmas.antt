@@ -30,7 +30,7 @@ use Rattle.pm_meaning.specs.Minds.{Mind}
 use Rattle.pm_meaning.specs.Turns.{say_then}
 use Rattle.pm_meaning.specs.declared.process.End.{End}
 use Rattle.pm_meaning.specs.declared.process.End.TheVariants.{NoRc, HostOff}
-use Rattle.pm_machine.specs.Running.{State, Event, Running, Over, Opening, OpeningRule, ahead, entered, is_first, is_missing, with_later, left_by, without_rcfile, open_next, after_read, pass_over, step}
+use Rattle.pm_meaning.specs.Running.{State, Event, Running, Over, Opening, OpeningRule, ahead, entered, is_first, is_missing, with_later, left_by, without_rcfile, open_next, after_read, pass_over, step}
 use Rattle.pm_frames.specs.Frames.{weave, items_of, outer_items, left_outside, left_in, left_over}
 use Rattle.pm_frames.specs.declared.frames.Open.{Open}
 use Rattle.pm_frames.specs.declared.frames.RcFrame.{RcFrame}

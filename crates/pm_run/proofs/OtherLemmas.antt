@@ -10,10 +10,10 @@ use Rattle.pm_journal.proofs.ActPlans.{executes_then}
 use Rattle.pm_journal.proofs.WalkJoin.{reaches_itself, reaches_once, reaches_then, completes_then, completes_reached, interrupted_reached, abandoned_by}
 use Rattle.pm_journal.proofs.WantsMemory.{executes_nothing}
 use Rattle.pm_meaning.specs.Minds.{Mind, mind_of}
-use Rattle.pm_machine.specs.Courses.{Others, Course, now_at, resumed, next_process, first_end, onward, advance, alone}
-use Rattle.pm_machine.specs.Running.{State, Event, Ended, Running, Closing, unlock_each, step}
-use Rattle.pm_machine.specs.declared.ending.Ending.{Ending}
-use Rattle.pm_machine.proofs.Unlocks.{unlocks_played}
+use Rattle.pm_meaning.specs.Courses.{Others, Course, now_at, resumed, next_process, first_end, onward, advance, alone}
+use Rattle.pm_meaning.specs.Running.{State, Event, Ended, Running, Closing, unlock_each, step}
+use Rattle.pm_meaning.specs.declared.ending.Ending.{Ending}
+use Rattle.pm_meaning.proofs.Unlocks.{unlocks_played}
 use Rattle.pm_frames.specs.Frames.{items_of}
 use Rattle.pm_frames.specs.Copies.{task_of, others_of}
 use Rattle.pm_frames.specs.declared.queue.Copy.{Copy}

@@ -5,7 +5,7 @@ use Rattle.pm_journal.specs.Entries.{View}
 use Rattle.pm_journal.specs.Walking.{Means, IsUnfinished, Reaches}
 use Rattle.pm_journal.proofs.AccountsJoin.{accounts_join}
 use Rattle.pm_journal.proofs.WalkJoin.{arrives_on}
-use Rattle.pm_machine.specs.Running.{State, Event, step}
+use Rattle.pm_meaning.specs.Running.{State, Event, step}
 
 -- from one state to another, and on to a third
 pub reaches_reached : (s t u : State) (x y z : JournalState) (a b c : View) → Reaches {X = Event} step s t x y a b → Reaches {X = Event} step t u y z b c → Reaches {X = Event} step s u x z a c

@@ -27,7 +27,7 @@ use Rattle.pm_meaning.specs.Chains.{new_chain, with_chain}
 use Rattle.pm_meaning.specs.Blocks.{begun_block}
 use Rattle.pm_meaning.specs.Changes.{with_rcfile, opened}
 use Rattle.pm_meaning.specs.Minds.{Mind}
-use Rattle.pm_machine.specs.Running.{State, Item, FileEnd, Running, Including, Switching, LeavingFile, ahead, Reading, with_statements, open_rcfile, included, switched, locks_in_file, behind_file, step, Event}
+use Rattle.pm_meaning.specs.Running.{State, Item, FileEnd, Running, Including, Switching, LeavingFile, ahead, Reading, with_statements, open_rcfile, included, switched, locks_in_file, behind_file, step, Event}
 use Rattle.pm_meaning.specs.Turns.{say_then}
 use Rattle.pm_acts.specs.Acts.{ReadsWhole}
 use Rattle.pm_actions.proofs.Choices.{choose_then, choose_else, then_out, else_out}

@@ -10,10 +10,10 @@ use Rattle.pm_journal.proofs.AccountsJoin.{accounts_join}
 use Rattle.pm_journal.proofs.KeepingActs.{keeps_rest}
 use Rattle.pm_journal.proofs.KeepsJoin.{keeps_join}
 use Rattle.pm_journal.proofs.WalkJoin.{arrives_on, reaches_itself, interrupted_reached}
-use Rattle.pm_machine.specs.Courses.{now_at, advance}
-use Rattle.pm_machine.specs.Running.{State, Event, step}
-use Rattle.pm_machine.specs.declared.ending.Ending.{Ending}
-use Rattle.pm_machine.proofs.Lifting.{reaches_in_run, interrupted_in_run}
+use Rattle.pm_meaning.specs.Courses.{now_at, advance}
+use Rattle.pm_meaning.specs.Running.{State, Event, step}
+use Rattle.pm_meaning.specs.declared.ending.Ending.{Ending}
+use Rattle.pm_meaning.proofs.Lifting.{reaches_in_run, interrupted_in_run}
 use Rattle.pm_frames.specs.Copies.{others_of}
 use Rattle.pm_frames.specs.declared.queue.Queue.{Queue}
 

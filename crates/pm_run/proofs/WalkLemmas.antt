@@ -22,7 +22,7 @@ use Rattle.pm_meaning.specs.Judging.{judge_first}
 use Rattle.pm_meaning.specs.Minds.{Mind}
 use Rattle.pm_meaning.specs.Changes.{with_rcfile, with_openings}
 use Rattle.pm_meaning.specs.Turns.{Turn, GoesOn}
-use Rattle.pm_machine.specs.Running.{State, Running, LeavingFile, Cloning, Leaving, Item, FileEnd, statement, next_of, ahead, behind_file, step, Event}
+use Rattle.pm_meaning.specs.Running.{State, Running, LeavingFile, Cloning, Leaving, Item, FileEnd, statement, next_of, ahead, behind_file, step, Event}
 use Rattle.pm_meaning.specs.declared.process.End.{End}
 use Rattle.pm_frames.specs.Copies.{block_at}
 use Rattle.pm_frames.specs.Frames.{weave, steps_of, items_of, outer_items, block_locks, all_locks, left_outside, left_in, left_over}

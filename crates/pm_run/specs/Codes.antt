@@ -1,7 +1,7 @@
 -- The number of an exit status that a text writes.
 use Rattle.std.specs.Prelude.{ℕ, ◌&&◌, List, Option, Some, None, nat_le, if◌then◌else◌}
 use Rattle.pm_bytes.specs.Number.{count_of}
-use Rattle.pm_machine.specs.Status.{is_code}
+use Rattle.pm_meaning.specs.Status.{is_code}
 
 -- a number that an exit status can be, other than success
 abbrev pub code_written : List ℕ → Option ℕ

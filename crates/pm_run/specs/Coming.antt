@@ -1,8 +1,8 @@
 -- What comes of a recipe before its action.
 use Rattle.std.specs.Prelude.{Bool, true, false}
 use Rattle.pm_recipe.specs.Tree.{Top}
-use Rattle.pm_conds.specs.declared.question.Verdict.{Verdict}
-use Rattle.pm_conds.specs.declared.question.Verdict.TheVariants.{Matched}
+use Rattle.pm_meaning.specs.declared.question.Verdict.{Verdict}
+use Rattle.pm_meaning.specs.declared.question.Verdict.TheVariants.{Matched}
 use Rattle.pm_journal.specs.JournalState.{JournalState}
 use Rattle.pm_journal.specs.Entries.{View}
 use Rattle.pm_journal.specs.Executed.{Executes, LeadsTo}

@@ -5,7 +5,7 @@ use Rattle.pm_code.specs.declared.code.Code.{Code}
 use Rattle.pm_recipe.specs.Tree.{Trees}
 use Rattle.pm_meaning.specs.Minds.{Mind}
 use Rattle.pm_meaning.specs.declared.process.End.{End}
-use Rattle.pm_machine.specs.Running.{State, Running, Over, OpeningRule}
+use Rattle.pm_meaning.specs.Running.{State, Running, Over, OpeningRule}
 use Rattle.pm_frames.specs.Frames.{items_of}
 use Rattle.pm_frames.specs.declared.queue.Queue.{Queue}
 use Rattle.pm_frames.specs.declared.frames.RcFrame.{RcFrame}

@@ -12,7 +12,7 @@ use Rattle.pm_meaning.specs.Blocks.{begun_block}
 use Rattle.pm_meaning.specs.Changes.{opened}
 use Rattle.pm_meaning.specs.declared.process.End.TheVariants.{NoRc}
 use Rattle.pm_meaning.specs.Minds.{Mind}
-use Rattle.pm_machine.specs.Running.{State, Event, Running, Over, Opening, OpeningRule, ahead, entered, with_later, open_next, after_read, pass_over, step}
+use Rattle.pm_meaning.specs.Running.{State, Event, Running, Over, Opening, OpeningRule, ahead, entered, with_later, open_next, after_read, pass_over, step}
 use Rattle.pm_run.specs.Ends.{IsCode}
 use Rattle.pm_run.specs.declared.opening.Opened.{Opened}
 use Rattle.pm_run.specs.declared.opening.Opened.TheVariants.{Read, Ended, Nothing}

@@ -11,7 +11,7 @@ use Rattle.pm_journal.specs.declared.acts.Act.TheVariants.{ReadFile}
 use Rattle.pm_recipe.specs.Tree.{Trees}
 use Rattle.pm_meaning.specs.Changes.{with_rcfile}
 use Rattle.pm_meaning.specs.Minds.{Mind}
-use Rattle.pm_machine.specs.Running.{Item, Running, Reading, open_rcfile, with_statements}
+use Rattle.pm_meaning.specs.Running.{Item, Running, Reading, open_rcfile, with_statements}
 use Rattle.pm_frames.specs.declared.frames.RcFrame.{RcFrame}
 use Rattle.pm_frames.specs.declared.frames.Waiting.{Waiting}
 

@@ -11,7 +11,7 @@ use Rattle.pm_meaning.specs.Judging.{judge_first}
 use Rattle.pm_meaning.specs.Minds.{Mind}
 use Rattle.pm_meaning.specs.Turns.{Turn, GoesOn, Halts, Enters, Clones}
 use Rattle.pm_meaning.specs.Changes.{with_rcfile}
-use Rattle.pm_machine.specs.Running.{State, Item, Running, Including, Switching, LeavingFile, Cloning, Leaving, statement}
+use Rattle.pm_meaning.specs.Running.{State, Item, Running, Including, Switching, LeavingFile, Cloning, Leaving, statement}
 use Rattle.pm_meaning.specs.declared.process.End.{End}
 use Rattle.pm_frames.specs.Copies.{block_at}
 use Rattle.pm_frames.specs.Frames.{items_of, outer_items, steps_of, weave, end_of, block_locks, all_locks}

@@ -5,7 +5,7 @@ ghost use Rattle.pm_journal.specs.Executed.{Carries};
 ghost use Rattle.pm_journal.specs.Held.{Keeping};
 ghost use Rattle.pm_journal.specs.Walking.{Go};
 ghost use Rattle.pm_meaning.specs.Minds.{mind_of};
-ghost use Rattle.pm_machine.specs.Running.{Item, Running, Cloning, Refusing, step};
+ghost use Rattle.pm_meaning.specs.Running.{Item, Running, Cloning, Refusing, step};
 ghost use Rattle.pm_frames.specs.Copies.{block_at};
 ghost use Rattle.pm_frames.specs.Frames.{items_of, steps_of, weave};
 ghost use Rattle.pm_frames.specs.declared.frames.Open.{Open as OpenBlock};

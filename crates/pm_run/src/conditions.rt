@@ -2,7 +2,7 @@
 ghost use Rattle.std.specs.Prelude.{◌≡◌};
 ghost use Rattle.pm_journal.specs.Executed.{Carries};
 ghost use Rattle.pm_journal.specs.Held.{Keeping};
-ghost use Rattle.pm_conds.specs.Leads.{asking_of};
+ghost use Rattle.pm_meaning.specs.Leads.{asking_of};
 ghost use Rattle.pm_meaning.specs.Judging.{judge as judged, judged_with, comes_of, comes_within, come_with};
 ghost use Rattle.pm_meaning.specs.Judging.{tested, ask_line as line_asked, ask_program as program_asked};
 ghost use Rattle.pm_meaning.specs.Minds.{mind_of};
@@ -12,13 +12,11 @@ use pm_actions::{
 };
 use pm_acts::{Outside, run};
 use pm_bytes::Memory;
-use pm_conds::{
-    Outcome, Question, Verdict, end_of_all, exited, has_weight, judge_one, note_score, past_blanks,
-    program_input, question_of, read_lead, test,
-};
+use pm_conds::{end_of_all, exited, has_weight, judge_one, note_score, program_input, question_of, read_lead, test};
 use pm_host::Command;
 use pm_journal::Journal;
-use pm_meaning::{Process, ProgramLine};
+use pm_meaning::question::{Outcome, Question, Verdict};
+use pm_meaning::{Process, ProgramLine, past_blanks};
 use pm_recipe::{Condition, Flags};
 use pm_subst::Mode;
 use std::alloc::Global;

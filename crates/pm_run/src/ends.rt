@@ -11,11 +11,11 @@ ghost use Rattle.pm_meaning.specs.Locks.{value_or};
 ghost use Rattle.pm_meaning.specs.Logging.{log, logged};
 ghost use Rattle.pm_meaning.specs.Minds.{mind_of};
 ghost use Rattle.pm_meaning.specs.Turns.{say_then};
-ghost use Rattle.pm_machine.specs.Ends.{tell_delivery as delivery_told, is_delivered, is_trapped as trapped_at, trap as trap_run};
-ghost use Rattle.pm_machine.specs.Ends.{trap_line as line_run, trap_by as program_run, run_trap as command_run, trapped_with};
-ghost use Rattle.pm_machine.specs.Running.{Over, Closing, ending_of as ending_by};
-ghost use Rattle.pm_machine.specs.Status.{base_status as status_so_far, with_exit_status, is_set, is_there_empty, says_delivered};
-ghost use Rattle.pm_machine.specs.Status.{chosen_status as status_chosen, exit_status as status_at};
+ghost use Rattle.pm_meaning.specs.Ends.{tell_delivery as delivery_told, is_delivered, is_trapped as trapped_at, trap as trap_run};
+ghost use Rattle.pm_meaning.specs.Ends.{trap_line as line_run, trap_by as program_run, run_trap as command_run, trapped_with};
+ghost use Rattle.pm_meaning.specs.Running.{Over, Closing, ending_of as ending_by};
+ghost use Rattle.pm_meaning.specs.Status.{base_status as status_so_far, with_exit_status, is_set, is_there_empty, says_delivered};
+ghost use Rattle.pm_meaning.specs.Status.{chosen_status as status_chosen, exit_status as status_at};
 ghost use Rattle.pm_run.specs.Codes.{code_written};
 ghost use Rattle.pm_run.specs.Stretches.{Walks};
 
@@ -29,8 +29,7 @@ use pm_acts::{Outside, run};
 use pm_bytes::{Blob, Memory, read_count};
 use pm_host::Command;
 use pm_journal::{Journal, unusable_name, value_too_long};
-use pm_machine::{Ending, Status, status_of};
-use pm_meaning::{End, Process, ProgramLine};
+use pm_meaning::{End, Ending, Process, ProgramLine, Status, status_of};
 use std::alloc::Global;
 
 /// The process is over: the abstract of its delivery, of which there may be a draft, is logged, TRAP's program runs, and

@@ -11,8 +11,7 @@ ghost use Rattle.pm_meaning.specs.FirstValues.{program_values, file_values, all_
 
 use pm_bytes::{Blob, Environ, Memory, Name, Names};
 use pm_journal::HeldLocks;
-use pm_machine::CommandLine;
-use pm_meaning::{Process, Stored, new_chain};
+use pm_meaning::{CommandLine, Process, Stored, new_chain};
 use pm_message::Mail;
 use pm_vars::Vars;
 use std::alloc::Global;

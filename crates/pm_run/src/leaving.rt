@@ -7,7 +7,7 @@ ghost use Rattle.pm_journal.specs.declared.acts.Act.TheVariants.{Unlock};
 ghost use Rattle.pm_meaning.specs.Blocks.{without_lock, give_block_lock as block_lock_given, give_maybe as maybe_given};
 ghost use Rattle.pm_meaning.specs.GlobalLock.{after_giving};
 ghost use Rattle.pm_meaning.specs.Minds.{mind_of};
-ghost use Rattle.pm_machine.specs.Running.{Item, Running, LeavingFile, Leaving, left_by};
+ghost use Rattle.pm_meaning.specs.Running.{Item, Running, LeavingFile, Leaving, left_by};
 ghost use Rattle.pm_frames.specs.Frames.{block_locks, all_locks, left_in};
 ghost use Rattle.pm_run.specs.Stretches.{Walks};
 

@@ -4,9 +4,9 @@ ghost use Rattle.pm_journal.specs.Held.{Keeping};
 ghost use Rattle.pm_journal.specs.Walking.{Stop, Completes, Abandoned};
 ghost use Rattle.pm_meaning.specs.FirstValues.{home_folder};
 ghost use Rattle.pm_meaning.specs.Minds.{mind_of};
-ghost use Rattle.pm_machine.specs.Courses.{advance, run_of};
-ghost use Rattle.pm_machine.specs.Running.{Running, Setting, Closing, home_by};
-ghost use Rattle.pm_machine.specs.declared.ending.Ending.{Ending};
+ghost use Rattle.pm_meaning.specs.Courses.{advance, run_of};
+ghost use Rattle.pm_meaning.specs.Running.{Running, Setting, Closing, home_by};
+ghost use Rattle.pm_meaning.specs.declared.ending.Ending.{Ending};
 ghost use Rattle.pm_frames.specs.Frames.{items_of};
 ghost use Rattle.pm_run.specs.Ends.{copies_left};
 ghost use Rattle.pm_run.specs.Others.{next_in, GoesOn, GivesUp};
@@ -21,8 +21,7 @@ use pm_acts::{Outside, give_all};
 use pm_bytes::{Blob, Environ, Memory};
 use pm_frames::{Copy, Queue, RcFrame, new_queue};
 use pm_journal::Journal;
-use pm_machine::{CommandLine, Ending};
-use pm_meaning::Process;
+use pm_meaning::{CommandLine, Ending, Process};
 use std::alloc::Global;
 
 /// How many times a run has filed mail in a folder, or tried to, and how many rcfiles it has opened, or tried to.

@@ -3,7 +3,7 @@ ghost use Rattle.std.specs.Prelude.{◌≡◌, ◌<◌, ◌≤◌, ◌+◌, [], 
 ghost use Rattle.pm_code.specs.Flat.{flats_of};
 ghost use Rattle.pm_journal.specs.Held.{Keeping};
 ghost use Rattle.pm_meaning.specs.Minds.{mind_of};
-ghost use Rattle.pm_machine.specs.Running.{Running, Leaving};
+ghost use Rattle.pm_meaning.specs.Running.{Running, Leaving};
 ghost use Rattle.pm_run.specs.Ends.{stands_at, halted, copies_left};
 ghost use Rattle.pm_run.specs.declared.opening.Halted.TheVariants.{Resumes};
 ghost use Rattle.pm_frames.specs.Frames.{items_of, steps_of, left_over, all_locks};

@@ -15,8 +15,8 @@ use Rattle.pm_journal.specs.declared.acts.Entry.{Entry}
 use Rattle.pm_journal.proofs.ChildrenStay.{left_off_child}
 use Rattle.pm_journal.proofs.FilesGrow.{accounts_grow, made_join, one_of_left, one_of_right}
 use Rattle.pm_journal.proofs.LeftOff.{unfinished_grows}
-use Rattle.pm_machine.specs.Courses.{Course, advance}
-use Rattle.pm_machine.specs.declared.ending.Ending.{Ending}
+use Rattle.pm_meaning.specs.Courses.{Course, advance}
+use Rattle.pm_meaning.specs.declared.ending.Ending.{Ending}
 use Rattle.pm_top.specs.Run.{Run}
 use Rattle.pm_top.specs.Outcome.{Outcome, left_off}
 use Rattle.pm_top.specs.Account.{done_in, calls_in, given_in, Account}

@@ -7,8 +7,8 @@ use Rattle.pm_journal.specs.Entries.{View, view_of, Accounts}
 use Rattle.pm_journal.specs.Executed.{TakesCalls}
 use Rattle.pm_journal.specs.Walking.{Completes, Abandoned}
 use Rattle.pm_journal.specs.declared.acts.Entry.{Entry}
-use Rattle.pm_machine.specs.Courses.{Course, advance}
-use Rattle.pm_machine.specs.declared.ending.Ending.{Ending}
+use Rattle.pm_meaning.specs.Courses.{Course, advance}
+use Rattle.pm_meaning.specs.declared.ending.Ending.{Ending}
 
 -- the view without its references
 abbrev pub plain : View → View

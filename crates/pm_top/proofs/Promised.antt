@@ -17,8 +17,8 @@ use Rattle.pm_top.specs.Account.{done_in, calls_in, given_in, Account}
 use Rattle.pm_top.specs.Promise.{IsFramed, Promise}
 use Rattle.pm_top.specs.Traced.{Traced}
 use Rattle.pm_journal.proofs.ChildrenStay.{no_child_left}
-use Rattle.pm_machine.proofs.ClearRun.{clear_is_well}
-use Rattle.pm_machine.proofs.EndStatus.{end_has_status}
+use Rattle.pm_meaning.proofs.ClearRun.{clear_is_well}
+use Rattle.pm_meaning.proofs.EndStatus.{end_has_status}
 use Rattle.pm_top.proofs.Faultless.{faultless_in}
 use Rattle.pm_top.proofs.Grown.{grown_in, calls_child}
 use Rattle.pm_top.proofs.Refusals.{meaning_of, starved_of, refuses_of}

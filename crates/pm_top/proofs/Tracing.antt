@@ -7,12 +7,12 @@ use Rattle.pm_journal.specs.Executed.{TakesCalls}
 use Rattle.pm_journal.specs.Walking.{Means, Completes, Abandoned}
 use Rattle.pm_journal.proofs.AccountsJoin.{accounts_none}
 use Rattle.pm_words.specs.Words.{command_line}
-use Rattle.pm_machine.specs.Courses.{advance, run_of}
-use Rattle.pm_machine.specs.Status.{status_number}
-use Rattle.pm_machine.specs.declared.command_line.CommandLine.{CommandLine}
-use Rattle.pm_machine.specs.declared.ending.Ending.{Ending}
-use Rattle.pm_machine.specs.declared.status.Status.{Status}
-use Rattle.pm_machine.specs.declared.status.Status.TheVariants.{Usage, DataError, SystemError, InputOutput}
+use Rattle.pm_meaning.specs.Courses.{advance, run_of}
+use Rattle.pm_meaning.specs.Status.{status_number}
+use Rattle.pm_meaning.specs.declared.command_line.CommandLine.{CommandLine}
+use Rattle.pm_meaning.specs.declared.ending.Ending.{Ending}
+use Rattle.pm_meaning.specs.declared.status.Status.{Status}
+use Rattle.pm_meaning.specs.declared.status.Status.TheVariants.{Usage, DataError, SystemError, InputOutput}
 use Rattle.pm_streams.specs.Reading.{Drained, ReadPast, StopsFailed}
 use Rattle.pm_top.specs.Run.{Run}
 use Rattle.pm_top.specs.Outcome.{SaysLine, LastLine, status_line, Refused, BadWords, ReadFault, TooLong, NotBegun, HasMeaning, LeftOff, Outcome, bad_words, read_fault, too_long, not_begun, left_off, meant}

@@ -5,7 +5,7 @@ use Rattle.pm_host.specs.declared.calls.Logged.{Logged}
 use Rattle.pm_journal.specs.Entries.{View, Accounts}
 use Rattle.pm_journal.specs.Executed.{TakesCalls}
 use Rattle.pm_journal.specs.declared.acts.Entry.{Entry}
-use Rattle.pm_machine.specs.declared.status.Status.TheVariants.{Usage, DataError, SystemError, InputOutput}
+use Rattle.pm_meaning.specs.declared.status.Status.TheVariants.{Usage, DataError, SystemError, InputOutput}
 use Rattle.pm_top.specs.Run.{Run}
 use Rattle.pm_top.specs.Outcome.{SaysLine, LastLine, status_line, Outcome, bad_words, read_fault, too_long, not_begun, left_off, meant}
 

@@ -8,14 +8,14 @@ use Rattle.pm_journal.specs.declared.acts.Entry.{Entry}
 use Rattle.pm_append.specs.Writing.{WritesText}
 use Rattle.pm_append.specs.declared.writing.WriteEnd.{WriteEnd}
 use Rattle.pm_words.specs.Words.{command_line}
-use Rattle.pm_machine.specs.Courses.{advance, run_of}
-use Rattle.pm_machine.specs.Status.{status_number}
-use Rattle.pm_machine.specs.declared.command_line.CommandLine.{CommandLine}
+use Rattle.pm_meaning.specs.Courses.{advance, run_of}
+use Rattle.pm_meaning.specs.Status.{status_number}
+use Rattle.pm_meaning.specs.declared.command_line.CommandLine.{CommandLine}
 use Rattle.pm_meaning.specs.declared.process.End.{End}
 use Rattle.pm_meaning.specs.declared.process.End.TheVariants.{NoRc}
-use Rattle.pm_machine.specs.declared.ending.Ending.{Ending}
-use Rattle.pm_machine.specs.declared.status.Status.{Status}
-use Rattle.pm_machine.specs.declared.status.Status.TheVariants.{Usage, DataError, NoInput, SystemError, InputOutput}
+use Rattle.pm_meaning.specs.declared.ending.Ending.{Ending}
+use Rattle.pm_meaning.specs.declared.status.Status.{Status}
+use Rattle.pm_meaning.specs.declared.status.Status.TheVariants.{Usage, DataError, NoInput, SystemError, InputOutput}
 use Rattle.pm_streams.specs.Reading.{Drained, ReadPast, StopsFailed}
 use Rattle.pm_top.specs.Run.{Run}
 

@@ -8,9 +8,9 @@ use Rattle.pm_journal.specs.declared.acts.Counts.{Counts}
 use Rattle.pm_journal.specs.Deliveries.{all_folders, asked_folders, AllDelivered, AllGrow}
 use Rattle.pm_journal.specs.Held.{AllGivenBack}
 use Rattle.pm_journal.specs.Laws.{SomeFaulty}
-use Rattle.pm_machine.specs.Completeness.{IsClear, EndsWell}
-use Rattle.pm_machine.specs.EndStatus.{EndsBy}
-use Rattle.pm_machine.specs.Courses.{run_of}
+use Rattle.pm_meaning.specs.Completeness.{IsClear, EndsWell}
+use Rattle.pm_meaning.specs.EndStatus.{EndsBy}
+use Rattle.pm_meaning.specs.Courses.{run_of}
 use Rattle.pm_words.specs.Words.{command_line}
 use Rattle.pm_top.specs.Run.{Run}
 use Rattle.pm_top.specs.Outcome.{BadWords, ReadFault, TooLong, NotBegun, LeftOff, HasMeaning, Outcome, left_off}

@@ -6,8 +6,8 @@ use Rattle.pm_journal.specs.Entries.{View}
 use Rattle.pm_append.specs.Writing.{WritesText}
 use Rattle.pm_append.specs.declared.writing.WriteEnd.{WriteEnd}
 use Rattle.pm_append.specs.declared.writing.WriteEnd.TheVariants.{Wrote, Short}
-use Rattle.pm_machine.specs.Status.{status_number}
-use Rattle.pm_machine.specs.declared.status.Status.TheVariants.{Success, SystemError, InputOutput}
+use Rattle.pm_meaning.specs.Status.{status_number}
+use Rattle.pm_meaning.specs.declared.status.Status.TheVariants.{Success, SystemError, InputOutput}
 use Rattle.pm_top.specs.Run.{Run}
 use Rattle.pm_top.specs.Outcome.{SaysLine, status_line}
 use Rattle.pm_trial.specs.Counting.{totals_of}

@@ -10,7 +10,7 @@ use pm_append::{WriteEnd, write_text};
 use pm_bytes::{Environ, Memory};
 use pm_host::{Host, Sink, Source};
 use pm_journal::Journal;
-use pm_machine::Status;
+use pm_meaning::Status;
 use pm_top::{procmail as deliver, refuse};
 use std::alloc::Global;
 

@@ -3,7 +3,7 @@ use Rattle.std.proofs.Common.{◌≡◌, ◌<◌, ◌+◌, ℕ, List, ◌∷◌,
 use Rattle.std.specs.Prelude.{option_and_then, String, string_bytes}
 use Rattle.std.specs.declared.alloc.Global.{Global}
 use Rattle.std.proofs.lemmas.List.{at_drop_more}
-use Rattle.pm_machine.specs.declared.command_line.CommandLine.{CommandLine}
+use Rattle.pm_meaning.specs.declared.command_line.CommandLine.{CommandLine}
 use Rattle.pm_words.specs.Words.{letters, by_letter, awaited, with_letter, rest_or_next, has_some, read_word, asked, all_bytes}
 use Rattle.pm_words.specs.Reading.{at, with_word, Says}
 use Rattle.pm_words.specs.declared.place.Next.{Next}

@@ -1,7 +1,7 @@
 -- Command lines, form by form (procmail(1)).
 use Rattle.std.specs.Prelude.{ℕ, List, [], ◌∷◌, ◌≡◌, Option, Some, None, true, codes}
 use Rattle.pm_bytes.specs.declared.environment.Pair.{Pair}
-use Rattle.pm_machine.specs.declared.command_line.CommandLine.{CommandLine}
+use Rattle.pm_meaning.specs.declared.command_line.CommandLine.{CommandLine}
 use Rattle.pm_message.specs.declared.renewal.Renew.TheVariants.{Date, Keep, Sender}
 use Rattle.pm_words.specs.Words.{asked, no_words}
 use Rattle.pm_words.specs.declared.place.Next.TheVariants.{Any}

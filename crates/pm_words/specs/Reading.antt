@@ -2,7 +2,7 @@
 use Rattle.std.specs.Prelude.{◌≡◌, ℕ, Bool, true, false, ◌||◌, List, Option, Some, None}
 use Rattle.std.specs.List.{list_any}
 use Rattle.pm_bytes.specs.Name.{has_zero}
-use Rattle.pm_machine.specs.declared.command_line.CommandLine.{CommandLine}
+use Rattle.pm_meaning.specs.declared.command_line.CommandLine.{CommandLine}
 use Rattle.pm_words.specs.Words.{Said, is_equals, has_some, with_argument, with_sender, with_variable, with_rcfile}
 use Rattle.pm_words.specs.declared.place.Place.{Place}
 use Rattle.pm_words.specs.declared.place.Adds.{Adds}

@@ -7,7 +7,7 @@ use Rattle.pm_bytes.specs.Letter.{is_name_start, is_name_byte}
 use Rattle.pm_bytes.specs.declared.environment.Pair.{Pair}
 use Rattle.pm_message.specs.declared.renewal.Renew.{Renew}
 use Rattle.pm_message.specs.declared.renewal.Renew.TheVariants.{Keep, AddMissing, Sender, Date}
-use Rattle.pm_machine.specs.declared.command_line.CommandLine.{CommandLine}
+use Rattle.pm_meaning.specs.declared.command_line.CommandLine.{CommandLine}
 use Rattle.pm_words.specs.declared.place.Next.{Next}
 use Rattle.pm_words.specs.declared.place.Next.TheVariants.{Any, Operand, ArgumentText, SenderText}
 

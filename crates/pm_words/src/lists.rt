@@ -8,7 +8,7 @@ ghost use Rattle.pm_words.specs.Reading.{CanAdd, added, line_of, at};
 
 use crate::place::{Adds, Next, Place};
 use pm_bytes::{Blob, Memory, Name, Names, Pair, Pairs};
-use pm_machine::CommandLine;
+use pm_meaning::CommandLine;
 use pm_message::Renew;
 use std::alloc::Global;
 

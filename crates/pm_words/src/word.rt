@@ -7,7 +7,7 @@ ghost use Rattle.pm_words.specs.Words.{is_sender as can_send, is_variable as can
 ghost use Rattle.pm_words.specs.Words.{read_word, letters, text_word as text_of, rest_or_next as rest_of, awaited as awaited_by};
 ghost use Rattle.pm_words.specs.Words.{with_letter as letter_of};
 ghost use Rattle.pm_words.specs.Reading.{Says, Fits, at};
-ghost use Rattle.pm_machine.specs.declared.command_line.CommandLine.{CommandLine};
+ghost use Rattle.pm_meaning.specs.declared.command_line.CommandLine.{CommandLine};
 
 use crate::place::{Adds, Next, Place, Word};
 use pm_bytes::{begins_name, continues_name};

@@ -2,13 +2,13 @@
 ghost use Rattle.std.specs.Prelude.{◌≡◌, IfOk, OnErr, IsSome, is_some};
 ghost use Rattle.pm_words.specs.Words.{command_line, closed, has_some};
 ghost use Rattle.pm_words.specs.Reading.{at};
-ghost use Rattle.pm_machine.specs.declared.command_line.CommandLine.{CommandLine};
+ghost use Rattle.pm_meaning.specs.declared.command_line.CommandLine.{CommandLine};
 
 use crate::lists::{add, finish, no_lists};
 use crate::place::{Next, Place};
 use crate::word::word_of;
 use pm_bytes::Memory;
-use pm_machine::CommandLine;
+use pm_meaning::CommandLine;
 use std::alloc::Global;
 
 const START: Place = Place {

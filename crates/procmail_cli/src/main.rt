@@ -4,7 +4,7 @@
 
 use pm_bytes::{Environ, Memory, Name};
 use pm_journal::Journal;
-use pm_machine::Status;
+use pm_meaning::Status;
 use pm_real::{RealHost, RealSink, RealSource, Setup, can_be_host_name, read_regular};
 use pm_start::{Words, first_line, machine_name, read_environment, read_words};
 use pm_top::refuse;

@@ -1,7 +1,7 @@
 use Rattle.std.proofs.Common.{◌≡◌, ℕ, List, Option, Some, Result, Ok, Err, IfOk, ap, sym, ◌∙◌}
 use Rattle.pm_bytes.specs.declared.error.Memory.{Memory}
-use Rattle.pm_conds.specs.Leads.{Asking, asked, asking_of}
-use Rattle.pm_conds.specs.declared.question.Question.{Question}
+use Rattle.pm_meaning.specs.Leads.{Asking, asked, asking_of}
+use Rattle.pm_meaning.specs.declared.question.Question.{Question}
 use Rattle.check_find.specs.declared.codes.Fault.{Fault}
 use Rattle.check_find.specs.Faults.{test_fault, fault_by}
 use Rattle.check_find.proofs.conditions.fault_by.Goals as goal

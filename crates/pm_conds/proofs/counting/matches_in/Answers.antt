@@ -1,5 +1,5 @@
 use Rattle.std.proofs.Common.{subst, ◌∙◌}
-use Rattle.pm_match.specs.Found.{IsFound, IsCount}
+use Rattle.pm_regex.specs.Found.{IsFound, IsCount}
 use Rattle.pm_conds.proofs.SearchLemmas.{found_is, found_within}
 use Rattle.pm_conds.proofs.WeighLemmas.{count_is}
 use Rattle.pm_conds.proofs.counting.matches_in.Goals as goal

@@ -1,6 +1,6 @@
 use Rattle.std.proofs.Common.{length, ap, ◌∙◌}
 use Rattle.std.specs.Prelude.{unwrap_or}
-use Rattle.pm_conds.specs.Leads.{ends_name}
+use Rattle.pm_meaning.specs.Leads.{ends_name}
 use Rattle.pm_conds.proofs.Choices.{stop_is}
 use Rattle.pm_conds.proofs.leads.name_stop.Goals as goal
 

@@ -1,4 +1,4 @@
-use Rattle.pm_conds.specs.Leads.{asking_of}
+use Rattle.pm_meaning.specs.Leads.{asking_of}
 use Rattle.pm_conds.proofs.LeadLemmas.{passed_more, passed_end, none_of}
 use Rattle.pm_conds.proofs.leads.read_lead.Goals as goal
 

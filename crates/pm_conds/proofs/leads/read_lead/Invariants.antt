@@ -1,5 +1,5 @@
 use Rattle.std.proofs.Common.{length}
-use Rattle.pm_conds.specs.Leads.{asking_of}
+use Rattle.pm_meaning.specs.Leads.{asking_of}
 use Rattle.pm_conds.proofs.LeadLemmas.{IsPassed}
 use Rattle.pm_conds.proofs.leads.read_lead.Given as goal
 

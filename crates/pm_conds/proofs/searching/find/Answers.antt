@@ -1,5 +1,5 @@
 use Rattle.std.proofs.Common.{subst}
-use Rattle.pm_match.specs.Found.{IsFound}
+use Rattle.pm_regex.specs.Found.{IsFound}
 use Rattle.pm_conds.proofs.SearchLemmas.{found_is, found_within}
 use Rattle.pm_conds.proofs.searching.find.Goals as goal
 

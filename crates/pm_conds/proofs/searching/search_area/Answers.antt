@@ -1,6 +1,6 @@
 use Rattle.std.proofs.Common.{None, Some, refl, sym, ap, ◌∙◌}
-use Rattle.pm_conds.specs.Searching.{expression_of}
-use Rattle.pm_conds.specs.Weighing.{sought_outcome}
+use Rattle.pm_meaning.specs.Searching.{expression_of}
+use Rattle.pm_meaning.specs.Weighing.{sought_outcome}
 use Rattle.pm_conds.proofs.Choices.{comes_to}
 use Rattle.pm_conds.proofs.SearchLemmas.{reading_is, no_reading}
 use Rattle.pm_conds.proofs.WeighLemmas.{sought_none}

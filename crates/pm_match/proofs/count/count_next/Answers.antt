@@ -1,7 +1,7 @@
 use Rattle.std.proofs.Common.{◌≡◌, ◌∷◌, false, refl, subst, arith}
 use Rattle.pm_regex.specs.Re.{nothing}
 use Rattle.pm_match.specs.Finding.{IsFirst}
-use Rattle.pm_match.specs.Found.{IsRun, place_behind}
+use Rattle.pm_regex.specs.Found.{IsRun, place_behind}
 use Rattle.pm_match.specs.Shown.{shown_match}
 use Rattle.pm_match.proofs.CountLemmas.{goes, ordered, run_none, run_late, run_more}
 use Rattle.pm_match.proofs.MarkLemmas.{to_end}

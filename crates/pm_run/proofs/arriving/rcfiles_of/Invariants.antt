@@ -1,5 +1,5 @@
 use Rattle.std.proofs.Common.{◌≡◌, ◌++◌, drop, map}
-use Rattle.pm_machine.specs.Running.{named_rcfile}
+use Rattle.pm_meaning.specs.Running.{named_rcfile}
 use Rattle.pm_run.proofs.arriving.rcfiles_of.Given as goal
 
 abbrev pub invariant-loop-word : goal.invariant-loop-word

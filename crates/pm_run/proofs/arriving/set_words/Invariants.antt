@@ -2,8 +2,8 @@ use Rattle.std.proofs.Common.{◌≡◌, List, ℕ, drop}
 use Rattle.pm_journal.specs.Held.{Keeping}
 use Rattle.pm_journal.specs.Walking.{Reaches}
 use Rattle.pm_meaning.specs.Minds.{mind_of}
-use Rattle.pm_machine.specs.Running.{Event, Setting, step}
-use Rattle.pm_machine.specs.declared.command_line.CommandLine.{CommandLine}
+use Rattle.pm_meaning.specs.Running.{Event, Setting, step}
+use Rattle.pm_meaning.specs.declared.command_line.CommandLine.{CommandLine}
 use Rattle.pm_run.proofs.arriving.set_words.Given as goal
 
 abbrev pub invariant-loop-value : goal.invariant-loop-value

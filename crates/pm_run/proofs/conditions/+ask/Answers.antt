@@ -4,7 +4,7 @@ use Rattle.pm_journal.specs.Plan.{Plan}
 use Rattle.pm_journal.proofs.WantsMemory.{on_err, out_anywhere, out_front, out_then}
 use Rattle.pm_subst.specs.Commands.{commands_in}
 use Rattle.pm_subst.specs.declared.kinds.Mode.TheVariants.{Quoted}
-use Rattle.pm_conds.specs.Leads.{Asking, asking_of, behind_blanks}
+use Rattle.pm_meaning.specs.Leads.{Asking, asking_of, behind_blanks}
 use Rattle.pm_meaning.specs.Assigning.{first_word}
 use Rattle.pm_meaning.specs.Judging.{Come, comes_within, read_again}
 use Rattle.pm_meaning.specs.Minds.{Mind, mind_of}

@@ -1,6 +1,6 @@
 use Rattle.std.proofs.Common.{rules, sym, ap}
 use Rattle.pm_journal.proofs.WantsMemory.{on_err, out_front}
-use Rattle.pm_conds.specs.declared.question.Outcome.TheVariants.{Defective, TooLong}
+use Rattle.pm_meaning.specs.declared.question.Outcome.TheVariants.{Defective, TooLong}
 use Rattle.pm_meaning.specs.Judging.{by_line}
 use Rattle.pm_meaning.specs.Minds.{mind_of}
 use Rattle.pm_meaning.specs.Outputs.{read_line, read_with}

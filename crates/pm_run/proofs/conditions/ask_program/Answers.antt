@@ -1,6 +1,6 @@
 use Rattle.std.proofs.Common.{refl, rules, ap, ◌∙◌}
 use Rattle.pm_journal.proofs.WantsMemory.{on_err, out_anywhere}
-use Rattle.pm_conds.specs.Judging.{exited}
+use Rattle.pm_meaning.specs.Evaluating.{exited}
 use Rattle.pm_meaning.specs.Minds.{mind_of}
 use Rattle.pm_run.proofs.ConditionLemmas.{program_unrun, program_then, program_then_out, program_told, program_untold}
 use Rattle.pm_run.proofs.conditions.ask_program.Goals as goal

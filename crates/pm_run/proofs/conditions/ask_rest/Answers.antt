@@ -1,6 +1,6 @@
 use Rattle.std.proofs.Common.{sym, ◌∙◌}
-use Rattle.pm_conds.specs.Leads.{asking_of}
-use Rattle.pm_conds.specs.Judging.{test_outcome}
+use Rattle.pm_meaning.specs.Leads.{asking_of}
+use Rattle.pm_meaning.specs.Evaluating.{test_outcome}
 use Rattle.pm_meaning.specs.Judging.{seen, come_with, tested}
 use Rattle.pm_meaning.specs.Minds.{mind_of}
 use Rattle.pm_actions.proofs.DeliverLemmas.{carried}

@@ -1,6 +1,6 @@
 use Rattle.std.proofs.Common.{rules}
 use Rattle.pm_journal.proofs.WantsMemory.{on_err}
-use Rattle.pm_machine.specs.Running.{Over, ending_of}
+use Rattle.pm_meaning.specs.Running.{Over, ending_of}
 use Rattle.pm_meaning.specs.Minds.{mind_of}
 use Rattle.pm_run.proofs.EndLemmas.{over_traps, over_wants, trap_unlocks, trap_wants, closes, unlock_wants}
 use Rattle.pm_run.proofs.ends.close.Goals as goal

@@ -1,5 +1,5 @@
 use Rattle.std.proofs.Common.{refl, sym, ◌∙◌}
-use Rattle.pm_machine.specs.Ends.{tell_delivery}
+use Rattle.pm_meaning.specs.Ends.{tell_delivery}
 use Rattle.pm_meaning.specs.Abstracts.{abstract_of}
 use Rattle.pm_meaning.specs.Minds.{mind_of}
 use Rattle.pm_actions.proofs.DeliverLemmas.{carried}

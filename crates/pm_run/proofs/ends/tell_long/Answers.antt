@@ -2,7 +2,7 @@ use Rattle.std.proofs.Common.{refl, rules}
 use Rattle.std.specs.Prelude.{codes}
 use Rattle.pm_journal.specs.LogText.{value_too_long_line}
 use Rattle.pm_journal.proofs.WantsMemory.{on_err, out_anywhere}
-use Rattle.pm_machine.specs.Ends.{trapped_with}
+use Rattle.pm_meaning.specs.Ends.{trapped_with}
 use Rattle.pm_meaning.specs.Changes.{overflowed}
 use Rattle.pm_meaning.specs.Minds.{mind_of}
 use Rattle.pm_actions.proofs.Choices.{line_out, line_then_out}

@@ -2,7 +2,7 @@ use Rattle.std.proofs.Common.{[], refl, rules}
 use Rattle.pm_journal.proofs.WalkJoin.{reaches_after, interrupted_at_once, interrupted_after}
 use Rattle.pm_journal.proofs.WantsMemory.{on_err, out_anywhere}
 use Rattle.pm_meaning.specs.Minds.{mind_of}
-use Rattle.pm_machine.specs.Running.{Running, FallingOff, Over, step}
+use Rattle.pm_meaning.specs.Running.{Running, FallingOff, Over, step}
 use Rattle.pm_actions.proofs.Choices.{ok_map, err_map}
 use Rattle.pm_run.proofs.FallLemmas.{falls}
 use Rattle.pm_run.proofs.falling_off.fall_off.Goals as goal

@@ -3,7 +3,7 @@ use Rattle.pm_journal.specs.LogText.{no_delivery_line}
 use Rattle.pm_journal.specs.Walking.{Next, Go}
 use Rattle.pm_journal.proofs.WantsMemory.{on_err, out_anywhere}
 use Rattle.pm_meaning.specs.Minds.{mind_of}
-use Rattle.pm_machine.specs.Running.{State, Event, FallingOff, Over, step}
+use Rattle.pm_meaning.specs.Running.{State, Event, FallingOff, Over, step}
 use Rattle.pm_meaning.specs.declared.process.End.TheVariants.{FellOff}
 use Rattle.pm_actions.proofs.Choices.{line_told, line_out}
 use Rattle.pm_run.proofs.falling_off.lose.Goals as goal

@@ -2,7 +2,7 @@ use Rattle.std.proofs.Common.{length}
 use Rattle.pm_journal.specs.Held.{Keeping}
 use Rattle.pm_journal.specs.Walking.{Reaches}
 use Rattle.pm_meaning.specs.Minds.{mind_of}
-use Rattle.pm_machine.specs.Running.{FallingOff, Event, step}
+use Rattle.pm_meaning.specs.Running.{FallingOff, Event, step}
 use Rattle.pm_run.proofs.falling_off.try_each.Given as goal
 
 abbrev pub invariant-loop-mailbox : goal.invariant-loop-mailbox

@@ -2,7 +2,7 @@ use Rattle.std.proofs.Common.{◌≡◌, List, length}
 use Rattle.pm_journal.specs.Held.{Keeping}
 use Rattle.pm_journal.specs.Walking.{Reaches}
 use Rattle.pm_meaning.specs.Minds.{mind_of}
-use Rattle.pm_machine.specs.Running.{Item, Event, LeavingFile, step}
+use Rattle.pm_meaning.specs.Running.{Item, Event, LeavingFile, step}
 use Rattle.pm_frames.specs.Frames.{block_locks}
 use Rattle.pm_run.proofs.leaving.leave_file.Given as goal
 

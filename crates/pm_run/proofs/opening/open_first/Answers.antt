@@ -1,7 +1,7 @@
 use Rattle.std.proofs.Common.{◌≡◌, ◌<◌, ◌≤◌, ◌+◌, ◌∙◌, [], true, arith, rules, refl, ap, sym}
 use Rattle.pm_journal.proofs.WalkJoin.{reaches_itself}
 use Rattle.pm_meaning.specs.Minds.{mind_of}
-use Rattle.pm_machine.specs.Running.{Opening, step}
+use Rattle.pm_meaning.specs.Running.{Opening, step}
 use Rattle.pm_run.specs.Ends.{rule_of_opening}
 use Rattle.pm_run.proofs.OpeningLemmas.{opening_on, opening_ends, opening_reads, opening_wants, openings_read, none_first, none_later}
 use Rattle.pm_run.proofs.opening.open_first.Goals as goal

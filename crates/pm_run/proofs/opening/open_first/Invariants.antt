@@ -2,7 +2,7 @@ use Rattle.std.proofs.Common.{◌≤◌, length}
 use Rattle.pm_journal.specs.Held.{Keeping}
 use Rattle.pm_journal.specs.Walking.{Reaches}
 use Rattle.pm_meaning.specs.Minds.{mind_of}
-use Rattle.pm_machine.specs.Running.{Event, Opening, step}
+use Rattle.pm_meaning.specs.Running.{Event, Opening, step}
 use Rattle.pm_run.specs.Ends.{rule_of_opening}
 use Rattle.pm_run.proofs.opening.open_first.Given as goal
 

@@ -2,7 +2,7 @@ use Rattle.std.proofs.Common.{◌≡◌, [], true, refl, rules}
 use Rattle.pm_meaning.specs.Minds.{mind_of}
 use Rattle.pm_meaning.specs.Changes.{with_openings}
 use Rattle.pm_meaning.specs.declared.process.End.TheVariants.{HostOff}
-use Rattle.pm_machine.specs.Running.{Opening, Over, Running, left_by, with_later}
+use Rattle.pm_meaning.specs.Running.{Opening, Over, Running, left_by, with_later}
 use Rattle.pm_run.proofs.OpeningLemmas.{later_state, later_reads, reaches_from, wants_from, later_falls}
 use Rattle.pm_run.proofs.opening.open_later.Goals as goal
 

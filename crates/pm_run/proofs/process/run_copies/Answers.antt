@@ -2,7 +2,7 @@ use Rattle.std.proofs.Common.{◌≡◌, [], rules, refl, sym, ap, subst, length
 use Rattle.pm_journal.specs.Held.{Keeping}
 use Rattle.pm_journal.proofs.WantsMemory.{on_err}
 use Rattle.pm_meaning.specs.Minds.{mind_of}
-use Rattle.pm_machine.specs.Running.{Closing}
+use Rattle.pm_meaning.specs.Running.{Closing}
 use Rattle.pm_run.specs.Others.{next_in}
 use Rattle.pm_run.proofs.OtherLemmas.{goes_itself, all_done, none_next, copy_ran, copy_wants}
 use Rattle.pm_run.proofs.process.run_copies.Goals as goal

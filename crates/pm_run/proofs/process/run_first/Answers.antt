@@ -4,8 +4,8 @@ use Rattle.pm_journal.proofs.WalkJoin.{interrupted_reached}
 use Rattle.pm_journal.proofs.WantsMemory.{on_err}
 use Rattle.pm_meaning.specs.FirstValues.{home_folder}
 use Rattle.pm_meaning.specs.Minds.{mind_of}
-use Rattle.pm_machine.specs.Courses.{now_at, advance}
-use Rattle.pm_machine.specs.Running.{Event, Setting, Running, Over, Closing, home_by, step}
+use Rattle.pm_meaning.specs.Courses.{now_at, advance}
+use Rattle.pm_meaning.specs.Running.{Event, Setting, Running, Over, Closing, home_by, step}
 use Rattle.pm_actions.proofs.Choices.{ok_map, err_map}
 use Rattle.pm_frames.specs.Copies.{others_of}
 use Rattle.pm_frames.specs.Frames.{items_of}

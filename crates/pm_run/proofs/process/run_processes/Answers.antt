@@ -4,9 +4,9 @@ use Rattle.pm_journal.proofs.WalkJoin.{abandoned_by, interrupted_at_once, gives_
 use Rattle.pm_journal.proofs.WantsMemory.{on_err}
 use Rattle.pm_meaning.specs.FirstValues.{home_folder}
 use Rattle.pm_meaning.specs.Minds.{mind_of}
-use Rattle.pm_machine.specs.Courses.{now_at, alone, advance}
-use Rattle.pm_machine.specs.Running.{Arrived, Setting, Closing, home_by, step}
-use Rattle.pm_machine.proofs.Lifting.{interrupted_in_run}
+use Rattle.pm_meaning.specs.Courses.{now_at, alone, advance}
+use Rattle.pm_meaning.specs.Running.{Arrived, Setting, Closing, home_by, step}
+use Rattle.pm_meaning.proofs.Lifting.{interrupted_in_run}
 use Rattle.pm_actions.proofs.Choices.{ok_map, err_map}
 use Rattle.pm_run.proofs.OtherLemmas.{first_wants, all_ran, others_want}
 use Rattle.pm_run.proofs.process.run_processes.Goals as goal

@@ -4,7 +4,7 @@ use Rattle.pm_journal.proofs.WalkJoin.{interrupted_at_once, interrupted_reached}
 use Rattle.pm_meaning.specs.Blocks.{begun_block}
 use Rattle.pm_meaning.specs.Changes.{with_rcfile}
 use Rattle.pm_meaning.specs.Minds.{mind_of}
-use Rattle.pm_machine.specs.Running.{Running, Switching, LeavingFile, switched, ahead, step, Event}
+use Rattle.pm_meaning.specs.Running.{Running, Switching, LeavingFile, switched, ahead, step, Event}
 use Rattle.pm_actions.proofs.Choices.{ok_map, err_map}
 use Rattle.pm_frames.specs.Frames.{items_of, outer_items, block_locks}
 use Rattle.pm_run.proofs.RunLemmas.{reaches_on}

@@ -4,7 +4,7 @@ use Rattle.pm_journal.specs.Walking.{Reaches}
 use Rattle.pm_journal.proofs.WantsMemory.{on_err}
 use Rattle.pm_meaning.specs.Chains.{with_chain}
 use Rattle.pm_meaning.specs.Minds.{mind_of}
-use Rattle.pm_machine.specs.Running.{Running, step, Event}
+use Rattle.pm_meaning.specs.Running.{Running, step, Event}
 use Rattle.pm_actions.proofs.Choices.{ok_map}
 use Rattle.pm_frames.specs.Frames.{weave, steps_of, items_of, outer_items, left_outside, left_in}
 use Rattle.pm_run.specs.Walk.{less_by, stands}

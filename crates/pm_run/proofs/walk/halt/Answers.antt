@@ -3,7 +3,7 @@ use Rattle.pm_journal.proofs.WalkJoin.{interrupted_reached}
 use Rattle.pm_journal.proofs.WantsMemory.{on_err}
 use Rattle.pm_meaning.specs.Minds.{mind_of}
 use Rattle.pm_meaning.specs.declared.process.End.TheVariants.{HostOff}
-use Rattle.pm_machine.specs.Running.{Leaving, left_by, step}
+use Rattle.pm_meaning.specs.Running.{Leaving, left_by, step}
 use Rattle.pm_actions.proofs.Choices.{ok_map, err_map}
 use Rattle.pm_frames.specs.Frames.{all_locks}
 use Rattle.pm_run.specs.Ends.{halted}

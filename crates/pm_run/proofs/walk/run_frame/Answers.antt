@@ -1,7 +1,7 @@
 use Rattle.std.proofs.Common.{[], rules, arith}
 use Rattle.pm_journal.proofs.WantsMemory.{on_err}
 use Rattle.pm_meaning.specs.Minds.{mind_of}
-use Rattle.pm_machine.specs.Running.{Running, Including, Switching, LeavingFile, Cloning, Leaving}
+use Rattle.pm_meaning.specs.Running.{Running, Including, Switching, LeavingFile, Cloning, Leaving}
 use Rattle.pm_frames.specs.Copies.{block_at}
 use Rattle.pm_frames.specs.Frames.{items_of, outer_items, block_locks, all_locks}
 use Rattle.pm_run.specs.Ends.{stands_at}

@@ -3,7 +3,7 @@ use Rattle.pm_recipe.specs.View.{top_of}
 use Rattle.pm_journal.specs.Walking.{Reaches}
 use Rattle.pm_meaning.specs.Changes.{with_openings}
 use Rattle.pm_meaning.specs.Minds.{mind_of}
-use Rattle.pm_machine.specs.Running.{Running, step, Event}
+use Rattle.pm_meaning.specs.Running.{Running, step, Event}
 use Rattle.pm_actions.proofs.Choices.{ok_map}
 use Rattle.pm_frames.specs.Frames.{steps_of, items_of}
 use Rattle.pm_run.specs.Walk.{stands, gate_turn, less_by}

@@ -1,5 +1,5 @@
 use Rattle.std.proofs.Common.{refl, subst}
-use Rattle.pm_machine.specs.declared.status.Status.TheVariants.{DataError, SystemError, InputOutput}
+use Rattle.pm_meaning.specs.declared.status.Status.TheVariants.{DataError, SystemError, InputOutput}
 use Rattle.pm_streams.specs.Reading.{Drains}
 use Rattle.pm_top.proofs.Tracing.{refused, read_fault_run, too_long_run, not_begun_run}
 use Rattle.pm_top.proofs.top.run_line.Goals as goal

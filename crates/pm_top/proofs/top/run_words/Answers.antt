@@ -1,5 +1,5 @@
 use Rattle.std.proofs.Common.{refl, sym, ◌∙◌}
-use Rattle.pm_machine.specs.declared.status.Status.TheVariants.{Usage, SystemError}
+use Rattle.pm_meaning.specs.declared.status.Status.TheVariants.{Usage, SystemError}
 use Rattle.pm_top.proofs.Tracing.{refused, bad_words_run, not_begun_read}
 use Rattle.pm_top.proofs.Promised.{promised_kept, promised_refused}
 use Rattle.pm_top.proofs.top.run_words.Goals as goal

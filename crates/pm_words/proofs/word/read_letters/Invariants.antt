@@ -1,5 +1,5 @@
 use Rattle.std.proofs.Common.{◌≡◌, drop}
-use Rattle.pm_machine.specs.declared.command_line.CommandLine.{CommandLine}
+use Rattle.pm_meaning.specs.declared.command_line.CommandLine.{CommandLine}
 use Rattle.pm_words.specs.Words.{letters}
 use Rattle.pm_words.specs.Reading.{at}
 use Rattle.pm_words.specs.declared.place.Next.TheVariants.{Any}

@@ -1,5 +1,5 @@
 use Rattle.std.proofs.Common.{◌≡◌, drop}
-use Rattle.pm_machine.specs.declared.command_line.CommandLine.{CommandLine}
+use Rattle.pm_meaning.specs.declared.command_line.CommandLine.{CommandLine}
 use Rattle.pm_words.specs.Words.{has_some, asked, all_bytes, command_line}
 use Rattle.pm_words.specs.Reading.{at}
 use Rattle.pm_words.proofs.words.is_read.Given as goal

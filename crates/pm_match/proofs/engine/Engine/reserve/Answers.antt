@@ -1,5 +1,5 @@
 use Rattle.pm_regex.specs.Re.{nothing}
-use Rattle.pm_match.specs.Found.{without_cut}
+use Rattle.pm_regex.specs.Found.{without_cut}
 use Rattle.pm_match.proofs.engine.Engine.reserve.Goals as goal
 
 pub invariant_of-self : goal.invariant_of-self

@@ -1,5 +1,0 @@
-use Rattle.pm_machine.proofs.DeliveredLast.{delivered_is_done}
-use Rattle.pm_machine.proofs.laws.delivered_is_done.Goals as goal
-
-pub returns : goal.returns
-returns c = delivered_is_done

@@ -1,5 +1,0 @@
-use Rattle.pm_machine.proofs.OneEnding.{ends_one_way}
-use Rattle.pm_machine.proofs.laws.ends_one_way.Goals as goal
-
-pub returns : goal.returns
-returns c = ends_one_way

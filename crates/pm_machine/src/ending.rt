@@ -1,9 +1,0 @@
-//! How a process ended.
-use pm_meaning::End;
-
-/// How a process ended, and the exit status that this gives where it was the first one.
-#[derive(Clone, Copy, Debug, PartialEq, Eq)]
-pub struct Ending {
-    pub end: End,
-    pub status: u8,
-}
