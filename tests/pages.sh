@@ -142,7 +142,7 @@ section procmailrc.5 Macros |
 same "texts of macros" procmailrc.5
 
 # Options of procmail. A number is written by N here.
-words=crates/pm_words/specs/Words.antt
+words=crates/pm_top/specs/Words.antt
 {
     grep -o 'is letter (codes "[a-zA-Z]")' "$words" | sed 's/.*"\(.\)".*/\1/'
     grep -ho 'codes "--[a-z]*"' crates/pm_*/specs/*.antt | sed 's/codes "-\(.*\)"/\1/'

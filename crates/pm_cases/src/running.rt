@@ -6,7 +6,7 @@ use case_host::memory_host;
 use pm_bytes::{Environ, Name, Pair, Pairs};
 use pm_journal::Journal;
 use pm_memory::{MemoryHost, MemorySink, MemorySource};
-use pm_trial::procmail;
+use pm_top::procmail;
 use std::alloc::Global;
 
 /// What a run told and left.

@@ -15,9 +15,9 @@ use Rattle.pm_meaning.specs.Minds.{Mind}
 use Rattle.pm_meaning.specs.Courses.{Others, Course, now_at, with_copy, make_clone, advance}
 use Rattle.pm_meaning.specs.Running.{State, Item, Event, Running, Cloning, Refusing, Task, clone_of, step}
 use Rattle.pm_meaning.specs.declared.ending.Ending.{Ending}
-use Rattle.pm_frames.specs.Copies.{task_of, others_of}
-use Rattle.pm_frames.specs.declared.queue.Copy.{Copy}
-use Rattle.pm_frames.specs.declared.queue.Queue.{Queue}
+use Rattle.pm_run.specs.Copies.{task_of, others_of}
+use Rattle.pm_run.specs.declared.queue.Copy.{Copy}
+use Rattle.pm_run.specs.declared.queue.Queue.{Queue}
 use Rattle.pm_run.proofs.RunLemmas.{RunsOn, Breaks, runs_walk, runs_out}
 
 abbrev Course_on : Type 0

@@ -25,10 +25,10 @@ use Rattle.pm_meaning.specs.declared.process.End.{End}
 use Rattle.pm_meaning.specs.declared.process.End.TheVariants.{Delivered, FellOff, NoRc, HostOff}
 use Rattle.pm_actions.proofs.Choices.{choose_then, then_out, line_told, line_out}
 use Rattle.pm_actions.proofs.DeliverLemmas.{if_yes, if_no}
-use Rattle.pm_frames.specs.Frames.{block_locks, outer_locks, left_outside, left_in, left_over}
-use Rattle.pm_frames.specs.declared.frames.Open.{Open}
-use Rattle.pm_frames.specs.declared.frames.RcFrame.{RcFrame}
-use Rattle.pm_frames.specs.declared.frames.Waiting.{Waiting}
+use Rattle.pm_run.specs.Frames.{block_locks, outer_locks, left_outside, left_in, left_over}
+use Rattle.pm_run.specs.declared.frames.Open.{Open}
+use Rattle.pm_run.specs.declared.frames.RcFrame.{RcFrame}
+use Rattle.pm_run.specs.declared.frames.Waiting.{Waiting}
 
 abbrev Onward : Type 0
 Onward = Next State Event

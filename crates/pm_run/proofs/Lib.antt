@@ -17,3 +17,6 @@ mod RunLemmas
 mod CloneLemmas
 mod OtherLemmas
 mod DraftLemmas
+pub mod FrameLemmas
+pub mod CopyLemmas
+mod CopyRows

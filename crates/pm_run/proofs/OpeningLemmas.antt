@@ -31,10 +31,10 @@ use Rattle.pm_meaning.specs.Turns.{say_then}
 use Rattle.pm_meaning.specs.declared.process.End.{End}
 use Rattle.pm_meaning.specs.declared.process.End.TheVariants.{NoRc, HostOff}
 use Rattle.pm_meaning.specs.Running.{State, Event, Running, Over, Opening, OpeningRule, ahead, entered, is_first, is_missing, with_later, left_by, without_rcfile, open_next, after_read, pass_over, step}
-use Rattle.pm_frames.specs.Frames.{weave, items_of, outer_items, left_outside, left_in, left_over}
-use Rattle.pm_frames.specs.declared.frames.Open.{Open}
-use Rattle.pm_frames.specs.declared.frames.RcFrame.{RcFrame}
-use Rattle.pm_frames.specs.declared.frames.Waiting.{Waiting}
+use Rattle.pm_run.specs.Frames.{weave, items_of, outer_items, left_outside, left_in, left_over}
+use Rattle.pm_run.specs.declared.frames.Open.{Open}
+use Rattle.pm_run.specs.declared.frames.RcFrame.{RcFrame}
+use Rattle.pm_run.specs.declared.frames.Waiting.{Waiting}
 use Rattle.pm_acts.specs.Acts.{ReadsWhole}
 use Rattle.pm_actions.proofs.Choices.{choose_then, choose_else, then_out, else_out, line_told, line_out}
 use Rattle.pm_run.specs.Ends.{IsCode}

@@ -14,10 +14,10 @@ use Rattle.pm_meaning.specs.Courses.{Others, Course, now_at, resumed, next_proce
 use Rattle.pm_meaning.specs.Running.{State, Event, Ended, Running, Closing, unlock_each, step}
 use Rattle.pm_meaning.specs.declared.ending.Ending.{Ending}
 use Rattle.pm_meaning.proofs.Unlocks.{unlocks_played}
-use Rattle.pm_frames.specs.Frames.{items_of}
-use Rattle.pm_frames.specs.Copies.{task_of, others_of}
-use Rattle.pm_frames.specs.declared.queue.Copy.{Copy}
-use Rattle.pm_frames.specs.declared.queue.Queue.{Queue}
+use Rattle.pm_run.specs.Frames.{items_of}
+use Rattle.pm_run.specs.Copies.{task_of, others_of}
+use Rattle.pm_run.specs.declared.queue.Copy.{Copy}
+use Rattle.pm_run.specs.declared.queue.Queue.{Queue}
 use Rattle.pm_run.specs.Others.{next_in, GoesOn, GivesUp}
 use Rattle.pm_run.specs.declared.process.Counts.{Counts}
 use Rattle.pm_run.proofs.RunLemmas.{RunsOn, Breaks, lifted, runs_run, runs_break, reaches_on, abandoned_on}

@@ -31,11 +31,11 @@ use Rattle.pm_meaning.specs.Running.{State, Item, FileEnd, Running, Including, S
 use Rattle.pm_meaning.specs.Turns.{say_then}
 use Rattle.pm_acts.specs.Acts.{ReadsWhole}
 use Rattle.pm_actions.proofs.Choices.{choose_then, choose_else, then_out, else_out}
-use Rattle.pm_frames.specs.Frames.{weave, steps_of, items_of, outer_items, block_locks, left_outside, left_in, left_over}
+use Rattle.pm_run.specs.Frames.{weave, steps_of, items_of, outer_items, block_locks, left_outside, left_in, left_over}
 use Rattle.pm_run.specs.Rcfiles.{waiting, GoesInto, TakesPlace, HasCode, ReadsCode, OpensSome, OpensNone, Opens}
-use Rattle.pm_frames.specs.declared.frames.Open.{Open}
-use Rattle.pm_frames.specs.declared.frames.RcFrame.{RcFrame}
-use Rattle.pm_frames.proofs.FrameLemmas.{in_file_woven, behind_woven, weave_over}
+use Rattle.pm_run.specs.declared.frames.Open.{Open}
+use Rattle.pm_run.specs.declared.frames.RcFrame.{RcFrame}
+use Rattle.pm_run.proofs.FrameLemmas.{in_file_woven, behind_woven, weave_over}
 use Rattle.pm_run.proofs.WalkLemmas.{whole_items}
 
 abbrev Onward : Type 0

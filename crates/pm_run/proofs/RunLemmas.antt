@@ -14,8 +14,8 @@ use Rattle.pm_meaning.specs.Courses.{now_at, advance}
 use Rattle.pm_meaning.specs.Running.{State, Event, step}
 use Rattle.pm_meaning.specs.declared.ending.Ending.{Ending}
 use Rattle.pm_meaning.proofs.Lifting.{reaches_in_run, interrupted_in_run}
-use Rattle.pm_frames.specs.Copies.{others_of}
-use Rattle.pm_frames.specs.declared.queue.Queue.{Queue}
+use Rattle.pm_run.specs.Copies.{others_of}
+use Rattle.pm_run.specs.declared.queue.Queue.{Queue}
 
 -- from one state to another, and on to a third
 pub reaches_on : {S X : Type 0} (step : S → Plan (Next S X)) (s t u : S) (x y z : JournalState) (a b c : View) → Reaches {X = X} step s t x y a b → Reaches {X = X} step t u y z b c → Reaches {X = X} step s u x z a c

@@ -24,20 +24,20 @@ use Rattle.pm_meaning.specs.Changes.{with_rcfile, with_openings}
 use Rattle.pm_meaning.specs.Turns.{Turn, GoesOn}
 use Rattle.pm_meaning.specs.Running.{State, Running, LeavingFile, Cloning, Leaving, Item, FileEnd, statement, next_of, ahead, behind_file, step, Event}
 use Rattle.pm_meaning.specs.declared.process.End.{End}
-use Rattle.pm_frames.specs.Copies.{block_at}
-use Rattle.pm_frames.specs.Frames.{weave, steps_of, items_of, outer_items, block_locks, all_locks, left_outside, left_in, left_over}
+use Rattle.pm_run.specs.Copies.{block_at}
+use Rattle.pm_run.specs.Frames.{weave, steps_of, items_of, outer_items, block_locks, all_locks, left_outside, left_in, left_over}
 use Rattle.pm_run.specs.Turned.{turn_in}
 use Rattle.pm_run.specs.Walk.{single, plan_of, gate_turn, stands, stepped_of, IsStepAt, EndsAt, Entered, ComesBack, less_by, IsBehind}
-use Rattle.pm_frames.specs.declared.frames.Open.{Open}
-use Rattle.pm_frames.specs.declared.frames.RcFrame.{RcFrame}
-use Rattle.pm_frames.specs.declared.frames.Waiting.{Waiting}
+use Rattle.pm_run.specs.declared.frames.Open.{Open}
+use Rattle.pm_run.specs.declared.frames.RcFrame.{RcFrame}
+use Rattle.pm_run.specs.declared.frames.Waiting.{Waiting}
 use Rattle.pm_run.specs.declared.gates.Gate.{Gate}
 use Rattle.pm_run.specs.declared.gates.Gate.TheVariants as gate
 use Rattle.pm_run.specs.declared.turned.Turned.{Turned}
 use Rattle.pm_run.specs.declared.turned.Turned.TheVariants as turned
 use Rattle.pm_run.specs.declared.walk.Stepped.{Stepped}
 use Rattle.pm_run.specs.declared.walk.Stepped.TheVariants as stepped
-use Rattle.pm_frames.proofs.FrameLemmas.{weave_does, weave_enters, weave_stops, weave_leaves, weave_over, weave_left, locks_all, in_file_woven, behind_woven, Jumps, jumps, single_here}
+use Rattle.pm_run.proofs.FrameLemmas.{weave_does, weave_enters, weave_stops, weave_leaves, weave_over, weave_left, locks_all, in_file_woven, behind_woven, Jumps, jumps, single_here}
 
 abbrev Onward : Type 0
 Onward = Next State Event

@@ -6,9 +6,9 @@ use Rattle.pm_recipe.specs.Tree.{Trees}
 use Rattle.pm_meaning.specs.Minds.{Mind}
 use Rattle.pm_meaning.specs.declared.process.End.{End}
 use Rattle.pm_meaning.specs.Running.{State, Running, Over, OpeningRule}
-use Rattle.pm_frames.specs.Frames.{items_of}
-use Rattle.pm_frames.specs.declared.queue.Queue.{Queue}
-use Rattle.pm_frames.specs.declared.frames.RcFrame.{RcFrame}
+use Rattle.pm_run.specs.Frames.{items_of}
+use Rattle.pm_run.specs.declared.queue.Queue.{Queue}
+use Rattle.pm_run.specs.declared.frames.RcFrame.{RcFrame}
 use Rattle.pm_run.specs.declared.opening.Halted.{Halted}
 use Rattle.pm_run.specs.declared.opening.Halted.TheVariants.{Over as HaltedOver, Resumes}
 use Rattle.pm_run.specs.declared.opening.Rule.{Rule}

@@ -8,3 +8,5 @@ pub mod Opening
 pub mod Others
 pub mod Codes
 pub mod Drafts
+pub mod Frames
+pub mod Copies

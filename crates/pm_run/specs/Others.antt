@@ -5,8 +5,8 @@ use Rattle.pm_journal.specs.Entries.{View}
 use Rattle.pm_journal.specs.Walking.{Next, Go, Stop, Reaches, Completes, Abandoned}
 use Rattle.pm_meaning.specs.Courses.{Course, next_process, advance}
 use Rattle.pm_meaning.specs.declared.ending.Ending.{Ending}
-use Rattle.pm_frames.specs.Copies.{task_of}
-use Rattle.pm_frames.specs.declared.queue.Queue.{Queue}
+use Rattle.pm_run.specs.Copies.{task_of}
+use Rattle.pm_run.specs.declared.queue.Queue.{Queue}
 use Rattle.pm_run.specs.declared.process.Counts.{Counts}
 
 -- what comes after a process whose run has counted so much: the first of the copies, or the end

@@ -12,8 +12,8 @@ use Rattle.pm_recipe.specs.Tree.{Trees}
 use Rattle.pm_meaning.specs.Changes.{with_rcfile}
 use Rattle.pm_meaning.specs.Minds.{Mind}
 use Rattle.pm_meaning.specs.Running.{Item, Running, Reading, open_rcfile, with_statements}
-use Rattle.pm_frames.specs.declared.frames.RcFrame.{RcFrame}
-use Rattle.pm_frames.specs.declared.frames.Waiting.{Waiting}
+use Rattle.pm_run.specs.declared.frames.RcFrame.{RcFrame}
+use Rattle.pm_run.specs.declared.frames.Waiting.{Waiting}
 
 -- the current rcfile waits under its name
 abbrev pub waiting : List ℕ → RcFrame → Waiting

@@ -6,8 +6,8 @@ use Rattle.pm_journal.specs.Entries.{View}
 use Rattle.pm_journal.specs.Walking.{Reaches, Interrupted}
 use Rattle.pm_meaning.specs.Courses.{now_at, advance}
 use Rattle.pm_meaning.specs.Running.{State, Event, step}
-use Rattle.pm_frames.specs.Copies.{others_of}
-use Rattle.pm_frames.specs.declared.queue.Queue.{Queue}
+use Rattle.pm_run.specs.Copies.{others_of}
+use Rattle.pm_run.specs.declared.queue.Queue.{Queue}
 use Rattle.pm_meaning.specs.declared.ending.Ending.{Ending}
 
 -- the process went on to the state that the answer stands for, or memory was wanting in it

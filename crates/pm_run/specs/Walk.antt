@@ -13,11 +13,11 @@ use Rattle.pm_meaning.specs.Turns.{Turn, GoesOn, Halts, Enters, Clones}
 use Rattle.pm_meaning.specs.Changes.{with_rcfile}
 use Rattle.pm_meaning.specs.Running.{State, Item, Running, Including, Switching, LeavingFile, Cloning, Leaving, statement}
 use Rattle.pm_meaning.specs.declared.process.End.{End}
-use Rattle.pm_frames.specs.Copies.{block_at}
-use Rattle.pm_frames.specs.Frames.{items_of, outer_items, steps_of, weave, end_of, block_locks, all_locks}
-use Rattle.pm_frames.specs.declared.frames.Open.{Open}
-use Rattle.pm_frames.specs.declared.frames.RcFrame.{RcFrame}
-use Rattle.pm_frames.specs.declared.frames.Waiting.{Waiting}
+use Rattle.pm_run.specs.Copies.{block_at}
+use Rattle.pm_run.specs.Frames.{items_of, outer_items, steps_of, weave, end_of, block_locks, all_locks}
+use Rattle.pm_run.specs.declared.frames.Open.{Open}
+use Rattle.pm_run.specs.declared.frames.RcFrame.{RcFrame}
+use Rattle.pm_run.specs.declared.frames.Waiting.{Waiting}
 use Rattle.pm_run.specs.declared.gates.Gate.{Gate}
 use Rattle.pm_run.specs.declared.gates.Gate.TheVariants as gate
 use Rattle.pm_run.specs.declared.turned.Turned.{Turned}

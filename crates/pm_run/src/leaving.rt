@@ -8,13 +8,13 @@ ghost use Rattle.pm_meaning.specs.Blocks.{without_lock, give_block_lock as block
 ghost use Rattle.pm_meaning.specs.GlobalLock.{after_giving};
 ghost use Rattle.pm_meaning.specs.Minds.{mind_of};
 ghost use Rattle.pm_meaning.specs.Running.{Item, Running, LeavingFile, Leaving, left_by};
-ghost use Rattle.pm_frames.specs.Frames.{block_locks, all_locks, left_in};
+ghost use Rattle.pm_run.specs.Frames.{block_locks, all_locks, left_in};
 ghost use Rattle.pm_run.specs.Stretches.{Walks};
 
+use crate::frames::{Open, RcFrame, Waiting};
 use pm_actions::{is_stuck, tell};
 use pm_acts::{Outside, give};
 use pm_bytes::{Memory, Name};
-use pm_frames::{Open, RcFrame, Waiting};
 use pm_journal::{Journal, couldnt_unlock};
 use pm_meaning::{End, Process};
 use std::alloc::Global;

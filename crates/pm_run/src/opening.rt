@@ -11,19 +11,19 @@ ghost use Rattle.pm_meaning.specs.Running.{Event, Opening, entered as entered_by
 ghost use Rattle.pm_meaning.specs.Running.{open_next, after_read, pass_over as passed_over};
 ghost use Rattle.pm_meaning.specs.Running.{ahead, left_by};
 ghost use Rattle.pm_meaning.specs.declared.process.End.TheVariants.{HostOff};
-ghost use Rattle.pm_frames.specs.Frames.{items_of, left_over};
+ghost use Rattle.pm_run.specs.Frames.{items_of, left_over};
 ghost use Rattle.pm_recipe.specs.Tree.{Trees};
 ghost use Rattle.pm_run.specs.declared.opening.Halted.TheVariants.{Resumes};
 ghost use Rattle.pm_run.specs.Ends.{halted, rule_of_opening, IsCode};
 ghost use Rattle.pm_run.specs.Stretches.{Walks};
 ghost use Rattle.pm_run.specs.Opening.{OpensFrom, OpensOne, ReadsOne, PassesOver, is_read};
 
+use crate::frames::RcFrame;
 use crate::rcfiles::read_statements;
 use pm_actions::tell;
 use pm_acts::{Outside, read};
 use pm_bytes::{Blob, Memory, Name};
 use pm_code::{Code, compile};
-use pm_frames::RcFrame;
 use pm_journal::{Journal, couldnt_read, too_many_rcfiles};
 use pm_meaning::{End, Process, new_chain};
 use pm_recipe::Rc;

@@ -14,16 +14,16 @@ ghost use Rattle.pm_meaning.specs.Minds.{mind_of};
 ghost use Rattle.pm_meaning.specs.Running.{State, Item, Running, Including, Switching, LeavingFile, ahead};
 ghost use Rattle.pm_meaning.specs.Running.{Event, Reading, open_rcfile, with_statements};
 ghost use Rattle.pm_meaning.specs.Turns.{say_then};
-ghost use Rattle.pm_frames.specs.Frames.{items_of, outer_items, block_locks, left_over};
+ghost use Rattle.pm_run.specs.Frames.{items_of, outer_items, block_locks, left_over};
 ghost use Rattle.pm_run.specs.Rcfiles.{GoesInto, HasCode, Opens, ReadsCode, TakesPlace};
 ghost use Rattle.pm_run.specs.Stretches.{Walks};
 
+use crate::frames::{RcFrame, Waiting};
 use crate::leaving::leave_file;
 use pm_actions::tell;
 use pm_acts::{Outside, read};
 use pm_bytes::{Memory, Name};
 use pm_code::{Code, compile};
-use pm_frames::{RcFrame, Waiting};
 use pm_journal::{Journal, couldnt_read, too_many_rcfiles};
 use pm_meaning::{Process, new_chain};
 use pm_recipe::{Rc, RcRefused, Statements, one_rc, read_rc};

@@ -1,7 +1,7 @@
 -- What a run's source and status tell of how it went.
 use Rattle.std.proofs.Common.{◌≡◌, ◌<◌, ◌⊎◌, inl, inr, ℕ, List, length, Option, Some, None, sym, ap, ◌∙◌, subst, arith}
 use Rattle.pm_host.specs.Told.{Tells}
-use Rattle.pm_words.specs.Words.{command_line}
+use Rattle.pm_top.specs.Words.{command_line}
 use Rattle.pm_meaning.specs.declared.command_line.CommandLine.{CommandLine}
 use Rattle.pm_streams.specs.Reading.{IsDrained, Drained, NoFault}
 use Rattle.pm_host.specs.Streams.{StreamView}

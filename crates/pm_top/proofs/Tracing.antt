@@ -6,7 +6,7 @@ use Rattle.pm_journal.specs.Entries.{View, Accounts}
 use Rattle.pm_journal.specs.Executed.{TakesCalls}
 use Rattle.pm_journal.specs.Walking.{Means, Completes, Abandoned}
 use Rattle.pm_journal.proofs.AccountsJoin.{accounts_none}
-use Rattle.pm_words.specs.Words.{command_line}
+use Rattle.pm_top.specs.Words.{command_line}
 use Rattle.pm_meaning.specs.Courses.{advance, run_of}
 use Rattle.pm_meaning.specs.Status.{status_number}
 use Rattle.pm_meaning.specs.declared.command_line.CommandLine.{CommandLine}

@@ -3,3 +3,14 @@ pub mod Outcome
 pub mod Account
 pub mod Promise
 pub mod Traced
+pub mod WordExamples
+pub mod Words
+pub mod Reading
+pub mod TrialWords
+pub mod Messages
+pub mod Sources
+pub mod Counting
+pub mod Report
+pub mod Runs
+pub mod Trials
+pub mod ProgramPromise

@@ -11,7 +11,7 @@ use Rattle.pm_journal.specs.Laws.{SomeFaulty}
 use Rattle.pm_meaning.specs.Completeness.{IsClear, EndsWell}
 use Rattle.pm_meaning.specs.EndStatus.{EndsBy}
 use Rattle.pm_meaning.specs.Courses.{run_of}
-use Rattle.pm_words.specs.Words.{command_line}
+use Rattle.pm_top.specs.Words.{command_line}
 use Rattle.pm_top.specs.Run.{Run}
 use Rattle.pm_top.specs.Outcome.{BadWords, ReadFault, TooLong, NotBegun, LeftOff, HasMeaning, Outcome, left_off}
 use Rattle.pm_top.specs.Account.{done_in, calls_in, given_in, Account}

@@ -2,7 +2,7 @@
 use Rattle.std.specs.Prelude.{◌≡◌, ℕ, List, Some, String}
 use Rattle.std.specs.declared.alloc.Global.{Global}
 use Rattle.pm_host.specs.Streams.{StreamView}
-use Rattle.pm_words.specs.Words.{command_line}
+use Rattle.pm_top.specs.Words.{command_line}
 use Rattle.pm_meaning.specs.declared.command_line.CommandLine.{CommandLine}
 use Rattle.pm_streams.specs.Reading.{Drained}
 use Rattle.pm_top.specs.Run.{Run}

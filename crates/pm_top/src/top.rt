@@ -10,6 +10,7 @@ ghost use Rattle.pm_top.specs.Outcome.{SaysLine, LastLine, status_line};
 ghost use Rattle.pm_top.specs.Promise.{Promise};
 ghost use Rattle.pm_top.specs.Traced.{RunsLine, RunsMail};
 
+use crate::words::read_words;
 use pm_acts::{Objects, lend};
 use pm_append::write_text;
 use pm_bytes::{Blob, Environ, Memory};
@@ -18,12 +19,11 @@ use pm_journal::Journal;
 use pm_meaning::{CommandLine, End, Ending, Status};
 use pm_run::run_processes;
 use pm_streams::{Mail, read_mail};
-use pm_words::read_words;
 use std::alloc::Global;
 
 /// Reads the words and the message, carries out the recipes, notes each act in the journal, and answers the
 /// exit status (procmail(1)). The words leave out the program's name.
-pub fn procmail<S: Source, H: Host, O: Sink, E: Sink>(
+pub fn deliver_mail<S: Source, H: Host, O: Sink, E: Sink>(
     alloc: Global,
     words: &[String],
     env: &Environ,

@@ -3,8 +3,8 @@ use Rattle.pm_journal.proofs.WantsMemory.{on_err}
 use Rattle.pm_meaning.specs.Chains.{with_chain}
 use Rattle.pm_meaning.specs.Minds.{mind_of}
 use Rattle.pm_actions.proofs.Choices.{ok_map, err_map}
-use Rattle.pm_frames.specs.Copies.{block_at}
-use Rattle.pm_frames.specs.Frames.{items_of}
+use Rattle.pm_run.specs.Copies.{block_at}
+use Rattle.pm_run.specs.Frames.{items_of}
 use Rattle.pm_run.proofs.CloneLemmas.{clone_refused, refusing_wants, clone_wants, clone_made}
 use Rattle.pm_run.proofs.cloning.make_clone.Goals as goal
 

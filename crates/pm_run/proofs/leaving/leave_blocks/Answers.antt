@@ -3,7 +3,7 @@ use Rattle.pm_journal.proofs.WalkJoin.{reaches_itself}
 use Rattle.pm_journal.proofs.WantsMemory.{on_err}
 use Rattle.pm_meaning.specs.Minds.{mind_of}
 use Rattle.pm_meaning.specs.Running.{Leaving, step}
-use Rattle.pm_frames.specs.Frames.{block_locks, outer_locks, all_locks}
+use Rattle.pm_run.specs.Frames.{block_locks, outer_locks, all_locks}
 use Rattle.pm_run.proofs.LeaveLemmas.{leave_on, leave_wants, leave_further, leave_over, frame_locks, blocks_left, none_left}
 use Rattle.pm_run.proofs.leaving.leave_blocks.Goals as goal
 

@@ -3,7 +3,7 @@ use Rattle.pm_journal.specs.Held.{Keeping}
 use Rattle.pm_journal.specs.Walking.{Reaches}
 use Rattle.pm_meaning.specs.Minds.{mind_of}
 use Rattle.pm_meaning.specs.Running.{Event, Leaving, step}
-use Rattle.pm_frames.specs.Frames.{all_locks, left_in}
+use Rattle.pm_run.specs.Frames.{all_locks, left_in}
 use Rattle.pm_run.proofs.leaving.leave_blocks.Given as goal
 
 abbrev pub invariant-loop-open : goal.invariant-loop-open

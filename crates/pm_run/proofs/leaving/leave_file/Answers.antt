@@ -2,7 +2,7 @@ use Rattle.std.proofs.Common.{◌≡◌, [], rules, refl, ap, ◌∙◌}
 use Rattle.pm_journal.proofs.WalkJoin.{reaches_itself}
 use Rattle.pm_meaning.specs.Minds.{mind_of}
 use Rattle.pm_meaning.specs.Running.{LeavingFile, step}
-use Rattle.pm_frames.specs.Frames.{block_locks}
+use Rattle.pm_run.specs.Frames.{block_locks}
 use Rattle.pm_run.proofs.LeaveLemmas.{file_on, file_wants, file_over}
 use Rattle.pm_run.proofs.leaving.leave_file.Goals as goal
 

@@ -3,7 +3,7 @@ use Rattle.pm_journal.specs.Held.{Keeping}
 use Rattle.pm_journal.specs.Walking.{Reaches}
 use Rattle.pm_meaning.specs.Minds.{mind_of}
 use Rattle.pm_meaning.specs.Running.{Item, Event, LeavingFile, step}
-use Rattle.pm_frames.specs.Frames.{block_locks}
+use Rattle.pm_run.specs.Frames.{block_locks}
 use Rattle.pm_run.proofs.leaving.leave_file.Given as goal
 
 abbrev pub invariant-loop-open : goal.invariant-loop-open

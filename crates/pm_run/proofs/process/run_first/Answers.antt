@@ -7,8 +7,8 @@ use Rattle.pm_meaning.specs.Minds.{mind_of}
 use Rattle.pm_meaning.specs.Courses.{now_at, advance}
 use Rattle.pm_meaning.specs.Running.{Event, Setting, Running, Over, Closing, home_by, step}
 use Rattle.pm_actions.proofs.Choices.{ok_map, err_map}
-use Rattle.pm_frames.specs.Copies.{others_of}
-use Rattle.pm_frames.specs.Frames.{items_of}
+use Rattle.pm_run.specs.Copies.{others_of}
+use Rattle.pm_run.specs.Frames.{items_of}
 use Rattle.pm_run.proofs.RunLemmas.{reaches_on, lifted, lifted_out, runs_walk, runs_out}
 use Rattle.pm_run.proofs.process.run_first.Goals as goal
 

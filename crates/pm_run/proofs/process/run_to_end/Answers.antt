@@ -3,7 +3,7 @@ use Rattle.pm_journal.proofs.WantsMemory.{on_err}
 use Rattle.pm_meaning.specs.Minds.{mind_of}
 use Rattle.pm_meaning.specs.Running.{Running, Over, Closing}
 use Rattle.pm_actions.proofs.Choices.{ok_map, err_map}
-use Rattle.pm_frames.specs.Frames.{items_of}
+use Rattle.pm_run.specs.Frames.{items_of}
 use Rattle.pm_run.proofs.RunLemmas.{RunsOn, runs_walk, runs_out}
 use Rattle.pm_run.proofs.process.run_to_end.Goals as goal
 

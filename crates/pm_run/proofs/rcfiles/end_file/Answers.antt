@@ -2,7 +2,7 @@ use Rattle.std.proofs.Common.{◌≡◌, ◌≤◌, length, refl, subst, rules, 
 use Rattle.pm_journal.specs.Walking.{Reaches}
 use Rattle.pm_meaning.specs.Minds.{mind_of}
 use Rattle.pm_meaning.specs.Running.{Running, LeavingFile, step, Event}
-use Rattle.pm_frames.specs.Frames.{outer_items, block_locks}
+use Rattle.pm_run.specs.Frames.{outer_items, block_locks}
 use Rattle.pm_run.proofs.RcfileLemmas.{ended_items, ended_falls}
 use Rattle.pm_run.proofs.rcfiles.end_file.Goals as goal
 

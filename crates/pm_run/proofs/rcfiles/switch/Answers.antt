@@ -6,7 +6,7 @@ use Rattle.pm_meaning.specs.Changes.{with_rcfile}
 use Rattle.pm_meaning.specs.Minds.{mind_of}
 use Rattle.pm_meaning.specs.Running.{Running, Switching, LeavingFile, switched, ahead, step, Event}
 use Rattle.pm_actions.proofs.Choices.{ok_map, err_map}
-use Rattle.pm_frames.specs.Frames.{items_of, outer_items, block_locks}
+use Rattle.pm_run.specs.Frames.{items_of, outer_items, block_locks}
 use Rattle.pm_run.proofs.RunLemmas.{reaches_on}
 use Rattle.pm_run.proofs.RcfileLemmas.{ok_both, none_switched, none_falls, some_switched, place_taken, place_falls}
 use Rattle.pm_run.proofs.rcfiles.switch.Goals as goal

@@ -6,7 +6,7 @@ use Rattle.pm_meaning.specs.Blocks.{begun_block}
 use Rattle.pm_meaning.specs.Changes.{with_rcfile}
 use Rattle.pm_meaning.specs.Minds.{mind_of}
 use Rattle.pm_meaning.specs.Running.{Running, LeavingFile, step, Event}
-use Rattle.pm_frames.specs.Frames.{block_locks}
+use Rattle.pm_run.specs.Frames.{block_locks}
 use Rattle.pm_run.proofs.RcfileLemmas.{taken}
 use Rattle.pm_run.proofs.rcfiles.take_place.Goals as goal
 

@@ -6,7 +6,7 @@ use Rattle.pm_meaning.specs.Chains.{with_chain}
 use Rattle.pm_meaning.specs.Minds.{mind_of}
 use Rattle.pm_meaning.specs.Running.{Running, step, Event}
 use Rattle.pm_actions.proofs.Choices.{ok_map}
-use Rattle.pm_frames.specs.Frames.{weave, steps_of, items_of, outer_items, left_outside, left_in}
+use Rattle.pm_run.specs.Frames.{weave, steps_of, items_of, outer_items, left_outside, left_in}
 use Rattle.pm_run.specs.Walk.{less_by, stands}
 use Rattle.pm_run.proofs.WalkLemmas.{block_wants, block_reaches, back_reaches, back_wants, back_falls, back_behind, over_falls}
 use Rattle.pm_run.proofs.walk.end_innermost.Goals as goal

@@ -5,7 +5,7 @@ use Rattle.pm_meaning.specs.Minds.{mind_of}
 use Rattle.pm_meaning.specs.declared.process.End.TheVariants.{HostOff}
 use Rattle.pm_meaning.specs.Running.{Leaving, left_by, step}
 use Rattle.pm_actions.proofs.Choices.{ok_map, err_map}
-use Rattle.pm_frames.specs.Frames.{all_locks}
+use Rattle.pm_run.specs.Frames.{all_locks}
 use Rattle.pm_run.specs.Ends.{halted}
 use Rattle.pm_run.proofs.LeaveLemmas.{halts_over, halts_off, same_left}
 use Rattle.pm_run.proofs.RunLemmas.{reaches_on}

@@ -2,8 +2,8 @@ use Rattle.std.proofs.Common.{[], rules, arith}
 use Rattle.pm_journal.proofs.WantsMemory.{on_err}
 use Rattle.pm_meaning.specs.Minds.{mind_of}
 use Rattle.pm_meaning.specs.Running.{Running, Including, Switching, LeavingFile, Cloning, Leaving}
-use Rattle.pm_frames.specs.Copies.{block_at}
-use Rattle.pm_frames.specs.Frames.{items_of, outer_items, block_locks, all_locks}
+use Rattle.pm_run.specs.Copies.{block_at}
+use Rattle.pm_run.specs.Frames.{items_of, outer_items, block_locks, all_locks}
 use Rattle.pm_run.specs.Ends.{stands_at}
 use Rattle.pm_run.proofs.RunLemmas.{runs_itself, runs_run, runs_break, runs_walk, runs_out}
 use Rattle.pm_run.proofs.walk.run_frame.Goals as goal

@@ -2,7 +2,7 @@ use Rattle.std.proofs.Common.{◌≤◌}
 use Rattle.pm_journal.specs.Held.{Keeping}
 use Rattle.pm_meaning.specs.Minds.{mind_of}
 use Rattle.pm_meaning.specs.Running.{Running}
-use Rattle.pm_frames.specs.Frames.{items_of, left_over}
+use Rattle.pm_run.specs.Frames.{items_of, left_over}
 use Rattle.pm_run.specs.Ends.{copies_left}
 use Rattle.pm_run.proofs.RunLemmas.{RunsOn}
 use Rattle.pm_run.proofs.walk.run_frame.Given as goal

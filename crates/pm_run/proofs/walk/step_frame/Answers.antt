@@ -5,7 +5,7 @@ use Rattle.pm_meaning.specs.Changes.{with_openings}
 use Rattle.pm_meaning.specs.Minds.{mind_of}
 use Rattle.pm_meaning.specs.Running.{Running, step, Event}
 use Rattle.pm_actions.proofs.Choices.{ok_map}
-use Rattle.pm_frames.specs.Frames.{steps_of, items_of}
+use Rattle.pm_run.specs.Frames.{steps_of, items_of}
 use Rattle.pm_run.specs.Walk.{stands, gate_turn, less_by}
 use Rattle.pm_journal.proofs.WantsMemory.{on_err}
 use Rattle.pm_run.proofs.WalkLemmas.{ends_stop, step_in, none_in, enter_at, jump_at, jump_fits, gate_wants, gate_reaches, gate_then_wants, gate_behind, one_behind, entered_falls, over_falls, one_falls, one_wants, one_reaches, does_one}

@@ -1,3 +1,0 @@
-pub mod FrameLemmas
-pub mod CopyLemmas
-mod CopyRows

@@ -1,4 +1,0 @@
-pub mod MessageLemmas
-pub mod RunLemmas
-pub mod TrialLemmas
-mod Rows

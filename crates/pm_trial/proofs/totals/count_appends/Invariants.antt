@@ -1,9 +1,0 @@
-use Rattle.std.proofs.Common.{◌≡◌, ◌≤◌, count_by, take}
-use Rattle.pm_trial.specs.Counting.{is_append}
-use Rattle.pm_trial.proofs.totals.count_appends.Given as goal
-
-abbrev pub invariant-loop-entry : goal.invariant-loop-entry
-invariant-loop-entry l = record {
-  counted : l.count ≡ count_by (λ e. is_append e.act) (take l.entry-index l.entries);
-  within : l.count ≤ l.entry-index;
-}

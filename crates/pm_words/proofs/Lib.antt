@@ -1,3 +1,0 @@
-pub mod Assignments
-pub mod WordLemmas
-pub mod WordRows
