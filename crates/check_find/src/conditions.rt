@@ -10,7 +10,9 @@ ghost use Rattle.check_find.specs.Reports.{fault_at};
 
 use crate::codes::Fault;
 use pm_bytes::{Memory, is_blank, read_count};
-use pm_conds::{Question, past_blanks, question_of, read_lead};
+use pm_conds::{question_of, read_lead};
+use pm_meaning::question::Question;
+use pm_meaning::past_blanks;
 use pm_recipe::{Condition, Kind, read_condition};
 use pm_regex::{ReadRefused, read};
 use std::alloc::Global;

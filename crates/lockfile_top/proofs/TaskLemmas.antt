@@ -17,7 +17,7 @@ use Rattle.pm_journal.proofs.ActPlans.{act_executes}
 use Rattle.pm_journal.proofs.FirstActs.{first_act}
 use Rattle.pm_journal.proofs.PlanLeads.{leads_on, leads_to_end}
 use Rattle.pm_journal.proofs.WantsMemory.{executes_nothing}
-use Rattle.pm_append.specs.Saying.{NotesSaid}
+use Rattle.pm_journal.specs.Sayings.{NotesSaid}
 use Rattle.lockfile_top.specs.Lines.{forcing_line, sorry_line}
 use Rattle.lockfile_top.specs.Doing.{name_of, with_name, say_then, after_take, after_give, one_task, remove_each, give_up, do_tasks}
 use Rattle.lockfile_top.specs.Jobs.{tasks_of, made_by}

@@ -9,7 +9,7 @@ ghost use Rattle.lockfile_top.specs.Promise.{Promise, Did, RunsLine};
 use crate::{
     CommandLine, Ending, Nowhere, Ready, Status, do_jobs, make_ready, read_words, status_of,
 };
-use pm_acts::{Objects, lend};
+use pm_objects::{Objects, lend};
 use pm_bytes::{Environ, Memory};
 use pm_host::{Host, Sink};
 use std::alloc::Global;

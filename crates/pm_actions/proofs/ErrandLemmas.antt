@@ -1,8 +1,8 @@
 -- Errands that were done, in plans.
 use Rattle.std.proofs.Common.{◌≡◌, Bool, true, false, List, ℕ, length, refl, sym, ap, ◌∙◌, subst}
 use Rattle.std.specs.Prelude.{codes, if◌then◌else◌}
-use Rattle.pm_append.specs.Writing.{say_reply}
-use Rattle.pm_append.specs.declared.writing.WriteEnd.{WriteEnd}
+use Rattle.pm_journal.specs.Sayings.{say_reply}
+use Rattle.pm_journal.specs.declared.saying.WriteEnd.{WriteEnd}
 use Rattle.pm_host.specs.declared.command.Command.{Command}
 use Rattle.pm_recipe.specs.declared.tree.Flags.{Flags}
 use Rattle.pm_journal.specs.JournalState.{JournalState}

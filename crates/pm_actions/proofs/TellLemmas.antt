@@ -9,7 +9,7 @@ use Rattle.pm_journal.specs.Plan.{Ends, and_then, ask}
 use Rattle.pm_journal.specs.Executed.{Executes, OutOfMemory}
 use Rattle.pm_journal.proofs.ActPlans.{executes_then}
 use Rattle.pm_journal.proofs.WantsMemory.{executes_nothing, out_front}
-use Rattle.pm_append.specs.Saying.{say_act}
+use Rattle.pm_journal.specs.Sayings.{say_act}
 use Rattle.pm_acts.specs.Acts.{SaysTo}
 use Rattle.pm_journal.specs.Held.{holds_name}
 use Rattle.pm_meaning.specs.Locks.{is_nothing, value_or}

@@ -1,12 +1,11 @@
 //! What came of a program or of standard output, by how that ended.
 ghost use Rattle.std.specs.Prelude.{◌≡◌};
-ghost use Rattle.pm_append.specs.Writing.{say_reply};
+ghost use Rattle.pm_journal.specs.Sayings.{say_reply};
 ghost use Rattle.pm_meaning.specs.ProgramActions.{is_fine as was_done, code_outcome as outcome_by_code};
 ghost use Rattle.pm_meaning.specs.ProgramActions.{feed_outcome as outcome_of_feed, end_outcome as outcome_of_end};
 ghost use Rattle.pm_meaning.specs.ProgramActions.{write_outcome as outcome_of_write};
 
-use pm_append::WriteEnd;
-use pm_journal::RunEnd;
+use pm_journal::{RunEnd, WriteEnd};
 use pm_meaning::Outcome;
 use pm_recipe::Flags;
 

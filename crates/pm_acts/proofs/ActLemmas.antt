@@ -25,7 +25,7 @@ use Rattle.pm_journal.proofs.FirstActs.{act_after_room}
 use Rattle.pm_journal.proofs.KeepingActs.{IsPlain, keeping_plain, keeping_unlock}
 use Rattle.pm_journal.proofs.KeepsJoin.{keeping_same}
 use Rattle.pm_journal.proofs.WantsMemory.{out_left_off}
-use Rattle.pm_append.specs.Saying.{say_act}
+use Rattle.pm_journal.specs.Sayings.{say_act}
 use Rattle.pm_acts.specs.Acts.{NotesRead, ReadsWhole, LeavesAct, NotesPlace, Places, NotesRun, Runs, place_act, after_taking}
 use Rattle.pm_acts.specs.declared.outside.Filing.{Filing}
 

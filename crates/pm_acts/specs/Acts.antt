@@ -1,6 +1,5 @@
 -- Acts whose reply the caller doesn't see whole.
-use Rattle.std.specs.Prelude.{◌≡◌, ℕ, Bool, List, ◌∷◌, Option, Some, None, Result, Ok, Err}
-use Rattle.pm_bytes.specs.declared.error.Memory.{Memory}
+use Rattle.std.specs.Prelude.{◌≡◌, ℕ, Bool, List, ◌∷◌, Option}
 use Rattle.pm_host.specs.declared.calls.Logged.{Logged}
 use Rattle.pm_journal.specs.JournalState.{JournalState}
 use Rattle.pm_journal.specs.Entries.{View}
@@ -12,8 +11,8 @@ use Rattle.pm_journal.specs.declared.acts.Act.TheVariants.{ReadFile, Place, Run,
 use Rattle.pm_journal.specs.declared.acts.Reply.{Reply}
 use Rattle.pm_journal.specs.declared.locking.LockEnd.{LockEnd}
 use Rattle.pm_journal.specs.declared.locking.LockEnd.TheVariants.{Held}
-use Rattle.pm_append.specs.ReadsFile.{content_of}
-use Rattle.pm_append.specs.Saying.{say_act}
+use Rattle.pm_journal.specs.Contents.{content_of}
+use Rattle.pm_journal.specs.Sayings.{say_act}
 use Rattle.pm_host.specs.declared.command.Command.{Command}
 use Rattle.pm_journal.specs.Outcomes.{run_end, output_in, last_output, folder_end, file_in, last_file, is_missing, last_missing}
 use Rattle.pm_journal.specs.declared.children.RunEnd.{RunEnd}
@@ -83,10 +82,3 @@ pub record LeavesAct (act : Act) (before after : View) : Type 0 where
 abbrev pub after_taking : LockEnd → List ℕ → List (List ℕ) → List (List ℕ)
 after_taking (Held sleeps forced) name names = name ∷ names
 after_taking other name names = names
-
--- the reply, or none where memory was wanting
-abbrev pub AreReply : Option Reply → Result Reply Memory → Type 0
-AreReply (Some reply) (Ok answer) = answer ≡ reply
-AreReply None (Err e) = Unit {0}
-AreReply (Some reply) (Err e) = ⊥
-AreReply None (Ok answer) = ⊥

@@ -1,8 +1,8 @@
 //! Single acts, each a plan of its own: room is made for its entry beside those of the unlocks of the held locks, and
 //! it is done and noted. After want of memory nothing was noted.
 ghost use Rattle.std.specs.Prelude.{◌≡◌, ◌≤◌, ◌<◌, ◌+◌, true, false, [], length, IfOk, OnErr};
-ghost use Rattle.pm_append.specs.ReadsFile.{FitsFile};
-ghost use Rattle.pm_append.specs.Writing.{say_reply};
+ghost use Rattle.pm_journal.specs.Contents.{FitsFile};
+ghost use Rattle.pm_journal.specs.Sayings.{say_reply, say_act};
 ghost use Rattle.pm_journal.specs.declared.acts.Act.TheVariants.{ReadFile, Probe, Append, Unlock, Run, SayErr, WriteOut, Moment};
 ghost use Rattle.pm_journal.specs.declared.acts.Reply.TheVariants.{Found, Now};
 ghost use Rattle.pm_journal.specs.Appending.{append_reply};
@@ -12,14 +12,12 @@ ghost use Rattle.pm_journal.specs.Noted.{NotesAct};
 ghost use Rattle.pm_journal.specs.Executed.{Carries, OutOfMemory, GivesEach};
 ghost use Rattle.pm_journal.specs.Held.{Keeping, holds_name, held_by, without};
 ghost use Rattle.pm_journal.specs.Plan.{ask};
-ghost use Rattle.pm_append.specs.Saying.{say_act};
 ghost use Rattle.pm_acts.specs.Acts.{Says, SaysTo, ReadsWhole, Places, Runs, place_act, after_taking};
 
 use crate::{Filing, Outside};
-use pm_append::WriteEnd;
 use pm_bytes::{Blob, Memory, Name};
 use pm_host::{Command, Looked, Removed};
-use pm_journal::{FolderEnd, HeldLocks, Journal, LockEnd, LockRule, RunEnd};
+use pm_journal::{FolderEnd, HeldLocks, Journal, LockEnd, LockRule, RunEnd, WriteEnd};
 use std::alloc::Global;
 
 /// Says a line on `err`.

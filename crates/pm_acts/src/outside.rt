@@ -4,16 +4,14 @@ ghost use Rattle.pm_journal.specs.Appending.{append_reply};
 ghost use Rattle.pm_journal.specs.Entries.{View, unlock_reply};
 ghost use Rattle.pm_journal.specs.Locking.{lock_act, lock_reply};
 ghost use Rattle.pm_journal.specs.Noted.{NotesAct};
-ghost use Rattle.pm_append.specs.ReadsFile.{FitsFile};
-ghost use Rattle.pm_append.specs.Writing.{say_reply};
+ghost use Rattle.pm_journal.specs.Contents.{FitsFile};
+ghost use Rattle.pm_journal.specs.Sayings.{say_reply, NotesSaid};
 ghost use Rattle.pm_journal.specs.declared.acts.Act.TheVariants.{ReadFile, Run};
-ghost use Rattle.pm_append.specs.Saying.{NotesSaid};
 ghost use Rattle.pm_acts.specs.Acts.{NotesRead, NotesPlace, NotesRun, LeavesAct, place_act};
 
-use pm_append::{AppendEnd, WriteEnd};
 use pm_bytes::{Blob, Memory, Name};
 use pm_host::{Command, Looked, Removed};
-use pm_journal::{Act, FolderEnd, FolderKind, Journal, LockEnd, LockRule, Reply, RunEnd, Stamp};
+use pm_journal::{Act, AppendEnd, FolderEnd, FolderKind, Journal, LockEnd, LockRule, Reply, RunEnd, Stamp, WriteEnd};
 use std::alloc::Global;
 
 /// A piece that is filed in a folder as a file of its own, with what makes its name; `prefix` is that of a plain folder.

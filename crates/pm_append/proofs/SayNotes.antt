@@ -15,9 +15,10 @@ use Rattle.pm_journal.specs.declared.acts.Reply.{Reply}
 use Rattle.pm_journal.specs.declared.appending.AppendEnd.{AppendEnd}
 use Rattle.pm_journal.proofs.OneAct.{say_file_accounts}
 use Rattle.pm_append.specs.Saying.{counts_beside}
-use Rattle.pm_append.specs.Writing.{WritesText, say_reply}
-use Rattle.pm_append.specs.declared.writing.WriteEnd.{WriteEnd}
-use Rattle.pm_append.specs.declared.writing.WriteEnd.TheVariants.{Wrote, Short}
+use Rattle.pm_append.specs.Writing.{WritesText}
+use Rattle.pm_journal.specs.Sayings.{say_reply}
+use Rattle.pm_journal.specs.declared.saying.WriteEnd.{WriteEnd}
+use Rattle.pm_journal.specs.declared.saying.WriteEnd.TheVariants.{Wrote, Short}
 
 -- the entry of an act beside this count of `out`
 abbrev entry_beside : ℕ → Act → Reply → HostView → StreamView → HostView → StreamView → Entry

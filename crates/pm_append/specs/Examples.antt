@@ -14,8 +14,8 @@ use Rattle.pm_journal.specs.declared.appending.AppendEnd.TheVariants.{Done, Undo
 use Rattle.pm_journal.specs.declared.appending.AppendStep.{AppendStep}
 use Rattle.pm_journal.specs.declared.appending.AppendStep.TheVariants.{Look, Create, Append, Sync, Cut as CutTo, Remove, Finish}
 use Rattle.pm_append.specs.Machine.{Machine, appending, appending_heard}
-use Rattle.pm_append.specs.ReadsFile.{read_reply}
-use Rattle.pm_append.specs.declared.read.ReadEnd.TheVariants.{Missing, NotPlain, Faulted}
+use Rattle.pm_journal.specs.Contents.{read_reply}
+use Rattle.pm_journal.specs.declared.reading.ReadEnd.TheVariants.{Missing, NotPlain, Faulted}
 
 -- what an append asks, one step after the other, while these answers come
 abbrev pub asked : Machine → List Answer → List AppendStep

@@ -1,7 +1,7 @@
 //! The replies of acts on files and sinks, by how their protocols ended.
 ghost use Rattle.std.specs.Prelude.{◌≡◌};
 ghost use Rattle.pm_journal.specs.Appending.{append_reply};
-ghost use Rattle.pm_append.specs.Writing.{say_reply};
+ghost use Rattle.pm_journal.specs.Sayings.{say_reply};
 
 use crate::{AppendEnd, WriteEnd};
 use pm_journal::Reply;

@@ -2,7 +2,8 @@
 ghost use Rattle.std.specs.Prelude.{◌≡◌, ◌<◌};
 ghost use Rattle.pm_host.specs.Streams.{StreamView};
 ghost use Rattle.pm_journal.specs.Entries.{view_of};
-ghost use Rattle.pm_append.specs.Saying.{NotesSaid, counts_beside};
+ghost use Rattle.pm_append.specs.Saying.{counts_beside};
+ghost use Rattle.pm_journal.specs.Sayings.{NotesSaid};
 
 use crate::append::append_by;
 use crate::{append_reply_of, say_reply_of, write_text};

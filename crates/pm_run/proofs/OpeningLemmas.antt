@@ -3,7 +3,7 @@ use Rattle.std.proofs.Common.{◌≡◌, ◌<◌, ◌≤◌, ◌+◌, ◌∙◌,
 use Rattle.std.specs.Prelude.{◌-◌, ◌*◌, ◌^◌, nat_le, nat_eq, codes, not, ◌&&◌, if◌then◌else◌}
 use Rattle.std.specs.List.{starts_with}
 use Rattle.std.proofs.lemmas.Bool.Decides.{nat_tests}
-use Rattle.pm_append.specs.ReadsFile.{content_of}
+use Rattle.pm_journal.specs.Contents.{content_of}
 use Rattle.pm_code.specs.Ahead.{lists_of}
 use Rattle.pm_code.specs.Flat.{flats_of, written}
 use Rattle.pm_code.proofs.Reading.{lists-whole}

@@ -3,7 +3,7 @@ use Rattle.std.proofs.Common.{◌≡◌, ◌<◌, ◌≤◌, ◌+◌, ◌∙◌,
 use Rattle.std.specs.Prelude.{◌-◌, ◌*◌, ◌^◌, nat_le, if◌then◌else◌}
 use Rattle.std.proofs.lemmas.Bool.Decides.{nat_tests}
 use Rattle.std.proofs.lemmas.List.{drop_all, length-map}
-use Rattle.pm_append.specs.ReadsFile.{content_of}
+use Rattle.pm_journal.specs.Contents.{content_of}
 use Rattle.pm_code.specs.Ahead.{lists_of}
 use Rattle.pm_code.specs.Flat.{flat_of, flats_of, written}
 use Rattle.pm_code.specs.declared.code.Code.{Code}

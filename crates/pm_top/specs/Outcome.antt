@@ -6,7 +6,7 @@ use Rattle.pm_journal.specs.Held.{Keeps, AreUnlocks}
 use Rattle.pm_journal.specs.Walking.{Means, IsUnfinished}
 use Rattle.pm_journal.specs.declared.acts.Entry.{Entry}
 use Rattle.pm_append.specs.Writing.{WritesText}
-use Rattle.pm_append.specs.declared.writing.WriteEnd.{WriteEnd}
+use Rattle.pm_journal.specs.declared.saying.WriteEnd.{WriteEnd}
 use Rattle.pm_top.specs.Words.{command_line}
 use Rattle.pm_meaning.specs.Courses.{advance, run_of}
 use Rattle.pm_meaning.specs.Status.{status_number}

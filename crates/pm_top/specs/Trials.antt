@@ -4,8 +4,8 @@ use Rattle.pm_bytes.specs.declared.environment.Environ.{Environ}
 use Rattle.pm_host.specs.Streams.{StreamView}
 use Rattle.pm_journal.specs.Entries.{View}
 use Rattle.pm_append.specs.Writing.{WritesText}
-use Rattle.pm_append.specs.declared.writing.WriteEnd.{WriteEnd}
-use Rattle.pm_append.specs.declared.writing.WriteEnd.TheVariants.{Wrote, Short}
+use Rattle.pm_journal.specs.declared.saying.WriteEnd.{WriteEnd}
+use Rattle.pm_journal.specs.declared.saying.WriteEnd.TheVariants.{Wrote, Short}
 use Rattle.pm_meaning.specs.Status.{status_number}
 use Rattle.pm_meaning.specs.declared.status.Status.TheVariants.{Success, SystemError, InputOutput}
 use Rattle.pm_top.specs.Run.{Run}

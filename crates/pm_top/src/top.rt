@@ -11,7 +11,7 @@ ghost use Rattle.pm_top.specs.Promise.{Promise};
 ghost use Rattle.pm_top.specs.Traced.{RunsLine, RunsMail};
 
 use crate::words::read_words;
-use pm_acts::{Objects, lend};
+use pm_objects::{Objects, lend};
 use pm_append::write_text;
 use pm_bytes::{Blob, Environ, Memory};
 use pm_host::{Child, Host, Sink, Source};

@@ -1,5 +1,5 @@
-use Rattle.pm_acts.proofs.Notes.{append_notes}
-use Rattle.pm_acts.proofs.objects.ObjectsOutside.append.Goals as goal
+use Rattle.pm_objects.proofs.Notes.{append_notes}
+use Rattle.pm_objects.proofs.objects.ObjectsOutside.append.Goals as goal
 
 pub returns : goal.returns
 returns g c =

@@ -1,5 +1,5 @@
-use Rattle.pm_acts.proofs.Notes.{unlock_notes}
-use Rattle.pm_acts.proofs.objects.ObjectsOutside.unlock.Goals as goal
+use Rattle.pm_objects.proofs.Notes.{unlock_notes}
+use Rattle.pm_objects.proofs.objects.ObjectsOutside.unlock.Goals as goal
 
 pub returns : goal.returns
 returns g c =

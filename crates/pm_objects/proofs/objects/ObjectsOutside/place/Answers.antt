@@ -1,5 +1,5 @@
-use Rattle.pm_acts.proofs.Notes.{place_notes}
-use Rattle.pm_acts.proofs.objects.ObjectsOutside.place.Goals as goal
+use Rattle.pm_objects.proofs.Notes.{place_notes}
+use Rattle.pm_objects.proofs.objects.ObjectsOutside.place.Goals as goal
 
 pub returns-clause-ok : goal.returns-clause-ok
 returns-clause-ok g c = record {

@@ -1,7 +1,7 @@
 use Rattle.std.proofs.Common.{rules, w64}
 use Rattle.std.proofs.Math.Facts.{to_z-of_z}
-use Rattle.pm_acts.proofs.Notes.{moment_notes}
-use Rattle.pm_acts.proofs.objects.ObjectsOutside.moment.Goals as goal
+use Rattle.pm_objects.proofs.Notes.{moment_notes}
+use Rattle.pm_objects.proofs.objects.ObjectsOutside.moment.Goals as goal
 
 pub returns : goal.returns
 returns g c =

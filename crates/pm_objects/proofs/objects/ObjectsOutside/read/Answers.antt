@@ -1,6 +1,6 @@
-use Rattle.pm_append.specs.ReadsFile.{read_reply}
-use Rattle.pm_acts.proofs.Notes.{read_notes}
-use Rattle.pm_acts.proofs.objects.ObjectsOutside.read.Goals as goal
+use Rattle.pm_journal.specs.Contents.{read_reply}
+use Rattle.pm_objects.proofs.Notes.{read_notes}
+use Rattle.pm_objects.proofs.objects.ObjectsOutside.read.Goals as goal
 
 pub returns-clause-ok : goal.returns-clause-ok
 returns-clause-ok g c = record {

@@ -1,5 +1,5 @@
-use Rattle.pm_acts.proofs.Notes.{run_notes}
-use Rattle.pm_acts.proofs.objects.ObjectsOutside.run.Goals as goal
+use Rattle.pm_objects.proofs.Notes.{run_notes}
+use Rattle.pm_objects.proofs.objects.ObjectsOutside.run.Goals as goal
 
 pub returns-clause-ok : goal.returns-clause-ok
 returns-clause-ok g c = record {

@@ -15,7 +15,8 @@ use Rattle.pm_journal.specs.declared.placing.FolderKind.{FolderKind}
 use Rattle.pm_journal.specs.declared.placing.Stamp.{Stamp}
 use Rattle.pm_journal.proofs.ChildFacts.{run_cause}
 use Rattle.pm_journal.proofs.PlaceCause.{place_cause}
-use Rattle.pm_acts.specs.Acts.{AreReply, LeavesAct}
+use Rattle.pm_acts.specs.Acts.{LeavesAct}
+use Rattle.pm_objects.specs.Replied.{AreReply}
 use Rattle.pm_host.specs.Told.{HostView, Tells, Adds, Makes}
 use Rattle.pm_host.specs.Streams.{StreamView}
 use Rattle.pm_host.specs.declared.answers.Looked.{Looked}
@@ -39,11 +40,13 @@ use Rattle.pm_journal.specs.Locking.{TakesLock, lock_reply, lock_act}
 use Rattle.pm_journal.specs.declared.locking.LockRule.{LockRule}
 use Rattle.pm_journal.specs.declared.locking.LockEnd.{LockEnd}
 use Rattle.pm_journal.proofs.ReadJoin.{read_accounts}
-use Rattle.pm_append.specs.ReadsFile.{ReadsFile, read_reply}
-use Rattle.pm_append.specs.Writing.{WritesText, say_reply}
-use Rattle.pm_append.specs.declared.read.ReadEnd.{ReadEnd}
-use Rattle.pm_append.specs.declared.writing.WriteEnd.{WriteEnd}
-use Rattle.pm_append.specs.declared.writing.WriteEnd.TheVariants.{Wrote, Short}
+use Rattle.pm_append.specs.ReadsFile.{ReadsFile}
+use Rattle.pm_journal.specs.Contents.{read_reply}
+use Rattle.pm_append.specs.Writing.{WritesText}
+use Rattle.pm_journal.specs.Sayings.{say_reply}
+use Rattle.pm_journal.specs.declared.reading.ReadEnd.{ReadEnd}
+use Rattle.pm_journal.specs.declared.saying.WriteEnd.{WriteEnd}
+use Rattle.pm_journal.specs.declared.saying.WriteEnd.TheVariants.{Wrote, Short}
 
 -- the entry of an act between two moments
 abbrev pub entry_of : Act → Reply → View → View → Entry

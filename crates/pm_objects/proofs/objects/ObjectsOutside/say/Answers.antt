@@ -1,5 +1,5 @@
-use Rattle.pm_acts.proofs.Notes.{say_file_notes, say_err_notes}
-use Rattle.pm_acts.proofs.objects.ObjectsOutside.say.Goals as goal
+use Rattle.pm_objects.proofs.Notes.{say_file_notes, say_err_notes}
+use Rattle.pm_objects.proofs.objects.ObjectsOutside.say.Goals as goal
 
 pub returns-in-Some : goal.returns-in-Some
 returns-in-Some g c =

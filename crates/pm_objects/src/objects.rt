@@ -3,14 +3,14 @@ ghost use Rattle.std.specs.Prelude.{◌≡◌, IfOk};
 ghost use Rattle.pm_journal.specs.Appending.{append_reply};
 ghost use Rattle.pm_journal.specs.Entries.{counts_of, view_of, unlock_reply};
 ghost use Rattle.pm_journal.specs.Locking.{lock_reply};
-ghost use Rattle.pm_append.specs.ReadsFile.{read_reply, content_of};
-ghost use Rattle.pm_append.specs.Writing.{say_reply};
+ghost use Rattle.pm_journal.specs.Contents.{read_reply, content_of};
+ghost use Rattle.pm_journal.specs.Sayings.{say_reply};
 ghost use Rattle.pm_journal.specs.Outcomes.{folder_end, run_end};
 ghost use Rattle.pm_folders.specs.Filing.{place_reply};
 ghost use Rattle.pm_pipe.specs.Runs.{child_reply};
-ghost use Rattle.pm_acts.specs.Acts.{AreReply};
+ghost use Rattle.pm_objects.specs.Replied.{AreReply};
 
-use crate::{Filing, Outside};
+use pm_acts::{Filing, Outside};
 use pm_append::{AppendEnd, ReadEnd, WriteEnd, append_by, append_whole, read_file, write_text};
 use pm_bytes::{Blob, Memory, Name};
 use pm_folders::{PlaceEnd, place};

@@ -1,5 +1,5 @@
-use Rattle.pm_acts.proofs.Notes.{write_out_notes}
-use Rattle.pm_acts.proofs.objects.ObjectsOutside.write_out.Goals as goal
+use Rattle.pm_objects.proofs.Notes.{write_out_notes}
+use Rattle.pm_objects.proofs.objects.ObjectsOutside.write_out.Goals as goal
 
 pub returns : goal.returns
 returns g c =

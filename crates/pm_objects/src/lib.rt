@@ -1,0 +1,6 @@
+//! The acts of a run, done by a host and two sinks: each makes the calls of its protocol, and notes them as one entry.
+#![tactic(auto)]
+
+pub mod objects;
+
+pub use objects::{Objects, lend};
