@@ -11,6 +11,8 @@ use Rattle.pm_journal.specs.declared.acts.Entry.{Entry}
 use Rattle.pm_journal.proofs.AccountsJoin.{honest_join, covered_join, adds_then, all_said-append, all_written-append, accounts_effect}
 use Rattle.pm_journal.proofs.DeliveriesHold.{accounts_deliver}
 use Rattle.pm_journal.proofs.KeepsJoin.{all_given_back}
+use Rattle.pm_journal.proofs.LocksLeft.{all_left_faulted}
+use Rattle.pm_journal.proofs.ReplyOf.{protocol_reply}
 use Rattle.pm_top.specs.Run.{Run}
 use Rattle.pm_top.specs.Outcome.{Outcome, bad_words, read_fault, too_long, not_begun, left_off, meant}
 use Rattle.pm_top.specs.Account.{done_in, calls_in, given_in, Account}
@@ -19,6 +21,8 @@ use Rattle.pm_top.specs.Traced.{Traced}
 use Rattle.pm_journal.proofs.ChildrenStay.{no_child_left}
 use Rattle.pm_meaning.proofs.ClearRun.{clear_is_well}
 use Rattle.pm_meaning.proofs.EndStatus.{end_has_status}
+use Rattle.pm_meaning.proofs.StoredDone.{stored_is_done}
+use Rattle.pm_meaning.proofs.DeliveredLast.{delivered_is_done}
 use Rattle.pm_top.proofs.Faultless.{faultless_in}
 use Rattle.pm_top.proofs.Grown.{grown_in, calls_child}
 use Rattle.pm_top.proofs.Refusals.{meaning_of, starved_of, refuses_of}
@@ -82,6 +86,11 @@ none_runs run how a =
     ∙ calls_child run how)
     ∙ no_child_left (given_in run how) a.back.groups a.back.honest
 
+-- the entries of the whole run have the calls of their protocols
+honest_in : (run : Run) (how : Outcome run) (a : Account run how) → Honest run.entries (a.accounts.groups ++ a.back.groups)
+honest_in run how a = subst (λ l. Honest l (a.accounts.groups ++ a.back.groups)) (sym a.entries_are)
+    (honest_join (done_in run how) (given_in run how) a.accounts.groups a.back.groups a.accounts.honest a.back.honest)
+
 promised : (run : Run) → Traced run → AllGivenBack run.entries → run.before.host.child ≡ NoChild → Promise run
 promised run t locks child = let a = t.account in record {
   how = t.how;
@@ -91,9 +100,12 @@ promised run t locks child = let a = t.account in record {
   state = record { tree = tree_in run t.how a; written = written_in run t.how a; said = said_in run t.how a };
   deliveries = accounts_deliver (done_in run t.how) run.before a.middle a.accounts;
   files = grown_in run t.how a;
+  stored = stored_is_done;
+  delivered = λ h. delivered_is_done h.line run.env h.mail run.entries h.ending h.means;
   locks = locks;
+  left = all_left_faulted protocol_reply run.entries (a.accounts.groups ++ a.back.groups) (honest_in run t.how a) locks;
   causes = record {
-    honest = subst (λ l. Honest l (a.accounts.groups ++ a.back.groups)) (sym a.entries_are) (honest_join (done_in run t.how) (given_in run t.how) a.accounts.groups a.back.groups a.accounts.honest a.back.honest);
+    honest = honest_in run t.how a;
     ran = ran_in run t.how a;
     framed = framed_in run t.how a;
     covered = subst AllCovered (sym a.entries_are) (covered_join (done_in run t.how) (given_in run t.how) a.accounts.covered a.back.covered);

@@ -6,11 +6,14 @@ use Rattle.pm_host.specs.declared.answers.Child.TheVariants.{NoChild}
 use Rattle.pm_journal.specs.Entries.{counts_of, view_of, Honest, joined, after_entries, all_said, all_written, Frame, AllCovered}
 use Rattle.pm_journal.specs.declared.acts.Counts.{Counts}
 use Rattle.pm_journal.specs.Deliveries.{all_folders, asked_folders, AllDelivered, AllGrow}
-use Rattle.pm_journal.specs.Held.{AllGivenBack}
+use Rattle.pm_journal.specs.Held.{AllGivenBack, AllLeftFaulted}
 use Rattle.pm_journal.specs.Laws.{SomeFaulty}
 use Rattle.pm_meaning.specs.Completeness.{IsClear, EndsWell}
 use Rattle.pm_meaning.specs.EndStatus.{EndsBy}
 use Rattle.pm_meaning.specs.Courses.{run_of}
+use Rattle.pm_meaning.specs.Laws.{StoredIsDone}
+use Rattle.pm_meaning.specs.RunLaws.{DeliversLast}
+use Rattle.pm_meaning.specs.declared.process.End.TheVariants.{Delivered}
 use Rattle.pm_top.specs.Words.{command_line}
 use Rattle.pm_top.specs.Run.{Run}
 use Rattle.pm_top.specs.Outcome.{BadWords, ReadFault, TooLong, NotBegun, LeftOff, HasMeaning, Outcome, left_off}
@@ -99,8 +102,14 @@ pub record Promise (run : Run) : Type 0 where
   pub deliveries : HasDelivered run how account
   -- in the end each file has its opening bytes and what the entries added to it, in order, and nothing else
   pub files : HasGrown run how
+  -- a mailbox action counts as done only where each of its destinations got the mail
+  pub stored : StoredIsDone
+  -- where the first process ends as delivered, its last acts put the mail whole in each of its destinations
+  pub delivered : (h : HasMeaning run) → h.ending.end ≡ Delivered → DeliversLast (run_of h.line run.env h.mail) run.entries h.ending
   -- each lock that was taken was given back
   pub locks : AllGivenBack run.entries
+  -- a lock file that is left has an unlock that failed
+  pub left : AllLeftFaulted run.entries
   -- no call is hidden, and no fault is invented
   pub causes : HasCauses run how account
   -- what came decides how a run is refused
