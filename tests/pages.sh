@@ -14,8 +14,13 @@ fail() {
 }
 
 if command -v mandoc > /dev/null; then
-    # The footers name the release and not the system, which mandoc notes as a matter of style.
-    mandoc -T lint man/*.[15] 2> "$folder/said" | grep -v 'STYLE: operating system explicitly specified' > "$folder/lint" || true
+    # The footers name the release and not the system, and pages of ours need not be installed; mandoc notes both as a
+    # matter of style.
+    mandoc -T lint man/*.[15] 2> "$folder/said" |
+        grep -v -e 'STYLE: operating system explicitly specified' -e 'STYLE: referenced manual not found' > "$folder/lint" || true
+    for page in $(sed -n 's/^\.Xr \([a-z-]*\) \([15]\).*/\1.\2/p' man/*.[15] | sort -u); do
+        [ -f "man/$page" ] || [[ $page != procmail* && $page != formail* && $page != lockfile* ]] || fail "no page man/$page"
+    done
     [ ! -s "$folder/lint" ] || fail "mandoc finds: $(cat "$folder/lint")"
 else
     echo "$name: no mandoc here: the form of the pages: skipped"

@@ -9,9 +9,9 @@ ghost use Rattle.lockfile_top.specs.Promise.{Promise, Did, RunsLine};
 use crate::{
     CommandLine, Ending, Nowhere, Ready, Status, do_jobs, make_ready, read_words, status_of,
 };
-use pm_objects::{Objects, lend};
 use pm_bytes::{Environ, Memory};
 use pm_host::{Host, Sink};
+use pm_objects::{Objects, lend};
 use std::alloc::Global;
 
 /// Makes and removes the lock files that the words name, and answers the exit status (lockfile(1)). The words leave out

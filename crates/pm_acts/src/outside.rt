@@ -11,7 +11,10 @@ ghost use Rattle.pm_acts.specs.Acts.{NotesRead, NotesPlace, NotesRun, LeavesAct,
 
 use pm_bytes::{Blob, Memory, Name};
 use pm_host::{Command, Looked, Removed};
-use pm_journal::{Act, AppendEnd, FolderEnd, FolderKind, Journal, LockEnd, LockRule, Reply, RunEnd, Stamp, WriteEnd};
+use pm_journal::{
+    Act, AppendEnd, FolderEnd, FolderKind, Journal, LockEnd, LockRule, Reply, RunEnd, Stamp,
+    WriteEnd,
+};
 use std::alloc::Global;
 
 /// A piece that is filed in a folder as a file of its own, with what makes its name; `prefix` is that of a plain folder.

@@ -5,10 +5,10 @@ ghost use Rattle.pm_regex.proofs.CountOf.{count_of};
 ghost use Rattle.pm_meaning.specs.Searching.{IsWithin, match_in};
 ghost use Rattle.pm_meaning.specs.Weighing.{counted_outcome as outcome, count_in, match_bytes};
 
-use pm_meaning::question::{Factors, Outcome};
 use crate::searching::matched;
 use pm_bytes::{Blob, Memory};
 use pm_match::Engine;
+use pm_meaning::question::{Factors, Outcome};
 use pm_regex::{Expr, Found};
 use std::alloc::Global;
 

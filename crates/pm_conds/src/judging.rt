@@ -6,12 +6,12 @@ ghost use Rattle.pm_meaning.specs.Searching.{sight_of};
 ghost use Rattle.pm_meaning.specs.Evaluating.{test_outcome, exited as outcome_of_exit, question_by};
 ghost use Rattle.pm_meaning.specs.Evaluating.{judged_one, course_of, is_weighted};
 
-use pm_meaning::question::{Factors, Outcome, Question, Scope, Verdict};
 use crate::scoring::{end_at, set_match};
 use crate::searching::{length_of, search};
 use crate::sizes::{measured_outcome, number_in, outcome_if};
-use pm_meaning::{add_code, add_length, add_score};
 use pm_bytes::{Blob, Memory};
+use pm_meaning::question::{Factors, Outcome, Question, Scope, Verdict};
+use pm_meaning::{add_code, add_length, add_score};
 use pm_message::Mail;
 use pm_recipe::{Condition, Flags, Weight};
 use pm_vars::Vars;

@@ -3,8 +3,8 @@ ghost use Rattle.std.specs.Prelude.{◌≡◌, IfOk};
 ghost use Rattle.pm_meaning.specs.Evaluating.{with_score, with_matched};
 ghost use Rattle.pm_meaning.specs.Weighing.{end_at as end_by, end_of_all as end_by_all};
 
-use pm_meaning::question::Verdict;
 use pm_bytes::{Blob, Memory};
+use pm_meaning::question::Verdict;
 use pm_vars::Vars;
 
 /// How a score ends the judging, if it does.

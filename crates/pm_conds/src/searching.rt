@@ -10,10 +10,10 @@ ghost use Rattle.pm_meaning.specs.Weighing.{sought_outcome};
 ghost use Rattle.pm_vars.specs.Variables.{value_of};
 
 use crate::counting::count_area;
-use pm_meaning::question::{Outcome, Question, Scope};
 use crate::sizes::outcome_if;
 use pm_bytes::{Blob, Memory};
 use pm_match::Engine;
+use pm_meaning::question::{Outcome, Question, Scope};
 use pm_message::{Mail, Place};
 use pm_recipe::Flags;
 use pm_regex::{Expr, Found, ReadRefused, read};

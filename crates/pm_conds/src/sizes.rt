@@ -8,9 +8,9 @@ ghost use Rattle.pm_meaning.specs.Evaluating.{measured_outcome as measured};
 ghost use Rattle.pm_meaning.specs.Weighing.{weighed_size as weighed};
 ghost use Rattle.pm_meaning.specs.Searching.{holds_if};
 
+use pm_bytes::{is_blank, read_count};
 use pm_meaning::past_blanks;
 use pm_meaning::question::{Factors, Outcome, Question};
-use pm_bytes::{is_blank, read_count};
 
 /// The place of the first blank.
 fn word_end(text: &[u8]) -> Option<usize>

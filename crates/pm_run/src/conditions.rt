@@ -12,7 +12,10 @@ use pm_actions::{
 };
 use pm_acts::{Outside, run};
 use pm_bytes::Memory;
-use pm_conds::{end_of_all, exited, has_weight, judge_one, note_score, program_input, question_of, read_lead, test};
+use pm_conds::{
+    end_of_all, exited, has_weight, judge_one, note_score, program_input, question_of, read_lead,
+    test,
+};
 use pm_host::Command;
 use pm_journal::Journal;
 use pm_meaning::question::{Outcome, Question, Verdict};

@@ -11,12 +11,12 @@ ghost use Rattle.pm_top.specs.Promise.{Promise};
 ghost use Rattle.pm_top.specs.Traced.{RunsLine, RunsMail};
 
 use crate::words::read_words;
-use pm_objects::{Objects, lend};
 use pm_append::write_text;
 use pm_bytes::{Blob, Environ, Memory};
 use pm_host::{Child, Host, Sink, Source};
 use pm_journal::Journal;
 use pm_meaning::{CommandLine, End, Ending, Status};
+use pm_objects::{Objects, lend};
 use pm_run::run_processes;
 use pm_streams::{Mail, read_mail};
 use std::alloc::Global;
