@@ -213,6 +213,13 @@ if command -v jq > /dev/null; then
     [ "$(jq -r '.version, .runs[0].tool.driver.name' out | paste -sd ' ')" = '2.1.0 procmail-check' ] || fail "SARIF: $(cat out)"
     [ "$(jq -r '.runs[0].results[] | select(.ruleId == "expression") | .level, .locations[0].physicalLocation.artifactLocation.uri,
         .locations[0].physicalLocation.region.startLine' out | paste -sd ' ')" = 'error an%20rc 2' ] || fail "SARIF: $(cat out)"
+    # A path of a URI: slashes and what RFC 3986 calls unreserved are themselves, and all other bytes are percent-encoded.
+    mkdir -p sub
+    odd=$'sub/AZaz09-._~ !"#$%&\'()*+,:;<>?@[]^`{|}\xc3\xa9'
+    cp 'an rc' "$odd"
+    ends 2 --no-disk --format sarif "./$odd"
+    [ "$(jq -r '.runs[0].results[0].locations[0].physicalLocation.artifactLocation.uri' out)" = \
+        './sub/AZaz09-._~%20%21%22%23%24%25%26%27%28%29%2A%2B%2C%3A%3B%3C%3E%3F%40%5B%5D%5E%60%7B%7C%7D%C3%A9' ] || fail "a URI: $(cat out)"
 else
     echo "$name: no jq here: the members of JSON and SARIF: skipped"
 fi
