@@ -24,10 +24,9 @@ build-check:
 build-explain:
 	@bash .ci/build procmail-explain
 
-# The programs that run the cases of tests/cases.
+# The program that runs the cases of tests/cases.
 build-cases:
-	@bash .ci/build pm_cases
-	@bash .ci/build formail_cases
+	@bash .ci/build run_cases
 
 # Where make install puts the programs, pages, documents, examples and completions: below PREFIX, and all of that below
 # DESTDIR, for packages. BINDIR, MANDIR and DOCDIR name single places.

@@ -7,19 +7,19 @@
 # what a byte costs with lists of words and with deep expressions, and what making the automata costs.
 set -u
 cd "$(dirname "$0")/.." || exit 1
-program=bin/egrep_bench
+program=bin/bench_parts
 small=65536
 large=1048576
 failed=0
 
 # The build ends by starting the program without words, which is a usage error (64).
 mkdir -p bin
-(cd crates/egrep_bench && rt run) > bin/egrep_bench.log 2>&1 < /dev/null
+(cd crates/bench_parts && rt run) > bin/bench_parts.log 2>&1 < /dev/null
 if [ $? -ne 64 ]; then
-    tail -n 40 bin/egrep_bench.log
+    tail -n 40 bin/bench_parts.log
     exit 1
 fi
-cp crates/egrep_bench/out/egrep_bench "$program"
+cp crates/bench_parts/out/bench_parts "$program"
 
 if command -v valgrind > /dev/null; then
     counts=yes
@@ -30,7 +30,7 @@ fi
 
 # The instructions of one run.
 instructions() {
-    valgrind --tool=callgrind --callgrind-out-file=/dev/null "$program" "$@" 2>&1 > /dev/null |
+    valgrind --tool=callgrind --callgrind-out-file=/dev/null "$program" search "$@" 2>&1 > /dev/null |
         awk '/Collected/ { print $NF }'
 }
 
@@ -44,7 +44,7 @@ nanoseconds() {
     local best=0 start took
     for _ in 1 2 3; do
         start=$(date +%s%N)
-        "$program" "$@" > /dev/null || echo "failed: $*" >&2
+        "$program" search "$@" > /dev/null || echo "failed: $*" >&2
         took=$(($(date +%s%N) - start))
         if [ "$best" -eq 0 ] || [ "$took" -lt "$best" ]; then
             best=$took
@@ -137,7 +137,7 @@ if [ "$counts" = yes ]; then
     echo "Instructions per byte and expression on $large bytes of ordinary lines:"
     sum=0
     for text in "${ordinary[@]}"; do
-        if [ "$("$program" find "$text" text "$large")" != none ]; then
+        if [ "$("$program" search find "$text" text "$large")" != none ]; then
             echo "matches: $text"
             failed=1
         fi

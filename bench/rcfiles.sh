@@ -6,19 +6,19 @@
 # ordinary rcfile of 5,000 lines of comments costs: 12 at most.
 set -u
 cd "$(dirname "$0")/.." || exit 1
-program=bin/rcfile_bench
+program=bin/bench_parts
 small=65536
 large=1048576
 failed=0
 
 # The build ends by starting the program without words, which is a usage error (64).
 mkdir -p bin
-(cd crates/rcfile_bench && rt run) > bin/rcfile_bench.log 2>&1 < /dev/null
+(cd crates/bench_parts && rt run) > bin/bench_parts.log 2>&1 < /dev/null
 if [ $? -ne 64 ]; then
-    tail -n 40 bin/rcfile_bench.log
+    tail -n 40 bin/bench_parts.log
     exit 1
 fi
-cp crates/rcfile_bench/out/rcfile_bench "$program"
+cp crates/bench_parts/out/bench_parts "$program"
 
 if command -v valgrind > /dev/null; then
     counts=yes
@@ -29,7 +29,7 @@ fi
 
 # The instructions of one run.
 instructions() {
-    valgrind --tool=callgrind --callgrind-out-file=/dev/null "$program" "$@" 2>&1 > /dev/null |
+    valgrind --tool=callgrind --callgrind-out-file=/dev/null "$program" rcfile "$@" 2>&1 > /dev/null |
         awk '/Collected/ { print $NF }'
 }
 
@@ -43,7 +43,7 @@ nanoseconds() {
     local best=0 start took
     for _ in 1 2 3; do
         start=$(date +%s%N)
-        "$program" read "$@" > /dev/null || echo "failed: $*" >&2
+        "$program" rcfile read "$@" > /dev/null || echo "failed: $*" >&2
         took=$(($(date +%s%N) - start))
         if [ "$best" -eq 0 ] || [ "$took" -lt "$best" ]; then
             best=$took

@@ -1,17 +1,15 @@
 #!/usr/bin/env bash
-# Runs files of cases by the built programs: `tests/cases.sh [NAME ..]`, by default all. Each case that fails is printed
+# Runs files of cases by the built program: `tests/cases.sh [NAME ..]`, by default all. Each case that fails is printed
 # after its file and line, and for each file and at the end how many tries passed and failed.
 set -u
 programs=${BIN:+$(cd "$BIN" && pwd)}
 cd "$(dirname "$0")/.." || exit 1
 [ -n "$programs" ] || [ "${ARE_BUILT:-}" = yes ] || make -s build-cases || exit 1
 programs=${programs:-$PWD/bin}
-for program in pm_cases formail_cases; do
-    if [ ! -x "$programs/$program" ]; then
-        echo "cases: there is no program $program beside the others (make build-cases builds it): skipped"
-        exit 0
-    fi
-done
+if [ ! -x "$programs/run_cases" ]; then
+    echo "cases: there is no program run_cases beside the others (make build-cases builds it): skipped"
+    exit 0
+fi
 
 files=(tests/cases/*.cases)
 if [ $# -gt 0 ]; then
@@ -30,11 +28,7 @@ places=$room/places
 
 # run_file FILE REPORT: the status is the program's.
 run_file() {
-    local program=pm_cases
-    case $1 in
-        tests/cases/formail*) program=formail_cases ;;
-    esac
-    exec "$programs/$program" < "$1" > "$2"
+    exec "$programs/run_cases" < "$1" > "$2"
 }
 
 started=0

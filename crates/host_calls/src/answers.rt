@@ -1,5 +1,5 @@
 //! The host's answers in words.
-use case_file::{Words, number_word, one_word, word_of};
+use cases::{Words, number_word, one_word, word_of};
 use pm_bytes::Memory;
 use pm_host::{Aged, Cut, Got, Listed, Looked, Made, Moved, Removed, Synced, Took};
 use std::alloc::Global;

@@ -2,7 +2,7 @@
 ghost use Rattle.std.specs.Prelude.{◌<◌, IfOk, vec_len};
 
 use crate::answers::{aged, cut, got, listed, looked, made, moved, removed, synced, took};
-use case_file::{Refused, Words, one_number, one_word, read_i64, read_u64, read_usize, text_of};
+use cases::{Refused, Words, one_number, one_word, read_i64, read_u64, read_usize, text_of};
 use pm_host::Host;
 use pm_real::RealHost;
 use std::alloc::Global;

@@ -1,6 +1,6 @@
 //! A child of the host from its start to its end.
 use crate::answers::shortened;
-use case_file::{Refused, Words, number_word, one_word, text_of};
+use cases::{Refused, Words, number_word, one_word, text_of};
 use pm_bytes::{Name, Names, Pair, Pairs};
 use pm_host::{Command, Host};
 use pm_pipe::{ChildEnd, run_child};

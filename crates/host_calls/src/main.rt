@@ -9,7 +9,7 @@ mod children;
 mod others;
 mod session;
 
-use case_file::{Refused, read_lines};
+use cases::{Refused, read_lines};
 use pm_host::{Sink, Source};
 use pm_real::{RealSink, RealSource, Setup};
 use pm_streams::{Mail, WriteEnd, read_mail, write_text};

@@ -1,6 +1,6 @@
 //! What another program does to the files meanwhile, and what it sees of them.
 use crate::answers::shortened;
-use case_file::{Refused, Words, number_word, one_word, only_word, text_of};
+use cases::{Refused, Words, number_word, one_word, only_word, text_of};
 use std::alloc::Global;
 use std::fs;
 use std::os::unix::fs::PermissionsExt;
