@@ -19,7 +19,7 @@ pub fn search_area(
 
 fn search(rt: &HostRuntime, task: &str, text: &[u8], area: &[u8]) -> Result<(), Refused> {
     let expr = read(rt.alloc(), text)?;
-    let mut engine = Engine::build(rt.alloc(), expr, true)?;
+    let mut engine = Engine::build(rt.alloc(), &expr, true)?;
     match task {
         "none" => {
             println!(rt; "not searched")?;

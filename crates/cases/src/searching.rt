@@ -9,7 +9,7 @@ pub fn find(alloc: Global, text: &[u8], area: &[u8], fold: bool) -> Result<Words
     let Some(expr) = read_expr(alloc, text)? else {
         return Ok(one_word(alloc, "defect")?);
     };
-    let mut engine = Engine::build(alloc, expr, fold)?;
+    let mut engine = Engine::build(alloc, &expr, fold)?;
     let found = engine.find(area);
     place_of(alloc, found)
 }
@@ -32,7 +32,7 @@ pub fn found(alloc: Global, text: &[u8], area: &[u8]) -> Result<Words, Refused> 
     let Some(expr) = read_expr(alloc, text)? else {
         return Ok(one_word(alloc, "defect")?);
     };
-    let mut engine = Engine::build(alloc, expr, true)?;
+    let mut engine = Engine::build(alloc, &expr, true)?;
     let answer = if engine.find(area).is_some() {
         "yes"
     } else {
@@ -46,7 +46,7 @@ pub fn count(alloc: Global, text: &[u8], area: &[u8], fold: bool) -> Result<Word
     let Some(expr) = read_expr(alloc, text)? else {
         return Ok(one_word(alloc, "defect")?);
     };
-    let mut engine = Engine::build(alloc, expr, fold)?;
+    let mut engine = Engine::build(alloc, &expr, fold)?;
     let count = engine.count(area);
     Ok(one_number(alloc, count)?)
 }

@@ -13,14 +13,13 @@ ghost use Rattle.lockfile_top.specs.Doing.{remove_each, say_then, do_tasks};
 ghost use Rattle.lockfile_top.specs.Jobs.{IsFit, IsFitTask, AllReady, tasks_of, made_by};
 
 use crate::{Ending, Job, Task};
-use pm_acts::Outside;
 use pm_bytes::{Blob, Name};
 use pm_host::Removed;
-use pm_journal::{Journal, LockEnd, LockRule};
+use pm_journal::{Effects, Journal, LockEnd, LockRule};
 use std::collections::VecDeque;
 
 /// Does the jobs in order, where these lock files were made so far.
-pub fn do_jobs<D: Outside>(
+pub fn do_jobs<D: Effects>(
     mut jobs: VecDeque<Job>,
     mut made: Vec<Name>,
     outside: &mut D,
@@ -48,7 +47,7 @@ pub fn do_jobs<D: Outside>(
 }
 
 // Whether the task was done.
-fn do_task<D: Outside>(
+fn do_task<D: Effects>(
     task: Task,
     again: Name,
     forcing: Blob,
@@ -74,7 +73,7 @@ fn do_task<D: Outside>(
     }
 }
 
-fn take<D: Outside>(
+fn take<D: Effects>(
     name: Name,
     again: Name,
     rule: LockRule,
@@ -107,7 +106,7 @@ fn take<D: Outside>(
 }
 
 // Says the line where a lock file was removed by force.
-fn tell_force<D: Outside>(forced: u32, line: Blob, outside: &mut D, journal: &mut Journal)
+fn tell_force<D: Effects>(forced: u32, line: Blob, outside: &mut D, journal: &mut Journal)
     requires { 1 ≤ journal.old.room }
     ensures says { (names : Option (List (List ℕ))) →
         Executes (if nat_eq forced 0 then Ends names else say_then line names) names
@@ -119,7 +118,7 @@ fn tell_force<D: Outside>(forced: u32, line: Blob, outside: &mut D, journal: &mu
     }
 }
 
-fn give<D: Outside>(
+fn give<D: Effects>(
     name: Name,
     again: Name,
     made: &mut Vec<Name>,
@@ -166,7 +165,7 @@ fn forget(made: &mut Vec<Name>, name: &Name)
 }
 
 // Removes each lock file that was made, the last one first, and says the line.
-fn give_up<D: Outside>(mut made: Vec<Name>, sorry: Blob, outside: &mut D, journal: &mut Journal)
+fn give_up<D: Effects>(mut made: Vec<Name>, sorry: Blob, outside: &mut D, journal: &mut Journal)
     requires { length made.items + 1 ≤ journal.old.room }
     ensures { Executes (remove_each (reverse made.items) (say_then sorry Ending.GaveUp)) Ending.GaveUp
         journal.old journal.new (D.told outside.old) (D.told outside.new) }

@@ -1,4 +1,5 @@
 pub mod Days
+pub mod Examples
 pub mod Folders
 pub mod LogLines
 pub mod Messages

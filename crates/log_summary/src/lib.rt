@@ -3,6 +3,7 @@
 
 mod date;
 mod folder;
+mod laws;
 mod line;
 mod message;
 mod summary;
@@ -10,6 +11,7 @@ mod table;
 
 pub use date::{Day, day_of_line, read_day};
 pub use folder::folder_of;
+pub use laws::examples;
 pub use line::{Delivery, delivery_of, message_of};
 pub use message::kind_of;
 pub use summary::{Summary, add_log};

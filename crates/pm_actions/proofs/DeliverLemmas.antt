@@ -27,15 +27,10 @@ use Rattle.pm_meaning.specs.ProgramActions.{pipe, capture_line, forward, write_o
 use Rattle.pm_meaning.specs.Delivering.{Attempted, attempt, attempt_lines, attempt_turn, say_each, is_done, settled, told, after_attempt, file_and_say, deliver_at, deliver_named, is_without, deliver_to, deliver_text, Ready, deliver_with, make_ready, deliver, no_flags, deliver_default}
 use Rattle.pm_meaning.specs.Destinations.{destination_of, full_of, are_file_texts}
 use Rattle.pm_meaning.specs.Minds.{Mind}
+use Rattle.pm_meaning.proofs.Choices.{if_yes, if_no}
 use Rattle.pm_meaning.specs.declared.process.Attempt.{Attempt}
 use Rattle.pm_meaning.specs.declared.process.Destination.{Destination}
 use Rattle.pm_actions.specs.Copies.{IsFreeLock, attempted_of}
-
-pub if_yes : {A : Type 0} (b : Bool) (p q : A) → b ≡ true → p ≡ (if b then p else q)
-if_yes b p q e = ap (λ v. if v then p else q) (sym e)
-
-pub if_no : {A : Type 0} (b : Bool) (p q : A) → b ≡ false → q ≡ (if b then p else q)
-if_no b p q e = ap (λ v. if v then p else q) (sym e)
 
 -- a list that has words, or has none
 pub some_words : (words : List (List ℕ)) → (length words ≡ 0 → ⊥) → is_without words ≡ false
@@ -45,10 +40,6 @@ some_words (word ∷ words) h = refl
 pub no_words : (words : List (List ℕ)) → length words ≡ 0 → is_without words ≡ true
 no_words [] h = refl
 no_words (word ∷ words) h = absurd (cc)
-
--- the same plan under another form
-pub carried : {R A : Type 0} (p q : Plan R) (end : A → R) (answer : Result A Memory) (x y : JournalState) (a b : View) → p ≡ q → Carries p end answer x y a b → Carries q end answer x y a b
-carried p q end answer x y a b e h = subst (λ plan. Carries plan end answer x y a b) e h
 
 -- nothing is done, and the process goes on
 pub goes_on : (p : Mind) (plan : Plan Turn) (x : JournalState) (s : View) → Ends (GoesOn p) ≡ plan → Executes plan (GoesOn p) x x s s

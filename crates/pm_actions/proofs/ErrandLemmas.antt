@@ -17,7 +17,7 @@ use Rattle.pm_journal.specs.declared.acts.Reply.{Reply}
 use Rattle.pm_journal.specs.declared.children.RunEnd.{RunEnd}
 use Rattle.pm_journal.proofs.ActPlans.{act_executes, executes_then}
 use Rattle.pm_journal.proofs.WantsMemory.{executes_nothing}
-use Rattle.pm_acts.specs.Acts.{NotesRun}
+use Rattle.pm_journal.specs.Acts.{NotesRun}
 use Rattle.pm_meaning.specs.Changes.{stored_in}
 use Rattle.pm_meaning.specs.Minds.{Mind}
 use Rattle.pm_meaning.specs.ProgramActions.{Tried, is_fine, feed_outcome, fed, feed, write_outcome, write}

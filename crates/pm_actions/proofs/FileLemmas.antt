@@ -35,12 +35,8 @@ use Rattle.pm_actions.specs.Names.{prefix_of}
 use Rattle.pm_actions.specs.declared.kept.Kept.{Kept}
 use Rattle.pm_actions.specs.declared.filing.Copy.{Copy}
 use Rattle.pm_actions.specs.declared.filing.Copy.TheVariants.{ToFile, ToFolder}
-use Rattle.pm_actions.proofs.Choices.{choose_then, choose_else, then_out, else_out}
+use Rattle.pm_meaning.proofs.Choices.{choose_then, choose_else, then_out, else_out}
 use Rattle.pm_actions.proofs.NameLemmas.{some_if, none_if}
-
--- the first of what is left of a list
-pub front_of_rest : {A : Type 0} (items : List A) (i : ℕ) (d item : A) → item ≡ get_or items i d → i < length items → drop i items ≡ item ∷ drop (i + 1) items
-front_of_rest items i d item is more = at_drop_more (λ l. l) items i d more ∙ ap (λ x. x ∷ drop (i + 1) items) (sym is)
 
 -- what is written to `/dev/null` doesn't matter
 nothing_asked : (yes : Bool) (flags : Flags) (name piece : List ℕ) (stored p : Mind) → is_nothing name ≡ yes

@@ -19,7 +19,7 @@ use Rattle.pm_meaning.specs.ProgramActions.{Tried, feed_outcome, end_outcome, un
 use Rattle.pm_meaning.specs.Programs.{code_of, with_exit_code}
 use Rattle.pm_meaning.specs.declared.process.Outcome.{Outcome}
 use Rattle.pm_actions.specs.Errands.{tried_of}
-use Rattle.pm_actions.proofs.Sequences.{then_carries, known_carries}
+use Rattle.pm_meaning.proofs.Sequences.{then_carries, known_carries}
 
 -- what holds of an answer by two facts
 both_map : {T E : Type 0} (r : Result T E) (P Q R : T → Type 0) → ((x : T) → P x → Q x → R x) → IfOk r P → IfOk r Q → IfOk r R

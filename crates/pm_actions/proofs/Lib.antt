@@ -1,16 +1,12 @@
-pub mod Choices
-mod TellLemmas
-pub mod SkipLemmas
 pub mod FileLemmas
 mod FoundLemmas
+mod CalmLemmas
+mod SureLemmas
 mod PlaceLemmas
 mod NameLemmas
 pub mod DeliverLemmas
 mod AttemptLemmas
 mod SayingLemmas
-pub mod Sequences
-pub mod OutputLemmas
-mod ProgramLemmas
 mod ErrandLemmas
 mod FilterLemmas
 mod TryLemmas

@@ -9,7 +9,7 @@ use Rattle.pm_meaning.specs.Minds.{Mind}
 use Rattle.pm_meaning.specs.ProgramActions.{Purpose, Delivers, Captures, Task, appended_name, lock_commands, program_with, do_program, pipe_purpose, pipe, capture_line, forward, write_task, write_with, write_out}
 use Rattle.pm_meaning.specs.Programs.{Reading, line_reading, shell_reading, plain_reading, needs_shell}
 use Rattle.pm_meaning.specs.Turns.{Turn}
-use Rattle.pm_actions.proofs.DeliverLemmas.{if_yes, if_no}
+use Rattle.pm_meaning.proofs.Choices.{if_yes, if_no}
 
 -- all commands of the texts come first
 abbrev pub with_task : Task → Reading → Ready → Plan Turn

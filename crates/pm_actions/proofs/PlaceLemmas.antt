@@ -16,8 +16,8 @@ use Rattle.pm_journal.specs.Executed.{Executes, OutOfMemory}
 use Rattle.pm_journal.proofs.FirstActs.{first_act, first_act_out}
 use Rattle.pm_journal.proofs.KeepingActs.{keeping_plain}
 use Rattle.pm_journal.proofs.WantsMemory.{executes_nothing, out_left_off, out_anywhere}
-use Rattle.pm_acts.specs.Acts.{LeavesAct, NotesPlace, place_act}
-use Rattle.pm_acts.specs.declared.outside.Filing.{Filing}
+use Rattle.pm_journal.specs.Acts.{LeavesAct, NotesPlace, place_act}
+use Rattle.pm_journal.specs.declared.effects.Filing.{Filing}
 use Rattle.pm_meaning.specs.Changes.{counted}
 use Rattle.pm_meaning.specs.Delivering.{Filing as Filings, next_stamp, placed_by, placed_at, in_folder}
 use Rattle.pm_meaning.specs.Minds.{Mind}
@@ -104,6 +104,11 @@ filing_left f p moment x y z a b c stamped m same left =
     let off : LeavesAct act b c = subst (λ s. LeavesAct (Place f.kind f.folder f.prefix f.piece s) b c) stamped left in
     first_act_out Moment (placed_at f.kind f.folder f.prefix f.piece p) (Now moment) x x y z a b c refl m
     (out_left_off act (λ reply. behind f.folder (length f.piece) p reply) y z b c off.calls (ap (λ j. j.entries) same) off.unfinished off.took)
+
+-- memory was wanting once the moment was told
+pub asked_out : (kind : FolderKind) (folder prefix piece : List ℕ) (p : Mind) (moment : ℤ) (x y : JournalState) (a b : View) → NotesAct Moment (Now moment) x y a b → OutOfMemory (in_folder kind folder prefix piece p) x y a b
+asked_out kind folder prefix piece p moment x y a b m =
+    first_act_out Moment (placed_at kind folder prefix piece p) (Now moment) x x y y a b b refl m (out_anywhere (placed_at kind folder prefix piece p (Now moment)) y y b refl)
 
 -- the locks are held as before
 pub keeping_filed : (f : Filing) (moment : ℤ) (end : FolderEnd) (x y z : JournalState) (names : List (List ℕ)) (a b c : View) → Keeping x names → length names + 2 ≤ x.room → NotesAct Moment (Now moment) x y a b

@@ -1,12 +1,12 @@
 -- Lines that are said one after the other, in plans.
-use Rattle.std.proofs.Common.{◌≡◌, List, ℕ, [], ◌∷◌, refl, subst}
+use Rattle.std.proofs.Common.{◌≡◌, true, false, List, ℕ, [], ◌∷◌, refl, sym, ap, ◌∙◌, subst}
 use Rattle.pm_journal.specs.JournalState.{JournalState}
 use Rattle.pm_journal.specs.Entries.{View}
 use Rattle.pm_journal.specs.Plan.{Plan, Ends}
 use Rattle.pm_journal.specs.Executed.{Executes, OutOfMemory, LeadsTo}
 use Rattle.pm_journal.proofs.PlanLeads.{leads_on, leads_to_end, leads_to_want}
 use Rattle.pm_journal.proofs.WantsMemory.{executes_nothing, out_front}
-use Rattle.pm_meaning.specs.Delivering.{say_each}
+use Rattle.pm_meaning.specs.Delivering.{say_each, is_without}
 use Rattle.pm_meaning.specs.Logging.{log, logged}
 use Rattle.pm_meaning.specs.Minds.{Mind}
 use Rattle.pm_meaning.specs.Turns.{Turn}
@@ -28,3 +28,11 @@ line_wants whole p items rest line turn x y z a b c h e k =
 pub lines_over : (whole : Plan Turn) (p : Mind) (items : List (List ℕ)) (turn : Turn) (x y : JournalState) (a b : View) → LeadsTo whole (say_each p items turn) x y a b → items ≡ [] → Executes whole turn x y a b
 lines_over whole p items turn x y a b h e =
     leads_to_end whole (Ends turn) turn x y y a b b (subst (λ l. LeadsTo whole (say_each p l turn) x y a b) e h) (executes_nothing turn y y b refl)
+
+-- where a line is left, there was one
+pub lines_were : (all lines rest : List (List ℕ)) (line : List ℕ) → (is_without all ≡ true → is_without lines ≡ true) → lines ≡ line ∷ rest → is_without all ≡ false
+lines_were [] lines rest line keeps is = let f : true ≡ false = sym (keeps refl) ∙ ap is_without is in absurd (cc)
+lines_were (first ∷ others) lines rest line keeps is = refl
+
+pub lines_left : (all lines rest : List (List ℕ)) (line : List ℕ) → (is_without all ≡ true → is_without lines ≡ true) → lines ≡ line ∷ rest → is_without all ≡ true → is_without rest ≡ true
+lines_left all lines rest line keeps is none = let f : true ≡ false = sym (keeps none) ∙ ap is_without is in absurd (cc)

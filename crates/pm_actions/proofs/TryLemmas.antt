@@ -23,7 +23,7 @@ use Rattle.pm_meaning.specs.ProgramActions.{Tried, Trying, unlock_behind, try_lo
 use Rattle.pm_meaning.specs.declared.process.Outcome.{Outcome}
 use Rattle.pm_meaning.specs.declared.process.Trial.TheVariants.{Unlocked, Locked}
 use Rattle.pm_actions.specs.Errands.{tried_of, trying_of}
-use Rattle.pm_actions.proofs.Choices.{ok_map, err_map}
+use Rattle.pm_meaning.proofs.Choices.{ok_map, err_map}
 
 -- the same from a journal that had these entries too
 later_out : {R : Type 0} (p : Plan R) (x w y : JournalState) (a b : View) → OutOfMemory p w y a b → w.entries ≡ x.entries → OutOfMemory p x y a b

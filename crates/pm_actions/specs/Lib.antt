@@ -1,11 +1,9 @@
-pub mod Turning
 pub mod Names
-pub mod Expanding
 pub mod Copies
 pub mod Programs
-pub mod Outputs
-pub mod Telling
 pub mod Placing
 pub mod Filing
 pub mod Errands
 pub mod AbstractParts
+pub mod Undelivered
+pub mod Examples

@@ -11,10 +11,6 @@ use Rattle.pm_meaning.specs.Locks.{is_lock_word}
 use Rattle.pm_bytes.specs.declared.error.NameRefused.{NameRefused}
 use Rattle.pm_bytes.specs.declared.error.NameRefused.TheVariants.{Unusable, Memory}
 
--- the text where it can be a file's name
-abbrev pub file_name_of : List ℕ → Option (List ℕ)
-file_name_of text = if is_file_text text then Some text else None
-
 -- what a word asks for, where its name can be used
 abbrev pub usable_destination : List ℕ → Option Destination
 usable_destination word = if is_file_text (without_ending word) then Some (destination_of word) else None

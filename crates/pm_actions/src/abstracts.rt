@@ -1,5 +1,5 @@
 //! The abstract of a delivery, and when it is logged (procmailrc(5), LOGFILE and LOGABSTRACT).
-ghost use Rattle.std.specs.Prelude.{◌≡◌, ◌==◌, ◌≤◌, ◌-◌, ◌++◌, position, take, drop, IfOk, OnOk, map, vec_capacity, vec_len};
+ghost use Rattle.std.specs.Prelude.{◌≡◌, ◌==◌, ◌≤◌, ◌-◌, ◌++◌, position, take, drop, true, IfOk, OnOk, OnErr, map, vec_capacity, vec_len};
 ghost use Rattle.pm_bytes.specs.Letter.{lower_case};
 ghost use Rattle.pm_message.specs.Field.{texts_of};
 ghost use Rattle.pm_journal.specs.LogText.{shown_byte, quoted};
@@ -10,10 +10,9 @@ ghost use Rattle.pm_meaning.specs.Abstracts.{has_log as log_is_there, logs_all a
 ghost use Rattle.pm_meaning.specs.Minds.{mind_of};
 ghost use Rattle.pm_actions.specs.AbstractParts.{mail_part as part_of_mail};
 
-use crate::programs::value_or;
 use itoa::Buffer;
 use pm_bytes::{Blob, Memory, fold};
-use pm_meaning::{Process, Stored, past_blanks};
+use pm_meaning::{Process, Stored, past_blanks, value_or};
 use pm_message::{Message, field_texts};
 use pm_recipe::Flags;
 use std::alloc::{AllocError, Global};
@@ -191,8 +190,9 @@ pub fn push_copy(
     process: &Process,
     lines: &mut VecDeque<Blob>,
 ) -> Result<(), Memory>
-    ensures { OnOk result (lines.new.items ≡
+    ensures lines { OnOk result (lines.new.items ≡
         lines.old.items ++ copy_lines done flags (mind_of process.now)) }
+    ensures sure { OnErr result (flags.copy ≡ true) }
 {
     if done && flags.copy && logs_all(process) {
         lines.push_back(abstract_of(alloc, process)?)?;

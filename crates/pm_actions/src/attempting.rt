@@ -9,21 +9,20 @@ ghost use Rattle.pm_meaning.specs.Delivering.{attempt as attempted};
 ghost use Rattle.pm_meaning.specs.Locks.{is_fault};
 ghost use Rattle.pm_meaning.specs.Minds.{mind_of};
 ghost use Rattle.pm_actions.specs.Copies.{attempted_of, IsFreeLock};
-ghost use Rattle.pm_actions.specs.Filing.{has_folder, HasNone};
+ghost use Rattle.pm_actions.specs.Filing.{HasNone};
 
 use crate::filing::{copies_for, file_each};
 use crate::locks::lock_rule;
-use pm_acts::{Outside, give, take};
 use pm_bytes::{Memory, Name};
 use pm_host::Removed;
-use pm_journal::{Journal, LockEnd};
+use pm_journal::{Effects, Journal, LockEnd, give, take};
 use pm_meaning::{Attempt, Destination, Process};
 use pm_recipe::Flags;
 use std::alloc::Global;
 
 /// Delivers to each destination in order, up to one that doesn't get the mail, under the lock of this name. After want of
 /// memory nothing was noted, unless a folder was met.
-pub fn attempt<D: Outside>(
+pub fn attempt<D: Effects>(
     alloc: Global,
     lock: Option<Name>,
     flags: Flags,
@@ -37,7 +36,7 @@ pub fn attempt<D: Outside>(
     ensures carries { Carries (attempted lock flags destinations.now (mind_of process.old))
         (λ attempt. attempted_of attempt (mind_of process.new)) result
         journal.old journal.new (D.told outside.old) (D.told outside.new) }
-    ensures untouched { OnErr result (has_folder destinations.now ≡ false → HasNone journal.old journal.new) }
+    ensures untouched { OnErr result (HasNone journal.old journal.new) }
     ensures keeping { Keeping journal.new process.new.locks.names }
 {
     match lock {
@@ -46,7 +45,7 @@ pub fn attempt<D: Outside>(
     }
 }
 
-fn file_all<D: Outside>(
+fn file_all<D: Effects>(
     alloc: Global,
     flags: Flags,
     destinations: &[Destination],
@@ -58,7 +57,7 @@ fn file_all<D: Outside>(
     ensures carries { Carries (attempted None flags destinations.now (mind_of process.old))
         (λ attempt. attempted_of attempt (mind_of process.new)) result
         journal.old journal.new (D.told outside.old) (D.told outside.new) }
-    ensures untouched { OnErr result (has_folder destinations.now ≡ false → HasNone journal.old journal.new) }
+    ensures untouched { OnErr result (HasNone journal.old journal.new) }
     ensures keeping { Keeping journal.new process.new.locks.names }
 {
     let copies = copies_for(alloc, flags, destinations, process)?;
@@ -68,7 +67,7 @@ fn file_all<D: Outside>(
 }
 
 // The lock's entry and that of its removal have room too.
-fn file_locked<D: Outside>(
+fn file_locked<D: Effects>(
     alloc: Global,
     name: Name,
     flags: Flags,
@@ -82,7 +81,7 @@ fn file_locked<D: Outside>(
     ensures carries { Carries (attempted (Some name) flags destinations.now (mind_of process.old))
         (λ attempt. attempted_of attempt (mind_of process.new)) result
         journal.old journal.new (D.told outside.old) (D.told outside.new) }
-    ensures untouched { OnErr result (has_folder destinations.now ≡ false → HasNone journal.old journal.new) }
+    ensures untouched { OnErr result (HasNone journal.old journal.new) }
     ensures keeping { Keeping journal.new process.new.locks.names }
 {
     let rule = lock_rule(&process.vars);

@@ -1,5 +1,5 @@
 //! Recipes that deliver to mailboxes (procmailrc(5), "Recipe action line"), and default mailboxes.
-ghost use Rattle.std.specs.Prelude.{◌≡◌, [], length};
+ghost use Rattle.std.specs.Prelude.{◌≡◌, [], length, OnErr};
 ghost use Rattle.pm_journal.specs.Executed.{Carries};
 ghost use Rattle.pm_subst.specs.Commands.{commands_in};
 ghost use Rattle.pm_subst.specs.declared.kinds.Mode.TheVariants.{One, Many};
@@ -16,26 +16,25 @@ ghost use Rattle.pm_meaning.specs.Minds.{Mind, mind_of};
 ghost use Rattle.pm_meaning.specs.Delivering.{deliver_default as to_default, no_flags as none_flags};
 ghost use Rattle.pm_actions.specs.Copies.{IsFreeLock};
 ghost use Rattle.pm_actions.specs.Names.{top_of};
-ghost use Rattle.pm_actions.specs.Outputs.{ready_of};
-ghost use Rattle.pm_actions.specs.Turning.{turn_of};
+ghost use Rattle.pm_meaning.specs.Ready.{ready_of};
+ghost use Rattle.pm_meaning.specs.Turning.{turn_of};
+ghost use Rattle.pm_actions.specs.Undelivered.{Undelivered};
 
 use crate::abstracts::push_copy;
 use crate::attempting::attempt;
-use crate::expanding::{Expansion, expand_text, first_word};
 use crate::filing::is_stored;
 use crate::locks::{
     any_held, blamed_text, full_lock, full_names, is_taken, lock_name, lock_text, lock_word,
 };
 use crate::names::destinations;
-use crate::outputs::{Ready, make_ready};
 use crate::pipes::{capture, forward, pipe, write_out};
 use crate::saying::{attempt_lines, say_each};
-use crate::skipping::skip_value;
-use crate::telling::tell;
-use pm_acts::Outside;
 use pm_bytes::{Blob, Memory, Name, NameRefused};
-use pm_journal::{Journal, unusable_name};
-use pm_meaning::{Attempt, Destination, End, Filed, Process, succeed};
+use pm_journal::{Effects, Journal, unusable_name};
+use pm_meaning::{
+    Attempt, Destination, End, Expansion, Filed, Process, Ready, expand_text, first_word,
+    make_ready, skip_value, succeed, tell,
+};
 use pm_recipe::{Action, Flags, Recipe};
 use pm_subst::{Mode, commands};
 use std::alloc::Global;
@@ -49,7 +48,7 @@ pub struct Order<'a> {
 }
 
 /// Does the action of a recipe that is executed. One with a block isn't done here.
-pub fn perform<D: Outside>(
+pub fn perform<D: Effects>(
     alloc: Global,
     recipe: &Recipe,
     process: &mut Process,
@@ -61,6 +60,7 @@ pub fn perform<D: Outside>(
         (act_on (top_of recipe.now) (act_of recipe.now.action) (mind_of process.old))
         (λ end. turn_of end (mind_of process.new)) result
         journal.old journal.new (D.told outside.old) (D.told outside.new) }
+    ensures sure { OnErr result (Undelivered recipe.now.flags journal.old journal.new) }
     ensures keeping { Keeping journal.new process.new.locks.names }
 {
     match &recipe.action {
@@ -98,7 +98,7 @@ fn order_of<'a>(recipe: &'a Recipe, text: &'a Blob) -> Order<'a>
 }
 
 /// Delivers to a default mailbox, under its automatic lock file.
-pub fn deliver_default<D: Outside>(
+pub fn deliver_default<D: Effects>(
     alloc: Global,
     mailbox: &Blob,
     process: &mut Process,
@@ -109,6 +109,7 @@ pub fn deliver_default<D: Outside>(
     ensures carries { Carries (to_default mailbox.now (mind_of process.old))
         (λ end. turn_of end (mind_of process.new)) result
         journal.old journal.new (D.told outside.old) (D.told outside.new) }
+    ensures sure { OnErr result (Undelivered none_flags journal.old journal.new) }
     ensures keeping { Keeping journal.new process.new.locks.names }
 {
     let lock = Some(Blob::empty(alloc));
@@ -153,7 +154,7 @@ fn no_flags() -> Flags
 }
 
 // Runs the commands of the lock file's text and of the action's, and then delivers.
-fn deliver_mail<D: Outside>(
+fn deliver_mail<D: Effects>(
     alloc: Global,
     order: &Order<'_>,
     process: &mut Process,
@@ -165,6 +166,7 @@ fn deliver_mail<D: Outside>(
         Carries (deliver o.flags o.lock.now o.text.now (mind_of process.old))
         (λ end. turn_of end (mind_of process.new)) result
         journal.old journal.new (D.told outside.old) (D.told outside.new) }
+    ensures sure { OnErr result (Undelivered order.now.flags journal.old journal.new) }
     ensures keeping { Keeping journal.new process.new.locks.names }
 {
     let lock_commands = commands(alloc, lock_text(order.lock), Mode::One)?;
@@ -181,7 +183,7 @@ fn deliver_mail<D: Outside>(
 }
 
 // Expands the text of the lock file, and then delivers.
-fn deliver_ready<D: Outside>(
+fn deliver_ready<D: Effects>(
     alloc: Global,
     order: &Order<'_>,
     ready: &Ready,
@@ -196,6 +198,7 @@ fn deliver_ready<D: Outside>(
         Carries (deliver_with o.flags o.lock.now o.text.now (ready_of ready.now (mind_of process.old)))
         (λ end. turn_of end (mind_of process.new)) result
         journal.old journal.new (D.told outside.old) (D.told outside.new) }
+    ensures sure { OnErr result (Undelivered order.now.flags journal.old journal.new) }
     ensures keeping { Keeping journal.new process.new.locks.names }
 {
     let lock = lock_text(order.lock);
@@ -216,7 +219,7 @@ fn deliver_ready<D: Outside>(
 }
 
 // Expands the text of the action into destinations, and delivers to them.
-fn deliver_text<D: Outside>(
+fn deliver_text<D: Effects>(
     alloc: Global,
     order: &Order<'_>,
     value: Blob,
@@ -231,6 +234,7 @@ fn deliver_text<D: Outside>(
         Carries (by_value o.flags o.lock.now value o.text.now outputs.now (mind_of process.old))
         (λ end. turn_of end (mind_of process.new)) result
         journal.old journal.new (D.told outside.old) (D.told outside.new) }
+    ensures sure { OnErr result (Undelivered order.now.flags journal.old journal.new) }
     ensures keeping { Keeping journal.new process.new.locks.names }
 {
     match expand_text(alloc, order.text, Mode::Many, &process.vars, outputs)? {
@@ -250,7 +254,7 @@ fn deliver_text<D: Outside>(
 }
 
 // Delivers to these destinations, if there is one and the lock file's name can be used.
-fn deliver_to_words<D: Outside>(
+fn deliver_to_words<D: Effects>(
     alloc: Global,
     order: &Order<'_>,
     value: Blob,
@@ -264,6 +268,7 @@ fn deliver_to_words<D: Outside>(
         Carries (to_words o.flags o.lock.now value o.text.now words.now (mind_of process.old))
         (λ end. turn_of end (mind_of process.new)) result
         journal.old journal.new (D.told outside.old) (D.told outside.new) }
+    ensures sure { OnErr result (Undelivered order.now.flags journal.old journal.new) }
     ensures keeping { Keeping journal.new process.new.locks.names }
 {
     if words.len() == 0 {
@@ -281,7 +286,7 @@ fn deliver_to_words<D: Outside>(
 }
 
 // Delivers to these destinations, if each can be the name of a file or a folder.
-fn deliver_named<D: Outside>(
+fn deliver_named<D: Effects>(
     alloc: Global,
     order: &Order<'_>,
     lock: Option<Name>,
@@ -295,6 +300,7 @@ fn deliver_named<D: Outside>(
         Carries (to_usable o.flags lock (blamed o.lock.now o.text.now) o.text.now words.now (mind_of process.old))
         (λ end. turn_of end (mind_of process.new)) result
         journal.old journal.new (D.told outside.old) (D.told outside.new) }
+    ensures sure { OnErr result (Undelivered order.now.flags journal.old journal.new) }
     ensures keeping { Keeping journal.new process.new.locks.names }
 {
     match destinations(alloc, words)? {
@@ -315,7 +321,7 @@ fn deliver_named<D: Outside>(
 }
 
 // Delivers to these destinations, if the lock file is none of them and nothing of it is held.
-fn deliver_at<D: Outside>(
+fn deliver_at<D: Effects>(
     alloc: Global,
     order: &Order<'_>,
     lock: Option<Name>,
@@ -329,6 +335,7 @@ fn deliver_at<D: Outside>(
         Carries (to_names o.flags lock (blamed o.lock.now o.text.now) o.text.now destinations.now (mind_of process.old))
         (λ end. turn_of end (mind_of process.new)) result
         journal.old journal.new (D.told outside.old) (D.told outside.new) }
+    ensures sure { OnErr result (Undelivered order.now.flags journal.old journal.new) }
     ensures keeping { Keeping journal.new process.new.locks.names }
 {
     let files = full_names(alloc, &process.base, destinations)?;
@@ -343,7 +350,7 @@ fn deliver_at<D: Outside>(
 }
 
 // Delivers, and says what came of it.
-fn file_and_say<D: Outside>(
+fn file_and_say<D: Effects>(
     alloc: Global,
     lock: Option<Name>,
     order: &Order<'_>,
@@ -358,6 +365,7 @@ fn file_and_say<D: Outside>(
         Carries (filed_and_said o.flags lock o.text.now destinations.now (mind_of process.old))
         (λ end. turn_of end (mind_of process.new)) result
         journal.old journal.new (D.told outside.old) (D.told outside.new) }
+    ensures sure { OnErr result (Undelivered order.now.flags journal.old journal.new) }
     ensures keeping { Keeping journal.new process.new.locks.names }
 {
     let attempt = attempt(
@@ -377,7 +385,7 @@ fn file_and_say<D: Outside>(
 }
 
 /// The name of a file can't be used: this is told of the text.
-pub fn refuse<D: Outside>(
+pub fn refuse<D: Effects>(
     alloc: Global,
     text: &[u8],
     process: &Process,

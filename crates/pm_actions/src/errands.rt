@@ -13,13 +13,11 @@ use crate::ends::{feed_outcome, is_fine, write_outcome};
 use crate::filing::fed_parts;
 use crate::filtering::{capture, filter};
 use crate::kept::{Kept, keep, remembering};
-use crate::programs::note_code;
 use crate::tasks::{Purpose, Task};
-use pm_acts::Outside;
 use pm_bytes::{Blob, Memory};
 use pm_host::Command;
-use pm_journal::Journal;
-use pm_meaning::{Outcome, Process};
+use pm_journal::{Effects, Journal};
+use pm_meaning::{Outcome, Process, note_code};
 use pm_recipe::Flags;
 use std::alloc::Global;
 
@@ -101,7 +99,7 @@ fn fed_piece(alloc: Global, flags: Flags, process: &Process) -> Result<Blob, Mem
 }
 
 /// Does the errand. There is room for its entry.
-pub fn carry<D: Outside>(
+pub fn carry<D: Effects>(
     alloc: Global,
     errand: Errand,
     flags: Flags,
@@ -140,7 +138,7 @@ pub fn carry<D: Outside>(
     }
 }
 
-fn feed<D: Outside>(
+fn feed<D: Effects>(
     alloc: Global,
     command: Command,
     input: Blob,
@@ -169,7 +167,7 @@ fn feed<D: Outside>(
     outcome
 }
 
-fn write<D: Outside>(
+fn write<D: Effects>(
     piece: Blob,
     kept: Kept,
     process: &mut Process,

@@ -1,7 +1,6 @@
 //! The mail goes to files and folders, one destination after the other. What each wants is taken before the first of them,
 //! so that no memory can be wanting between two deliveries to files or right after one.
-ghost use Rattle.std.specs.Prelude.{◌≡◌, ◌+◌, ◌*◌, ◌≤◌, false, length, map, IfOk, OnErr, List};
-ghost use Rattle.std.specs.List.{list_any};
+ghost use Rattle.std.specs.Prelude.{◌≡◌, ◌+◌, ◌*◌, ◌≤◌, length, map, IfOk, OnErr, List};
 ghost use Rattle.pm_bytes.specs.Path.{full_name};
 ghost use Rattle.pm_journal.specs.Appending.{append_reply};
 ghost use Rattle.pm_journal.specs.Executed.{Carries};
@@ -13,15 +12,14 @@ ghost use Rattle.pm_meaning.specs.Minds.{mind_of};
 ghost use Rattle.pm_meaning.specs.declared.process.Destination.{Destination as Asked};
 ghost use Rattle.pm_actions.specs.Copies.{copy_for, file_copy_for, folder_copy_for, filing_of, with_kept};
 ghost use Rattle.pm_actions.specs.Copies.{file_copy as copy_filed, file_piece as piece_for, IsShown, AllShown};
-ghost use Rattle.pm_actions.specs.Filing.{is_folder_there, filed_by, mind_after, is_folder_copy, HasFound};
+ghost use Rattle.pm_actions.specs.Filing.{is_folder_there, filed_by, mind_after, HasMet};
 
 use crate::kept::{Kept, keep, remembering};
 use crate::names::plain_prefix;
 use crate::placing::{FolderCopy, file_in_folder};
-use pm_acts::Outside;
 use pm_bytes::{Blob, Memory, Name, full};
-use pm_journal::{AppendEnd, FolderKind, Journal};
-use pm_meaning::{Destination, Filed, Process};
+use pm_journal::{AppendEnd, Effects, FolderKind, Journal};
+use pm_meaning::{Destination, Filed, Process, is_nothing};
 use pm_message::Feed;
 use pm_recipe::Flags;
 use std::alloc::Global;
@@ -204,8 +202,8 @@ pub fn fed_parts(flags: Flags) -> Feed
 }
 
 /// Delivers to each destination in order, up to the first that doesn't get the mail. It runs out of memory only if a
-/// destination is a directory.
-pub fn file_each<D: Outside>(
+/// directory is met.
+pub fn file_each<D: Effects>(
     alloc: Global,
     flags: Flags,
     mut copies: VecDeque<Copy>,
@@ -222,7 +220,7 @@ pub fn file_each<D: Outside>(
         journal.old journal.new (D.told outside.old) (D.told outside.new) }
     ensures locks { process.new.locks ≡ process.old.locks }
     ensures keeping { Keeping journal.new process.new.locks.names }
-    ensures found { OnErr result (list_any is_folder_copy copies.items ≡ false → HasFound journal.old journal.new) }
+    ensures met { OnErr result (HasMet journal.old journal.new) }
 {
     while let Some(copy) = copies.pop_front() {
         let filed = file_copy(alloc, flags, copy, process, outside, journal)?;
@@ -233,7 +231,7 @@ pub fn file_each<D: Outside>(
     Ok(Filed::Stored)
 }
 
-fn file_copy<D: Outside>(
+fn file_copy<D: Effects>(
     alloc: Global,
     flags: Flags,
     copy: Copy,
@@ -250,7 +248,7 @@ fn file_copy<D: Outside>(
     ensures locks { process.new.locks ≡ process.old.locks }
     ensures keeping { Keeping journal.new process.new.locks.names }
     ensures room { IfOk result (λ _. journal.old.room ≤ journal.new.room + 3) }
-    ensures found { OnErr result (is_folder_copy copy ≡ false → HasFound journal.old journal.new) }
+    ensures met { OnErr result (HasMet journal.old journal.new) }
 {
     match copy {
         Copy::ToFile(copy) => append_copy(alloc, flags, copy, process, outside, journal),
@@ -259,7 +257,7 @@ fn file_copy<D: Outside>(
 }
 
 // A file gets the piece; where a folder stands, that gets it.
-fn append_copy<D: Outside>(
+fn append_copy<D: Effects>(
     alloc: Global,
     flags: Flags,
     copy: FileCopy,
@@ -277,7 +275,7 @@ fn append_copy<D: Outside>(
     ensures locks { process.new.locks ≡ process.old.locks }
     ensures keeping { Keeping journal.new process.new.locks.names }
     ensures room { IfOk result (λ _. journal.old.room ≤ journal.new.room + 3) }
-    ensures found { OnErr result (HasFound journal.old journal.new) }
+    ensures met { OnErr result (HasMet journal.old journal.new) }
 {
     let FileCopy {
         name,
@@ -299,7 +297,7 @@ fn append_copy<D: Outside>(
 }
 
 // A plain folder gets the piece as a file of its own, if a name can begin as MSGPREFIX says.
-fn file_plain<D: Outside>(
+fn file_plain<D: Effects>(
     alloc: Global,
     flags: Flags,
     folder: Name,
@@ -341,13 +339,6 @@ fn remember(filed: &Filed, kept: Kept, process: &mut Process)
     if let Filed::Stored = filed {
         keep(kept, process);
     }
-}
-
-/// Whether it is `/dev/null`, which takes everything and is no file.
-pub fn is_nothing(name: &Name) -> bool
-    ensures { result ≡ is_null_device name.now }
-{
-    name.as_str() == "/dev/null"
 }
 
 // Whether a folder stands where the piece was to be appended.

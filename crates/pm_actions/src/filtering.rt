@@ -15,12 +15,10 @@ ghost use Rattle.pm_actions.specs.Errands.{tried_of};
 
 use crate::ends::{end_outcome, feed_outcome, is_fine};
 use crate::filing::fed_parts;
-use crate::programs::note_code;
-use pm_acts::{Outside, run};
 use pm_bytes::{Blob, Memory};
 use pm_host::Command;
-use pm_journal::{Journal, RunEnd};
-use pm_meaning::{Outcome, Process};
+use pm_journal::{Effects, Journal, RunEnd, run};
+use pm_meaning::{Outcome, Process, note_code};
 use pm_message::{Feed, Mail, Message};
 use pm_recipe::Flags;
 use pm_subst::without_newlines;
@@ -33,7 +31,7 @@ const MOST_MAIL: usize = 67_108_864;
 const MOST_VALUE: usize = 1_048_576;
 
 /// Runs a program that filters the mail.
-pub fn filter<D: Outside>(
+pub fn filter<D: Effects>(
     alloc: Global,
     command: Command,
     input: Blob,
@@ -58,7 +56,7 @@ pub fn filter<D: Outside>(
 }
 
 /// Runs a program whose output is for the variable of this name.
-pub fn capture<D: Outside>(
+pub fn capture<D: Effects>(
     alloc: Global,
     command: Command,
     input: Blob,

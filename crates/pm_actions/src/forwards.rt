@@ -8,9 +8,8 @@ ghost use Rattle.pm_subst.specs.Commands.{commands_in};
 ghost use Rattle.pm_subst.specs.declared.kinds.Mode.TheVariants.{Many};
 ghost use Rattle.pm_actions.specs.Programs.{if_any};
 
-use crate::programs::{value_or, words_line};
 use pm_bytes::{Blob, Memory, is_blank};
-use pm_meaning::{Process, ProgramLine};
+use pm_meaning::{Process, ProgramLine, value_or, words_line};
 use pm_subst::{ExpandRefused, Mode, expand};
 use pm_vars::Vars;
 use std::alloc::Global;

@@ -7,11 +7,10 @@ ghost use Rattle.pm_meaning.specs.ProgramActions.{is_automatic as automatic_aske
 ghost use Rattle.pm_meaning.specs.ProgramActions.{lock_commands as commands_of_lock};
 ghost use Rattle.pm_actions.specs.Errands.{task_of, IsLockText};
 
-use crate::expanding::{Expansion, expand_text, first_word};
 use crate::locks::{lock_extension, lock_text};
 use crate::tasks::Task;
 use pm_bytes::{Blob, Memory};
-use pm_meaning::Process;
+use pm_meaning::{Expansion, Process, expand_text, first_word};
 use pm_subst::{Mode, commands};
 use std::alloc::Global;
 

@@ -10,10 +10,10 @@ ghost use Rattle.pm_meaning.specs.Locks.{is_taken as taken, any_held as some_hel
 ghost use Rattle.pm_meaning.specs.Minds.{mind_of};
 ghost use Rattle.pm_actions.specs.Names.{IsLockName};
 
-use crate::names::{file_name, without_ending};
+use crate::names::without_ending;
 use pm_bytes::{Blob, Memory, Name, NameRefused, full, read_count};
 use pm_journal::{HeldLocks, LockRule};
-use pm_meaning::{Destination, Process};
+use pm_meaning::{Destination, Process, file_name};
 use pm_vars::Vars;
 use std::alloc::Global;
 

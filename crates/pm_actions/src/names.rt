@@ -2,27 +2,14 @@
 ghost use Rattle.std.specs.Prelude.{◌≡◌, IfOk, codes};
 ghost use Rattle.pm_meaning.specs.Destinations.{folder_kind as kind_of_ending, without_ending as word_without_ending};
 ghost use Rattle.pm_meaning.specs.Locks.{value_or};
-ghost use Rattle.pm_actions.specs.Names.{AreDestinations, file_name_of, usable_destination, prefix_of};
+ghost use Rattle.pm_actions.specs.Names.{AreDestinations, usable_destination, prefix_of};
+ghost use Rattle.pm_meaning.specs.UsableNames.{file_name_of};
 
 use pm_bytes::{Blob, Memory, Name, NameRefused};
 use pm_journal::FolderKind;
-use pm_meaning::Destination;
+use pm_meaning::{Destination, file_name};
 use pm_vars::Vars;
 use std::alloc::Global;
-
-/// The text as a file's name, where it is not empty and can be one.
-pub fn file_name(alloc: Global, text: &[u8]) -> Result<Option<Name>, Memory>
-    ensures { IfOk result (λ name. name ≡ file_name_of text.now) }
-{
-    if text.is_empty() {
-        return Ok(None);
-    }
-    match Name::read(alloc, text) {
-        Ok(name) => Ok(Some(name)),
-        Err(NameRefused::Unusable) => Ok(None),
-        Err(NameRefused::Memory) => Err(Memory),
-    }
-}
 
 /// The words as destinations, if there is one and each can be the name of a file or a folder.
 pub fn destinations(alloc: Global, words: &[Blob]) -> Result<Option<Vec<Destination>>, Memory>

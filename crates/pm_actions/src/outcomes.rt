@@ -1,7 +1,7 @@
 //! The lines that are due after an errand.
-ghost use Rattle.std.specs.Prelude.{◌≡◌, ◌++◌, not, IfOk, OnOk};
+ghost use Rattle.std.specs.Prelude.{◌≡◌, ◌++◌, false, not, IfOk, OnOk, OnErr};
 ghost use Rattle.pm_journal.specs.LogText.{program_failure_line};
-ghost use Rattle.pm_meaning.specs.Delivering.{line_if};
+ghost use Rattle.pm_meaning.specs.Delivering.{line_if, is_without};
 ghost use Rattle.pm_meaning.specs.ProgramActions.{outcome_lines, trial_lines as lines_of_trial};
 
 use crate::saying::{push_forced, push_stuck};
@@ -15,14 +15,16 @@ use pm_recipe::Flags;
 use std::alloc::Global;
 use std::collections::VecDeque;
 
-/// What is told of an errand and its lock file, in order.
+/// What is told of an errand and its lock file, in order. It takes memory only where something is told.
+#[tactic(auto, using(crate::proofs::SureLemmas::without_front, crate::proofs::SureLemmas::without_back))]
 pub fn trial_lines(
     alloc: Global,
     flags: Flags,
     line: &[u8],
     trial: &Trial,
 ) -> Result<VecDeque<Blob>, Memory>
-    ensures { IfOk result (λ lines. lines.items ≡ lines_of_trial flags line.now trial.now) }
+    ensures lines { IfOk result (λ lines. lines.items ≡ lines_of_trial flags line.now trial.now) }
+    ensures sure { OnErr result (is_without (lines_of_trial flags line.now trial.now) ≡ false) }
 {
     let mut lines = VecDeque::new(alloc);
     match trial {
@@ -50,7 +52,8 @@ fn push_outcome(
     outcome: Outcome,
     lines: &mut VecDeque<Blob>,
 ) -> Result<(), Memory>
-    ensures { OnOk result (lines.new.items ≡ lines.old.items ++ outcome_lines flags line.now outcome) }
+    ensures lines { OnOk result (lines.new.items ≡ lines.old.items ++ outcome_lines flags line.now outcome) }
+    ensures sure { OnErr result (is_without (outcome_lines flags line.now outcome) ≡ false) }
 {
     match outcome {
         Outcome::Done => {}
@@ -73,8 +76,10 @@ fn push_code(
     code: u8,
     lines: &mut VecDeque<Blob>,
 ) -> Result<(), Memory>
-    ensures { OnOk result (lines.new.items ≡
+    ensures lines { OnOk result (lines.new.items ≡
         lines.old.items ++ line_if (not flags.wait_quiet) (program_failure_line code line.now)) }
+    ensures sure { OnErr result
+        (is_without (line_if (not flags.wait_quiet) (program_failure_line code line.now)) ≡ false) }
 {
     if !flags.wait_quiet {
         lines.push_back(program_failure(alloc, code, line)?)?;

@@ -1,6 +1,6 @@
 //! Actions that hand the mail to a program: pipes, filters, captures and forwards, and `|` alone, which writes it to
 //! standard output (procmailrc(5), "Recipe action line"). All their commands are run before a text is expanded.
-ghost use Rattle.std.specs.Prelude.{◌≡◌, ◌++◌, codes, length, IfOk};
+ghost use Rattle.std.specs.Prelude.{◌≡◌, ◌++◌, codes, length, IfOk, OnErr};
 ghost use Rattle.pm_journal.specs.Executed.{Carries};
 ghost use Rattle.pm_journal.specs.Held.{Keeping};
 ghost use Rattle.pm_meaning.specs.Minds.{mind_of};
@@ -11,23 +11,23 @@ ghost use Rattle.pm_meaning.specs.ProgramActions.{do_program as program_done, pr
 ghost use Rattle.pm_meaning.specs.ProgramActions.{lock_commands as commands_of_lock};
 ghost use Rattle.pm_meaning.specs.Programs.{line_reading as reading_of_line};
 ghost use Rattle.pm_actions.specs.Errands.{task_of, purpose_of};
-ghost use Rattle.pm_actions.specs.Outputs.{ready_of};
+ghost use Rattle.pm_meaning.specs.Ready.{ready_of};
 ghost use Rattle.pm_actions.specs.Programs.{reading_of};
-ghost use Rattle.pm_actions.specs.Turning.{turn_of};
+ghost use Rattle.pm_meaning.specs.Turning.{turn_of};
+ghost use Rattle.pm_actions.specs.Undelivered.{Undelivered};
 
 use crate::appended::appended_name;
 use crate::delivering::Order;
 use crate::errands::write_errand;
 use crate::forwards::forward_line;
 use crate::lock_texts::{LockText, lock_commands, lock_word};
-use crate::outputs::{Ready, make_ready};
-use crate::programs::{expanded_line, needs_shell, shell_line};
-use crate::skipping::skip_value;
 use crate::tasks::{Purpose, Task, do_line, do_named};
-use pm_acts::Outside;
 use pm_bytes::{Blob, Memory};
-use pm_journal::Journal;
-use pm_meaning::{End, Process, ProgramLine};
+use pm_journal::{Effects, Journal};
+use pm_meaning::{
+    End, Process, ProgramLine, Ready, expanded_line, make_ready, needs_shell, shell_line,
+    skip_value,
+};
 use pm_recipe::Flags;
 use pm_subst::{Mode, commands};
 use std::alloc::Global;
@@ -41,7 +41,7 @@ pub enum Reading {
 }
 
 /// The mail goes to the program of the line. Under the flag f what comes out takes its place.
-pub fn pipe<D: Outside>(
+pub fn pipe<D: Effects>(
     alloc: Global,
     order: &Order<'_>,
     process: &mut Process,
@@ -53,6 +53,7 @@ pub fn pipe<D: Outside>(
         Carries (piped o.flags o.lock.now o.text.now (mind_of process.old))
         (λ end. turn_of end (mind_of process.new)) result
         journal.old journal.new (D.told outside.old) (D.told outside.new) }
+    ensures sure { OnErr result (Undelivered order.now.flags journal.old journal.new) }
     ensures keeping { Keeping journal.new process.new.locks.names }
 {
     let task = Task {
@@ -77,7 +78,7 @@ fn pipe_purpose<'a>(flags: Flags, line: &'a [u8]) -> Purpose<'a>
 }
 
 /// The mail goes to the program of the line, and what comes out is the value of this variable.
-pub fn capture<D: Outside>(
+pub fn capture<D: Effects>(
     alloc: Global,
     order: &Order<'_>,
     name: &Blob,
@@ -90,6 +91,7 @@ pub fn capture<D: Outside>(
         Carries (captured o.flags o.lock.now name.now o.text.now (mind_of process.old))
         (λ end. turn_of end (mind_of process.new)) result
         journal.old journal.new (D.told outside.old) (D.told outside.new) }
+    ensures sure { OnErr result (Undelivered order.now.flags journal.old journal.new) }
     ensures keeping { Keeping journal.new process.new.locks.names }
 {
     let task = Task {
@@ -104,7 +106,7 @@ pub fn capture<D: Outside>(
 }
 
 /// The mail goes to the addresses of the text, by the program that sends mail.
-pub fn forward<D: Outside>(
+pub fn forward<D: Effects>(
     alloc: Global,
     order: &Order<'_>,
     process: &mut Process,
@@ -116,6 +118,7 @@ pub fn forward<D: Outside>(
         Carries (forwarded o.flags o.lock.now o.text.now (mind_of process.old))
         (λ end. turn_of end (mind_of process.new)) result
         journal.old journal.new (D.told outside.old) (D.told outside.new) }
+    ensures sure { OnErr result (Undelivered order.now.flags journal.old journal.new) }
     ensures keeping { Keeping journal.new process.new.locks.names }
 {
     let mut destination = Blob::from_slice(alloc, b"!")?;
@@ -133,7 +136,7 @@ pub fn forward<D: Outside>(
 }
 
 // The mail goes to the addresses of the text, and its destination is called so.
-fn forward_as<'a, D: Outside>(
+fn forward_as<'a, D: Effects>(
     alloc: Global,
     flags: Flags,
     lock: &'a Option<Blob>,
@@ -148,6 +151,7 @@ fn forward_as<'a, D: Outside>(
     ensures carries { Carries (forwarded flags lock.now text.now (mind_of process.old))
         (λ end. turn_of end (mind_of process.new)) result
         journal.old journal.new (D.told outside.old) (D.told outside.new) }
+    ensures sure { OnErr result (Undelivered flags journal.old journal.new) }
     ensures keeping { Keeping journal.new process.new.locks.names }
 {
     let task = Task {
@@ -172,7 +176,7 @@ fn line_reading(line: &[u8], process: &Process) -> Reading
 }
 
 // Runs the commands of the task's texts, and then the program that its own text names.
-fn do_program<D: Outside>(
+fn do_program<D: Effects>(
     alloc: Global,
     task: &Task<'_>,
     reading: Reading,
@@ -185,6 +189,7 @@ fn do_program<D: Outside>(
         Carries (program_done t (reading_of reading t.text) (mind_of process.old))
         (λ end. turn_of end (mind_of process.new)) result
         journal.old journal.new (D.told outside.old) (D.told outside.new) }
+    ensures sure { OnErr result (Undelivered task.now.flags journal.old journal.new) }
     ensures keeping { Keeping journal.new process.new.locks.names }
 {
     let of_lock = lock_commands(alloc, task)?;
@@ -211,7 +216,7 @@ fn text_commands(alloc: Global, text: &[u8], reading: Reading) -> Result<Vec<Blo
 }
 
 // Expands the text of the lock file, and then that of the task.
-fn do_ready<D: Outside>(
+fn do_ready<D: Effects>(
     alloc: Global,
     task: &Task<'_>,
     reading: Reading,
@@ -227,6 +232,7 @@ fn do_ready<D: Outside>(
         Carries (program_with t (reading_of reading t.text) (ready_of ready.now (mind_of process.old)))
         (λ end. turn_of end (mind_of process.new)) result
         journal.old journal.new (D.told outside.old) (D.told outside.new) }
+    ensures sure { OnErr result (Undelivered task.now.flags journal.old journal.new) }
     ensures keeping { Keeping journal.new process.new.locks.names }
 {
     let text = lock_word(alloc, task, ready.lock_outputs.as_slice(), process)?;
@@ -258,7 +264,7 @@ fn read_text(
 }
 
 /// The mail goes to standard output.
-pub fn write_out<D: Outside>(
+pub fn write_out<D: Effects>(
     alloc: Global,
     flags: Flags,
     lock: &Option<Blob>,
@@ -270,6 +276,7 @@ pub fn write_out<D: Outside>(
     ensures carries { Carries (output_written flags lock.now (mind_of process.old))
         (λ end. turn_of end (mind_of process.new)) result
         journal.old journal.new (D.told outside.old) (D.told outside.new) }
+    ensures sure { OnErr result (Undelivered flags journal.old journal.new) }
     ensures keeping { Keeping journal.new process.new.locks.names }
 {
     let task = Task {
@@ -285,7 +292,7 @@ pub fn write_out<D: Outside>(
 }
 
 // Expands the text of the lock file, and then writes.
-fn write_ready<D: Outside>(
+fn write_ready<D: Effects>(
     alloc: Global,
     task: &Task<'_>,
     ready: &Ready,
@@ -299,6 +306,7 @@ fn write_ready<D: Outside>(
         (write_with (task_of task.now) (ready_of ready.now (mind_of process.old)))
         (λ end. turn_of end (mind_of process.new)) result
         journal.old journal.new (D.told outside.old) (D.told outside.new) }
+    ensures sure { OnErr result (Undelivered task.now.flags journal.old journal.new) }
     ensures keeping { Keeping journal.new process.new.locks.names }
 {
     let text = lock_word(alloc, task, ready.lock_outputs.as_slice(), process)?;

@@ -1,5 +1,5 @@
 //! A piece is filed in a folder: under the moment, which is asked first, and with the count of the run's filings.
-ghost use Rattle.std.specs.Prelude.{◌≡◌, ◌+◌, ◌≤◌, true, [], length, is_some, IfOk};
+ghost use Rattle.std.specs.Prelude.{◌≡◌, ◌+◌, ◌≤◌, true, [], length, is_some, IfOk, OnErr};
 ghost use Rattle.pm_journal.specs.Executed.{Carries};
 ghost use Rattle.pm_journal.specs.Held.{Keeping};
 ghost use Rattle.pm_journal.specs.Outcomes.{last_file as file_of_last};
@@ -8,11 +8,11 @@ ghost use Rattle.pm_meaning.specs.Delivering.{in_folder};
 ghost use Rattle.pm_meaning.specs.Locks.{text_or};
 ghost use Rattle.pm_meaning.specs.Minds.{mind_of};
 ghost use Rattle.pm_actions.specs.Copies.{filing_of};
+ghost use Rattle.pm_actions.specs.Filing.{HasMet};
 ghost use Rattle.pm_actions.specs.Placing.{HasFile, placed_as};
 
-use pm_acts::{Filing, Outside};
 use pm_bytes::{Blob, Memory, Name};
-use pm_journal::{FolderEnd, FolderKind, Journal, Stamp};
+use pm_journal::{Effects, Filing, FolderEnd, FolderKind, Journal, Stamp};
 use pm_meaning::{Filed, Process, Stored};
 use std::alloc::Global;
 
@@ -28,7 +28,7 @@ pub struct FolderCopy {
 }
 
 /// Files the piece in the folder as a file of its own. After want of memory after the filing, that is noted.
-pub fn file_in_folder<D: Outside>(
+pub fn file_in_folder<D: Effects>(
     alloc: Global,
     copy: FolderCopy,
     process: &mut Process,
@@ -44,7 +44,9 @@ pub fn file_in_folder<D: Outside>(
     ensures locks { process.new.locks ≡ process.old.locks }
     ensures keeping { Keeping journal.new process.new.locks.names }
     ensures room { IfOk result (λ _. journal.old.room ≤ journal.new.room + 2) }
+    ensures met { OnErr result (HasMet journal.old journal.new) }
 {
+    let moment = outside.moment(journal);
     let serial = next_serial(process)?;
     let host_name = process.host_name.copy(alloc)?;
     let FolderCopy {
@@ -56,7 +58,7 @@ pub fn file_in_folder<D: Outside>(
     } = copy;
     let size = piece.len() as u64;
     let stamp = Stamp {
-        moment: outside.moment(journal),
+        moment,
         pid: process.vars.marks().pid,
         serial,
         host_name,

@@ -1,30 +1,31 @@
 //! The lines that are due after an attempt to deliver (the log texts of procmail(1), "DIAGNOSTICS").
-ghost use Rattle.std.specs.Prelude.{◌≡◌, ◌++◌, ◌∷◌, [], nat_lt, IfOk, OnOk};
+ghost use Rattle.std.specs.Prelude.{◌≡◌, ◌++◌, ◌∷◌, [], false, nat_lt, IfOk, OnOk, OnErr};
 ghost use Rattle.pm_journal.specs.Executed.{Carries};
 ghost use Rattle.pm_journal.specs.Held.{Keeping};
 ghost use Rattle.pm_journal.specs.LogText.{forcing_lock_line, couldnt_unlock_line};
+ghost use Rattle.pm_meaning.specs.Delivering.{is_without};
 ghost use Rattle.pm_meaning.specs.Delivering.{filed_lines, line_if, attempt_lines as lines_of_attempt, say_each as each_said};
 ghost use Rattle.pm_meaning.specs.Minds.{mind_of};
-ghost use Rattle.pm_actions.specs.Turning.{turn_of};
+ghost use Rattle.pm_meaning.specs.Turning.{turn_of};
 
-use crate::telling::tell;
-use pm_acts::Outside;
 use pm_bytes::{Blob, Memory, Name};
 use pm_journal::{
-    Journal, bytes_left, couldnt_lock, couldnt_unlock, couldnt_write, forcing_lock, no_free_name,
-    unusable_name,
+    Effects, Journal, bytes_left, couldnt_lock, couldnt_unlock, couldnt_write, forcing_lock,
+    no_free_name, unusable_name,
 };
-use pm_meaning::{Attempt, End, Filed, Process};
+use pm_meaning::{Attempt, End, Filed, Process, tell};
 use std::alloc::Global;
 use std::collections::VecDeque;
 
-/// What is told of an attempt, in order; `text` is that of the action.
+/// What is told of an attempt, in order; `text` is that of the action. It takes memory only where something is told.
+#[tactic(auto, using(crate::proofs::SureLemmas::without_front, crate::proofs::SureLemmas::without_back))]
 pub fn attempt_lines(
     alloc: Global,
     text: &[u8],
     attempt: &Attempt,
 ) -> Result<VecDeque<Blob>, Memory>
-    ensures { IfOk result (λ lines. lines.items ≡ lines_of_attempt text.now attempt.now) }
+    ensures lines { IfOk result (λ lines. lines.items ≡ lines_of_attempt text.now attempt.now) }
+    ensures sure { OnErr result (is_without (lines_of_attempt text.now attempt.now) ≡ false) }
 {
     let mut lines = VecDeque::new(alloc);
     match attempt {
@@ -51,7 +52,8 @@ fn push_filed(
     filed: &Filed,
     lines: &mut VecDeque<Blob>,
 ) -> Result<(), Memory>
-    ensures { OnOk result (lines.new.items ≡ lines.old.items ++ filed_lines text.now filed.now) }
+    ensures lines { OnOk result (lines.new.items ≡ lines.old.items ++ filed_lines text.now filed.now) }
+    ensures sure { OnErr result (is_without (filed_lines text.now filed.now) ≡ false) }
 {
     match filed {
         Filed::Stored => {}
@@ -70,8 +72,9 @@ pub fn push_forced(
     name: &Name,
     lines: &mut VecDeque<Blob>,
 ) -> Result<(), Memory>
-    ensures { OnOk result (lines.new.items ≡
+    ensures lines { OnOk result (lines.new.items ≡
         lines.old.items ++ line_if (nat_lt 0 forced) (forcing_lock_line name.now)) }
+    ensures sure { OnErr result (is_without (line_if (nat_lt 0 forced) (forcing_lock_line name.now)) ≡ false) }
 {
     if forced > 0 {
         lines.push_back(forcing_lock(alloc, name)?)?;
@@ -86,8 +89,9 @@ pub fn push_stuck(
     name: &Name,
     lines: &mut VecDeque<Blob>,
 ) -> Result<(), Memory>
-    ensures { OnOk result (lines.new.items ≡
+    ensures lines { OnOk result (lines.new.items ≡
         lines.old.items ++ line_if stuck (couldnt_unlock_line name.now)) }
+    ensures sure { OnErr result (is_without (line_if stuck (couldnt_unlock_line name.now)) ≡ false) }
 {
     if stuck {
         lines.push_back(couldnt_unlock(alloc, name)?)?;
@@ -96,7 +100,7 @@ pub fn push_stuck(
 }
 
 /// Says each line, and answers with this end.
-pub fn say_each<D: Outside>(
+pub fn say_each<D: Effects>(
     alloc: Global,
     mut lines: VecDeque<Blob>,
     end: Option<End>,
@@ -108,6 +112,7 @@ pub fn say_each<D: Outside>(
     ensures carries { let p = mind_of process.now in
         Carries (each_said p lines.items (turn_of end p)) (λ end. turn_of end p) result
         journal.old journal.new (D.told outside.old) (D.told outside.new) }
+    ensures sure { OnErr result (is_without lines.items ≡ false) }
     ensures keeping { Keeping journal.new process.now.locks.names }
 {
     while let Some(line) = lines.pop_front() {

@@ -14,7 +14,8 @@ ghost use Rattle.pm_meaning.specs.Locks.{is_lock_word as lock_word_fits};
 ghost use Rattle.pm_meaning.specs.Turns.{Turn, refuse_name};
 ghost use Rattle.pm_actions.specs.Copies.{IsFreeLock};
 ghost use Rattle.pm_actions.specs.Errands.{task_of, purpose_of, IsWork, IsLockFile};
-ghost use Rattle.pm_actions.specs.Turning.{turn_of};
+ghost use Rattle.pm_meaning.specs.Turning.{turn_of};
+ghost use Rattle.pm_actions.specs.Undelivered.{Undelivered};
 
 use crate::abstracts::push_copy;
 use crate::delivering::refuse;
@@ -23,13 +24,10 @@ use crate::lock_texts::lacks_lock;
 use crate::locks::{blamed_text, full_lock, is_taken, lock_name};
 use crate::outcomes::trial_lines;
 use crate::saying::say_each;
-use crate::skipping::skip_value;
-use crate::telling::tell;
 use crate::trying::{end_of, is_fine_trial, let_go, settle, try_under};
-use pm_acts::Outside;
 use pm_bytes::{Blob, Memory, Name, NameRefused};
-use pm_journal::{Journal, no_lock};
-use pm_meaning::{End, Process, ProgramLine};
+use pm_journal::{Effects, Journal, no_lock};
+use pm_meaning::{End, Process, ProgramLine, skip_value, tell};
 use pm_recipe::Flags;
 use std::alloc::Global;
 
@@ -78,7 +76,7 @@ pub enum LockFile {
 }
 
 /// Hands the mail to the program of a line that was read so.
-pub fn do_line<D: Outside>(
+pub fn do_line<D: Effects>(
     alloc: Global,
     task: &Task<'_>,
     word: Option<Blob>,
@@ -92,6 +90,7 @@ pub fn do_line<D: Outside>(
         Carries (line_done t word (work_of t.purpose t.flags (piece_fed t.flags p)) line p)
         (λ end. turn_of end (mind_of process.new)) result
         journal.old journal.new (D.told outside.old) (D.told outside.new) }
+    ensures sure { OnErr result (Undelivered task.now.flags journal.old journal.new) }
     ensures keeping { Keeping journal.new process.new.locks.names }
 {
     match line {
@@ -106,7 +105,7 @@ pub fn do_line<D: Outside>(
 }
 
 // A word of the line is unusable: this is told of the lock file's name where that can't be a file's either.
-fn refuse_line<D: Outside>(
+fn refuse_line<D: Effects>(
     alloc: Global,
     task: &Task<'_>,
     word: Option<Blob>,
@@ -142,7 +141,7 @@ fn is_lock_word(alloc: Global, word: Option<Blob>) -> Result<bool, Memory>
 }
 
 /// The errand is done, if the lock file can be taken.
-pub fn do_named<D: Outside>(
+pub fn do_named<D: Effects>(
     alloc: Global,
     task: &Task<'_>,
     word: Option<Blob>,
@@ -156,6 +155,8 @@ pub fn do_named<D: Outside>(
         → Carries (done_named (task_of task.now) word work (mind_of process.old))
         (λ end. turn_of end (mind_of process.new)) result
         journal.old journal.new (D.told outside.old) (D.told outside.new) }
+    ensures sure { (work : Mind → Plan Tried) → IsWork task.now.flags errand process.old.vars work
+        → OnErr result (Undelivered task.now.flags journal.old journal.new) }
     ensures keeping { Keeping journal.new process.new.locks.names }
 {
     match lock_file(alloc, word, process)? {
@@ -192,7 +193,7 @@ fn free_file(alloc: Global, name: Option<Name>, process: &Process) -> Result<Loc
 }
 
 // The errand is done under a lock file that isn't held yet.
-fn do_free<D: Outside>(
+fn do_free<D: Effects>(
     alloc: Global,
     task: &Task<'_>,
     lock: Option<Name>,
@@ -208,6 +209,8 @@ fn do_free<D: Outside>(
         Carries (told_first t p (tried_and_said t lock work p))
         (λ end. turn_of end (mind_of process.new)) result
         journal.old journal.new (D.told outside.old) (D.told outside.new) }
+    ensures sure { (work : Mind → Plan Tried) → IsWork task.now.flags errand process.old.vars work
+        → OnErr result (Undelivered task.now.flags journal.old journal.new) }
     ensures keeping { Keeping journal.new process.new.locks.names }
 {
     tell_first(alloc, task, process, outside, journal)?;
@@ -215,7 +218,7 @@ fn do_free<D: Outside>(
 }
 
 // Tells that there is no automatic lock file, where one is asked for.
-fn tell_first<D: Outside>(
+fn tell_first<D: Effects>(
     alloc: Global,
     task: &Task<'_>,
     process: &Process,
@@ -239,7 +242,7 @@ fn tell_first<D: Outside>(
 }
 
 // Does the errand, and tells what came of it.
-fn try_and_say<D: Outside>(
+fn try_and_say<D: Effects>(
     alloc: Global,
     task: &Task<'_>,
     lock: Option<Name>,
@@ -254,6 +257,8 @@ fn try_and_say<D: Outside>(
         → Carries (tried_and_said (task_of task.now) lock work (mind_of process.old))
         (λ end. turn_of end (mind_of process.new)) result
         journal.old journal.new (D.told outside.old) (D.told outside.new) }
+    ensures sure { (work : Mind → Plan Tried) → IsWork task.now.flags errand process.old.vars work
+        → OnErr result (Undelivered task.now.flags journal.old journal.new) }
     ensures keeping { Keeping journal.new process.new.locks.names }
 {
     let trial = try_under(alloc, lock, errand, task.flags, process, outside, journal)?;

@@ -8,15 +8,14 @@ ghost use Rattle.pm_meaning.specs.ProgramActions.{Tried, try_under as tried_unde
 ghost use Rattle.pm_meaning.specs.ProgramActions.{settled_by, trial_turn};
 ghost use Rattle.pm_actions.specs.Copies.{IsFreeLock};
 ghost use Rattle.pm_actions.specs.Errands.{trying_of, IsWork, is_for_good};
-ghost use Rattle.pm_actions.specs.Turning.{turn_of};
+ghost use Rattle.pm_meaning.specs.Turning.{turn_of};
 
 use crate::attempting::is_stuck;
 use crate::ends::is_fine;
 use crate::errands::{Errand, carry};
 use crate::locks::lock_rule;
-use pm_acts::{Outside, give, take};
 use pm_bytes::{Memory, Name};
-use pm_journal::{HeldLocks, Journal, LockEnd};
+use pm_journal::{Effects, HeldLocks, Journal, LockEnd, give, take};
 use pm_meaning::{End, Process, Trial, succeed};
 use pm_recipe::Flags;
 use std::alloc::Global;
@@ -30,7 +29,7 @@ struct LockRequest {
 }
 
 /// Does the errand under the lock of this name.
-pub fn try_under<D: Outside>(
+pub fn try_under<D: Effects>(
     alloc: Global,
     lock: Option<Name>,
     errand: Errand,
@@ -60,7 +59,7 @@ pub fn try_under<D: Outside>(
 }
 
 // The entry of an abstract has room too.
-fn try_free<D: Outside>(
+fn try_free<D: Effects>(
     alloc: Global,
     errand: Errand,
     flags: Flags,
@@ -105,7 +104,7 @@ fn lock_request(
 }
 
 // After want of memory in the errand the lock is still held.
-fn try_locked<D: Outside>(
+fn try_locked<D: Effects>(
     alloc: Global,
     request: LockRequest,
     errand: Errand,

@@ -1,5 +1,5 @@
 -- Conditions with a weight are counted and judged.
-use Rattle.std.proofs.Common.{◌≡◌, ℕ, Bool, false, List, Option, Some, None, refl, sym, ap, ◌∙◌}
+use Rattle.std.proofs.Common.{◌≡◌, ℕ, Bool, List, Option, Some, None, refl}
 use Rattle.pm_regex.specs.Re.{Whole}
 use Rattle.pm_regex.specs.Found.{IsCount}
 use Rattle.pm_regex.proofs.CountOf.{count_of, one_count}

@@ -25,7 +25,7 @@ fn matches_in(alloc: Global, expr: Expr, fold: bool, area: &[u8]) -> Result<Matc
     ensures count { IfOk result (λ matches. matches.count ≡ (count_of fold expr area.now).0) }
     ensures within { IfOk result (λ matches. IfSome matches.found (IsWithin area.now)) }
 {
-    let mut engine = Engine::build(alloc, expr, fold)?;
+    let mut engine = Engine::build(alloc, &expr, fold)?;
     let found = engine.find(area);
     engine.reserve(area.len())?;
     let count = engine.count(area);

@@ -10,8 +10,8 @@ use crate::scoring::{end_at, set_match};
 use crate::searching::{length_of, search};
 use crate::sizes::{measured_outcome, number_in, outcome_if};
 use pm_bytes::{Blob, Memory};
-use pm_meaning::question::{Factors, Outcome, Question, Scope, Verdict};
-use pm_meaning::{add_code, add_length, add_score};
+use pm_meaning::question::{Factors, Judgement, Outcome, Question, Scope};
+use pm_meaning::{add_code, add_matches, add_share};
 use pm_message::Mail;
 use pm_recipe::{Condition, Flags, Weight};
 use pm_vars::Vars;
@@ -80,7 +80,7 @@ pub fn judge_one(
     outcome: Outcome,
     total: &mut i32,
     vars: &mut Vars,
-) -> Result<Option<Verdict>, Memory>
+) -> Result<Option<Judgement>, Memory>
     requires low { neg_ℤ (pos 2147483647) ≤ℤ total.old }
     requires high { total.old ≤ℤ pos 2147483647 }
     ensures course { IfOk result (λ end.
@@ -94,14 +94,14 @@ pub fn judge_one(
             vars.set(b"MATCH", bytes)?;
             Ok(None)
         }
-        Outcome::Fails => Ok(Some(Verdict::Unmatched)),
+        Outcome::Fails => Ok(Some(Judgement::Unmatched)),
         Outcome::Counted {
             weight,
             matches,
             bytes,
         } => {
             set_match(bytes, vars)?;
-            *total = add_score(*total, weight.w, weight.x, matches);
+            *total = add_matches(*total, weight.w, weight.x, matches);
             Ok(end_at(*total))
         }
         Outcome::Compared {
@@ -109,8 +109,8 @@ pub fn judge_one(
             above,
             length,
             number,
-        } => match add_length(*total, weight.w, weight.x, length, number, above) {
-            None => Ok(Some(Verdict::Defective(text.copy(alloc)?))),
+        } => match add_share(*total, weight.w, weight.x, length, number, above) {
+            None => Ok(Some(Judgement::Defective(text.copy(alloc)?))),
             Some(score) => {
                 *total = score;
                 Ok(end_at(score))
@@ -124,8 +124,8 @@ pub fn judge_one(
             *total = add_code(*total, weight.w, weight.x, inverted, code);
             Ok(end_at(*total))
         }
-        Outcome::Defective => Ok(Some(Verdict::Defective(text.copy(alloc)?))),
-        Outcome::TooLong(length) => Ok(Some(Verdict::TooLong(length))),
+        Outcome::Defective => Ok(Some(Judgement::Defective(text.copy(alloc)?))),
+        Outcome::TooLong(length) => Ok(Some(Judgement::TooLong(length))),
     }
 }
 

@@ -1,14 +1,19 @@
-//! The conditions of a recipe: what each asks for, what it searches, and the result of evaluating all of them in order
+//! The conditions of a recipe: what each asks for, what it searches, and whether all of them hold, evaluated in order
 //! (procmailrc(5), "Conditions").
 #![tactic(auto)]
 
+mod asked;
+mod conditions;
 mod counting;
+mod holding;
 mod judging;
 mod leads;
 mod scoring;
 mod searching;
 mod sizes;
 
+pub use conditions::judge;
+pub use holding::{Verdict, holds};
 pub use judging::{exited, has_weight, judge_one, question_of, test};
 pub use leads::read_lead;
 pub use scoring::{end_of_all, note_score};

@@ -4,30 +4,30 @@ ghost use Rattle.pm_meaning.specs.Evaluating.{with_score, with_matched};
 ghost use Rattle.pm_meaning.specs.Weighing.{end_at as end_by, end_of_all as end_by_all};
 
 use pm_bytes::{Blob, Memory};
-use pm_meaning::question::Verdict;
+use pm_meaning::question::Judgement;
 use pm_vars::Vars;
 
 /// How a score ends the judging, if it does.
-pub fn end_at(total: i32) -> Option<Verdict>
+pub fn end_at(total: i32) -> Option<Judgement>
     ensures { result ≡ end_by total }
 {
     if total >= 2_147_483_647 {
-        Some(Verdict::Matched)
+        Some(Judgement::Matched)
     } else if total <= -2_147_483_647 {
-        Some(Verdict::Unmatched)
+        Some(Judgement::Unmatched)
     } else {
         None
     }
 }
 
 /// What comes where all conditions were judged.
-pub fn end_of_all(weighted: bool, total: i32) -> Verdict
+pub fn end_of_all(weighted: bool, total: i32) -> Judgement
     ensures { result ≡ end_by_all weighted total }
 {
     if weighted && total <= 0 {
-        Verdict::Unmatched
+        Judgement::Unmatched
     } else {
-        Verdict::Matched
+        Judgement::Matched
     }
 }
 

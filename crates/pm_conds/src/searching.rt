@@ -79,7 +79,7 @@ fn find(alloc: Global, expr: Expr, fold: bool, area: &[u8]) -> Result<Option<Fou
     ensures found { IfOk result (λ found. found ≡ (found_of fold expr area.now).0) }
     ensures within { IfOk result (λ found. IfSome found (IsWithin area.now)) }
 {
-    let mut engine = Engine::build(alloc, expr, fold)?;
+    let mut engine = Engine::build(alloc, &expr, fold)?;
     Ok(engine.find(area))
 }
 

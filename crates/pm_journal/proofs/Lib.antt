@@ -19,6 +19,7 @@ pub mod WalkLift
 pub mod PlanLeads
 pub mod FirstActs
 pub mod KeepingActs
+pub mod ActLemmas
 pub mod FilesGrow
 pub mod OneRun
 pub mod OneGrouping

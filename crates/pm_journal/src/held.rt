@@ -53,10 +53,11 @@ impl HeldLocks {
         false
     }
 
-    /// Makes room for one more name.
+    /// Makes room for one more name. It takes memory only where there is none.
     pub fn reserve(&mut self) -> Result<(), Memory>
         ensures same { self.new.names ≡ self.old.names }
         ensures ok { OnOk result (1 ≤ self.new.room) }
+        ensures full { OnErr result (self.old.room ≡ 0) }
         ensures err { OnErr result (self.new ≡ self.old) }
     {
         self.names.try_reserve_exact(1)?;

@@ -335,6 +335,35 @@ pub fn mark_starts(
     copy_set(&cache.sets[at].set, set);
 }
 
+/// Goes back from `high` to `low` without marks. The set is that of `high` before, and that of `low` after.
+pub fn go_back(
+    program: &Program,
+    area: &[u8],
+    low: usize,
+    high: usize,
+    set: &mut Vec<bool>,
+    cache: &mut Cache,
+)
+    requires program { InRange program.now.steps.items }
+    requires exit { program.now.exit < length program.now.steps.items }
+    requires low { low ≤ high }
+    requires high { high ≤ length area.now }
+    requires set { vec_len set.old ≡ length program.now.steps.items }
+    requires ready { AreReady false program.now.steps.items program.now.exit cache.old }
+    requires after { IsExitSet program.now.steps.items area.now program.now.exit high set.old.items }
+    ensures set { vec_len set.new ≡ length program.now.steps.items }
+    ensures ready { AreReady false program.now.steps.items program.now.exit cache.new }
+    ensures before { IsExitSet program.now.steps.items area.now program.now.exit low set.new.items }
+{
+    let mut at = enter(cache, set);
+    let mut place = high;
+    while place > low {
+        place -= 1;
+        at = step(cache, program, area, place, at);
+    }
+    copy_set(&cache.sets[at].set, set);
+}
+
 /// The number of the set of the area's end.
 fn last_number(cache: &mut Cache, program: &Program, area: &[u8]) -> usize
     requires program { InRange program.now.steps.items }

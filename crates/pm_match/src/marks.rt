@@ -14,7 +14,7 @@ ghost use Rattle.pm_match.specs.Begins.{AreRuns};
 
 use crate::backward::set_at_end;
 use crate::build::Program;
-use crate::cache::{Cache, States, copy_set, make_cache, mark_starts};
+use crate::cache::{Cache, States, copy_set, go_back, make_cache, mark_starts};
 use crate::forward::{Forward, least_end, make_forward};
 use std::alloc::{AllocError, Global};
 
@@ -175,15 +175,7 @@ fn keep_checkpoints(program: &Program, area: &[u8], marks: &mut Marks)
     let mut high = area.len();
     while index > 0 {
         let low = index * WINDOW;
-        mark_starts(
-            program,
-            area,
-            low,
-            high,
-            &mut marks.set,
-            &mut marks.cache,
-            &mut marks.window,
-        );
+        go_back(program, area, low, high, &mut marks.set, &mut marks.cache);
         copy_set(&marks.set, &mut marks.checkpoints[index].set);
         high = low;
         index -= 1;

@@ -25,3 +25,9 @@ pub mod ClearRun
 pub mod Lifting
 mod StatusRows
 mod ClearRow
+pub mod Choices
+pub mod Sequences
+mod TellLemmas
+pub mod SkipLemmas
+pub mod OutputLemmas
+mod ProgramLemmas

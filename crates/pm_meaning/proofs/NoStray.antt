@@ -34,8 +34,8 @@ use Rattle.pm_meaning.specs.declared.process.Filed.TheVariants.{Stored}
 use Rattle.pm_meaning.specs.declared.process.ProgramLine.{ProgramLine}
 use Rattle.pm_meaning.specs.declared.process.ProgramLine.TheVariants.{Runs, NoWords, Unusable, TooLong as LineTooLong}
 use Rattle.pm_meaning.specs.declared.process.Trial.{Trial}
-use Rattle.pm_meaning.specs.declared.question.Verdict.{Verdict}
-use Rattle.pm_meaning.specs.declared.question.Verdict.TheVariants.{Matched, Unmatched, Defective, TooLong}
+use Rattle.pm_meaning.specs.declared.question.Judgement.{Judgement}
+use Rattle.pm_meaning.specs.declared.question.Judgement.TheVariants.{Matched, Unmatched, Defective, TooLong}
 use Rattle.pm_meaning.specs.Running.{statement}
 use Rattle.pm_meaning.proofs.NoDelivery.{Never, never_ends, never_then, never_said, never_if, FailsElsewhere, never_goes, never_told, never_skipped, never_entered, never_assign, never_unset}
 
@@ -191,7 +191,7 @@ never_acted top (Forward text) p = never_program (forward_task top.flags top.loc
 never_acted top WriteOut p = never_written top.flags top.lock p
 never_acted top (Block trees) p = never_entered strays no_stray top p
 
-never_by : (verdict : Verdict) (p : Mind) (acts : Plan Turn) → Never strays acts → Never strays (by_verdict verdict p acts)
+never_by : (verdict : Judgement) (p : Mind) (acts : Plan Turn) → Never strays acts → Never strays (by_verdict verdict p acts)
 never_by Matched p acts never = never
 never_by Unmatched p acts never = never_goes strays no_stray p
 never_by (Defective text) p acts never = never_told strays no_stray p (defective_condition_line text)

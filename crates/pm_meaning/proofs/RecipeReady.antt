@@ -1,7 +1,7 @@
 -- A recipe that is executed, and the commands of its texts.
 use Rattle.std.proofs.Common.{◌≡◌, ℕ, true, List, ◌++◌, refl, subst}
 use Rattle.pm_recipe.specs.Tree.{Top}
-use Rattle.pm_meaning.specs.declared.question.Verdict.TheVariants.{Matched}
+use Rattle.pm_meaning.specs.declared.question.Judgement.TheVariants.{Matched}
 use Rattle.pm_journal.specs.Plan.{Plays}
 use Rattle.pm_journal.specs.declared.acts.Entry.{Entry}
 use Rattle.pm_meaning.specs.Chains.{is_admitted, executed}

@@ -6,7 +6,7 @@ use Rattle.pm_recipe.specs.declared.tree.Flags.{Flags}
 use Rattle.pm_subst.specs.Commands.{commands_in}
 use Rattle.pm_subst.specs.Words.{words_in}
 use Rattle.pm_subst.specs.declared.kinds.Mode.TheVariants.{One, Many}
-use Rattle.pm_meaning.specs.declared.question.Verdict.TheVariants.{Matched, Unmatched, Defective, TooLong}
+use Rattle.pm_meaning.specs.declared.question.Judgement.TheVariants.{Matched, Unmatched, Defective, TooLong}
 use Rattle.pm_journal.specs.LogText.{skipped_line, defective_condition_line, value_too_long_line}
 use Rattle.pm_journal.specs.declared.acts.Entry.{Entry}
 use Rattle.pm_journal.specs.Plan.{Ends, and_then, Plays}

@@ -21,7 +21,7 @@ use Rattle.pm_meaning.specs.declared.question.Outcome.TheVariants.{Compared, Cou
 use Rattle.pm_meaning.specs.declared.question.Question.{Question}
 use Rattle.pm_meaning.specs.declared.question.Scope.{Scope}
 use Rattle.pm_meaning.specs.declared.question.Scope.TheVariants.{Flags as ByFlags, Mail, Variable as Value}
-use Rattle.pm_meaning.specs.declared.question.Verdict.TheVariants as verdict
+use Rattle.pm_meaning.specs.declared.question.Judgement.TheVariants as verdict
 
 -- a mail with a folded field
 abbrev pub a_mail : Message

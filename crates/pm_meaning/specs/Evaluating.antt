@@ -14,8 +14,8 @@ use Rattle.pm_meaning.specs.declared.question.Question.{Question}
 use Rattle.pm_meaning.specs.declared.question.Factors.{Factors}
 use Rattle.pm_meaning.specs.declared.question.Outcome.{Outcome}
 use Rattle.pm_meaning.specs.declared.question.Outcome.TheVariants.{Holds, Matched, Fails, Counted, Compared, Exited, Defective, TooLong}
-use Rattle.pm_meaning.specs.declared.question.Verdict.{Verdict}
-use Rattle.pm_meaning.specs.declared.question.Verdict.TheVariants as verdict
+use Rattle.pm_meaning.specs.declared.question.Judgement.{Judgement}
+use Rattle.pm_meaning.specs.declared.question.Judgement.TheVariants as verdict
 use Rattle.pm_meaning.specs.Leads.{Asking, behind_blanks}
 use Rattle.pm_meaning.specs.Searching.{Sight, area_in, expression_of, holds_if}
 use Rattle.pm_meaning.specs.Scores.{add_score, add_code, add_length}
@@ -104,12 +104,12 @@ with_matched (Some bytes) vars = with_match bytes vars
 
 -- how far the conditions were judged: whether that ended it, the score, and the variables for the next one
 pub record Course : Type 0 where
-  pub end : Option Verdict
+  pub end : Option Judgement
   pub total : ℤ
   pub vars : Table
 
 -- a course with these parts
-abbrev pub course_of : Option Verdict → ℤ → Table → Course
+abbrev pub course_of : Option Judgement → ℤ → Table → Course
 course_of end total vars = record { end = end; total = total; vars = vars }
 
 -- the score was changed: at one of its ends it ends the judging

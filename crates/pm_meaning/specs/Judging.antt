@@ -16,8 +16,8 @@ use Rattle.pm_meaning.specs.Weighing.{end_of_all}
 use Rattle.pm_meaning.specs.declared.question.Outcome.{Outcome}
 use Rattle.pm_meaning.specs.declared.question.Outcome.TheVariants as outcome
 use Rattle.pm_meaning.specs.declared.question.Question.{Question}
-use Rattle.pm_meaning.specs.declared.question.Verdict.{Verdict}
-use Rattle.pm_meaning.specs.declared.question.Verdict.TheVariants.{Matched, Unmatched, Defective, TooLong}
+use Rattle.pm_meaning.specs.declared.question.Judgement.{Judgement}
+use Rattle.pm_meaning.specs.declared.question.Judgement.TheVariants.{Matched, Unmatched, Defective, TooLong}
 use Rattle.pm_journal.specs.LogText.{defective_condition_line, value_too_long_line}
 use Rattle.pm_journal.specs.Outcomes.{run_end}
 use Rattle.pm_journal.specs.declared.acts.Act.TheVariants.{Run}
@@ -102,15 +102,15 @@ comes_of condition flags p = comes_by (question_by condition.weight) flags condi
 
 -- what came of all conditions, and the process then
 pub record Judged : Type 0 where
-  pub verdict : Verdict
+  pub verdict : Judgement
   pub mind : Mind
 
 -- a verdict with the process after it
-abbrev pub judged_with : Verdict → Mind → Judged
+abbrev pub judged_with : Judgement → Mind → Judged
 judged_with verdict p = record { verdict = verdict; mind = p }
 
 -- what came of the conditions, as far as they were judged; `$=` is the score of a recipe that has a weight
-abbrev pub scored_with : Bool → Verdict → ℤ → Mind → Judged
+abbrev pub scored_with : Bool → Judgement → ℤ → Mind → Judged
 scored_with weighted end total p = judged_with end (with_table (with_score weighted total p.vars) p)
 
 -- a condition ended it, or the rest comes
@@ -130,7 +130,7 @@ abbrev pub judge : List Condition → Flags → Mind → Plan Judged
 judge conditions flags p = judge_each (list_any is_weighted conditions) flags conditions (pos 0) p
 
 -- where the conditions hold this comes; what is no condition, and a value that is too long, is told
-abbrev pub by_verdict : Verdict → Mind → Plan Turn → Plan Turn
+abbrev pub by_verdict : Judgement → Mind → Plan Turn → Plan Turn
 by_verdict Matched p acts = acts
 by_verdict Unmatched p acts = Ends (GoesOn p)
 by_verdict (Defective text) p acts = say_then p (defective_condition_line text) (GoesOn p)

@@ -28,6 +28,12 @@ pub mod Laws
 pub mod Examples
 pub mod RunExamples
 pub mod ConditionExamples
+-- What the code that logs, expands and runs commands answers.
+pub mod UsableNames
+pub mod Expanding
+pub mod Telling
+pub mod Turning
+pub mod Ready
 -- A run as a machine, and how it ends.
 pub mod Status
 pub mod Ends

@@ -20,7 +20,7 @@ use Rattle.pm_meaning.specs.Delivering.{mailbox_piece, folder_piece, Ready, make
 use Rattle.pm_meaning.specs.Destinations.{destination_of, are_file_texts}
 use Rattle.pm_meaning.specs.Chains.{is_admitted, executed}
 use Rattle.pm_meaning.specs.Locks.{text_or}
-use Rattle.pm_meaning.specs.declared.question.Verdict.TheVariants.{Matched}
+use Rattle.pm_meaning.specs.declared.question.Judgement.TheVariants.{Matched}
 use Rattle.pm_meaning.specs.Judging.{judge, judged_with}
 use Rattle.pm_meaning.specs.Minds.{Mind}
 use Rattle.pm_meaning.specs.ProgramActions.{Task, feed_outcome, fed_piece, lock_commands, pipe_task, forward_task, write_task}

@@ -6,8 +6,8 @@ use Rattle.pm_regex.proofs.CountOf.{count_of}
 use Rattle.pm_meaning.specs.declared.question.Factors.{Factors}
 use Rattle.pm_meaning.specs.declared.question.Outcome.{Outcome}
 use Rattle.pm_meaning.specs.declared.question.Outcome.TheVariants.{Counted, Compared, Defective}
-use Rattle.pm_meaning.specs.declared.question.Verdict.{Verdict}
-use Rattle.pm_meaning.specs.declared.question.Verdict.TheVariants.{Matched, Unmatched}
+use Rattle.pm_meaning.specs.declared.question.Judgement.{Judgement}
+use Rattle.pm_meaning.specs.declared.question.Judgement.TheVariants.{Matched, Unmatched}
 use Rattle.pm_meaning.specs.Searching.{match_in, match_text, search_outcome}
 
 -- how many matches of the expression stand in the area
@@ -42,13 +42,13 @@ weighed_size weight true above size (Some number) = Defective
 weighed_size weight false above size (Some number) = Compared weight above size number
 
 -- a score at the upper end matches the recipe, one at the lower end doesn't, and either ends the judging
-abbrev pub end_at : ℤ → Option Verdict
+abbrev pub end_at : ℤ → Option Judgement
 end_at total =
     if int_le (pos 2147483647) total then Some Matched
     else if int_le total (neg_ℤ (pos 2147483647)) then Some Unmatched
     else None
 
 -- where all conditions were judged, a recipe with a weight matches if the score is above 0, and one without matches
-abbrev pub end_of_all : Bool → ℤ → Verdict
+abbrev pub end_of_all : Bool → ℤ → Judgement
 end_of_all false total = Matched
 end_of_all true total = if int_le total (pos 0) then Unmatched else Matched

@@ -55,7 +55,7 @@ pub enum Outcome {
 /// What comes of a recipe's conditions in order: they match the recipe or don't, one is no condition by its text or its
 /// weight, or the value of one has so many bytes, which are too many.
 #[derive(Drop)]
-pub enum Verdict {
+pub enum Judgement {
     Matched,
     Unmatched,
     Defective(Blob),

@@ -1,5 +1,5 @@
 //! What weighted conditions add to the score of a recipe (procmailsc(5)).
-ghost use Rattle.std.specs.Prelude.{◌≡◌, ◌≤◌, ◌<◌, ◌^◌, ◌*◌, ◌/◌, min, pos, ◌≤ℤ◌, ◌+ℤ◌, ◌*ℤ◌, neg_ℤ, unsigned_abs, if◌then◌else◌, true, IfSome};
+ghost use Rattle.std.specs.Prelude.{◌≡◌, ◌≤◌, ◌<◌, ◌^◌, ◌*◌, ◌/◌, min, pos, ◌≤ℤ◌, ◌+ℤ◌, ◌*ℤ◌, neg_ℤ, unsigned_abs, int_lt, if◌then◌else◌, true, None, IfSome};
 ghost use Rattle.pm_meaning.specs.Scores.{powers as powers_of, bounded as bounded_of, add_score as score_of, add_code as code_score};
 ghost use Rattle.pm_meaning.specs.Scores.{counted_length as length_counted, add_length as length_score, has_share as is_shared};
 
@@ -61,8 +61,20 @@ fn powers(x: u32, count: u64) -> u64
     sum
 }
 
-/// The score after so many matches of a condition with the weight `w^x`.
-pub fn add_score(total: i32, w: i32, x: u32, count: u64) -> i32
+/// The score after so many matches of a condition with the weight `w^x`, whose exponent isn't negative.
+pub fn add_score(total: i32, w: i32, x: i32, count: u64) -> i32
+    requires low { neg_ℤ (pos 2147483647) ≤ℤ total }
+    requires high { total ≤ℤ pos 2147483647 }
+    requires whole { pos 0 ≤ℤ x }
+    ensures value { result ≡ score_of total w (unsigned_abs x) count }
+    ensures low { neg_ℤ (pos 2147483647) ≤ℤ result }
+    ensures high { result ≤ℤ pos 2147483647 }
+{
+    add_matches(total, w, x.unsigned_abs(), count)
+}
+
+/// As `add_score`, with the exponent of a weight that was read.
+pub fn add_matches(total: i32, w: i32, x: u32, count: u64) -> i32
     requires low { neg_ℤ (pos 2147483647) ≤ℤ total }
     requires high { total ≤ℤ pos 2147483647 }
     ensures value { result ≡ score_of total w x count }
@@ -82,7 +94,7 @@ pub fn add_code(total: i32, w: i32, x: u32, inverted: bool, code: u8) -> i32
     ensures high { result ≤ℤ pos 2147483647 }
 {
     if inverted {
-        add_score(total, w, x, code as u64)
+        add_matches(total, w, x, code as u64)
     } else if code == 0 {
         bounded(total as i64 + w as i64)
     } else {
@@ -160,9 +172,23 @@ fn has_share(x: u32, number: u64) -> bool
 }
 
 /// The score after a condition on a size with the weight `w^x`: it is so much greater as the length is over the number
-/// to the power x, or the number over the length. There is none where the exponent is above 3, where the number is 0,
-/// and with an exponent above 1 where the number is above 134,217,728.
-pub fn add_length(total: i32, w: i32, x: u32, length: u64, number: u64, over: bool) -> Option<i32>
+/// to the power x, or the number over the length. There is none where the exponent isn't from 0 to 3, where the number
+/// is 0, and with an exponent above 1 where the number is above 134,217,728.
+pub fn add_length(total: i32, w: i32, x: i32, length: u64, number: u64, over: bool) -> Option<i32>
+    requires low { neg_ℤ (pos 2147483647) ≤ℤ total }
+    requires high { total ≤ℤ pos 2147483647 }
+    ensures value { result ≡ (if int_lt x (pos 0) then None else length_score total w (unsigned_abs x) length number over) }
+    ensures low { IfSome result (λ score. neg_ℤ (pos 2147483647) ≤ℤ score) }
+    ensures high { IfSome result (λ score. score ≤ℤ pos 2147483647) }
+{
+    if x < 0 {
+        return None;
+    }
+    add_share(total, w, x.unsigned_abs(), length, number, over)
+}
+
+/// As `add_length`, with the exponent of a weight that was read.
+pub fn add_share(total: i32, w: i32, x: u32, length: u64, number: u64, over: bool) -> Option<i32>
     requires low { neg_ℤ (pos 2147483647) ≤ℤ total }
     requires high { total ≤ℤ pos 2147483647 }
     ensures value { result ≡ length_score total w x length number over }

@@ -187,3 +187,7 @@ escaped_begun text bs starts =
 pub escaped_begun_plain : (text bs : List ℕ) → starts_with nat_eq bs sign ≡ false → text ++ rest_escaped bs ≡ text ++ escaped bs
 escaped_begun_plain text bs other =
     ap (λ t. text ++ t) (sym (escaped_marked bs ∙ ap (λ m. m ++ rest_escaped bs) (unmarked bs (λ h. false≢true (sym other ∙ h)))))
+
+-- a text in which no line begins with the sign
+pub none_escaped : (bs : List ℕ) → starts_with nat_eq bs sign ≡ false → Nowhere (OccursAt bs needle) 0 (length bs + 1) → escaped bs ≡ bs
+none_escaped bs other none = sym (escaped_end (escaped bs) [] bs (escaped_begun_plain [] bs other) none)

@@ -5,4 +5,5 @@ mod FieldLemmas
 pub mod FoldLemmas
 pub mod HeadLemmas
 pub mod LineLemmas
+pub mod PieceLemmas
 pub mod SplitLemmas

@@ -5,17 +5,20 @@ ghost use Rattle.pm_message.specs.Piece.{piece_of, chosen as chosen_of};
 ghost use Rattle.pm_message.specs.Split.{split_of, whole_of};
 
 use crate::areas::{both_areas, head_area};
+use crate::pieces::{end_unless_empty, needs_escape};
 use crate::{Feed, Kind, Message, Place, divide, piece};
 use pm_bytes::{Blob, Memory};
 use std::alloc::Global;
 use std::marker::Model;
 
 /// A mail in one piece and in its two parts, which have the same memory, with what was made of it so far: the area of its
-/// head, that of its head and body, and what a mailbox gets. Contracts see its two parts.
+/// head, that of its head and body, and what a mailbox gets. It may have the newlines behind it that end it in a mailbox.
+/// Contracts see its two parts.
 #[derive(Drop)]
 pub struct Mail {
     parts: Message,
     whole: Blob,
+    ended: Option<Blob>,
     head_area: Option<Blob>,
     both_areas: Option<Blob>,
     mailbox: Option<MailboxPiece>,
@@ -52,6 +55,27 @@ impl Mail {
         Ok(Mail {
             parts,
             whole,
+            ended: None,
+            head_area: None,
+            both_areas: None,
+            mailbox: None,
+        })
+    }
+
+    /// The mail that `split` gives. The newlines that end it in a mailbox are put behind its bytes, so that a mailbox gets
+    /// the mail's own memory if no line is escaped. Bytes that share their memory are copied for that.
+    pub fn split_own(alloc: Global, mut bytes: Blob) -> Result<Mail, Memory>
+        ensures { IfOk result (λ mail. mail ≡ split_of bytes) }
+    {
+        let length = bytes.len();
+        end_unless_empty(&mut bytes)?;
+        bytes.share()?;
+        let whole = bytes.part(alloc, 0, length)?;
+        let parts = divide(alloc, whole.copy(alloc)?)?;
+        Ok(Mail {
+            parts,
+            whole,
+            ended: Some(bytes),
             head_area: None,
             both_areas: None,
             mailbox: None,
@@ -126,7 +150,7 @@ impl Mail {
         if let Some(piece) = self.kept_piece(feed, raw) {
             return piece.copy(alloc);
         }
-        let mut piece = piece(alloc, &self.parts, feed, Kind::MailboxFile, raw)?;
+        let mut piece = self.new_piece(alloc, feed, raw)?;
         piece.share()?;
         let copy = piece.copy(alloc)?;
         self.mailbox = Some(MailboxPiece { feed, raw, piece });
@@ -149,6 +173,44 @@ impl Mail {
         }
     }
 
+    // What a mailbox gets, in the mail's own memory where that has it.
+    fn new_piece(&self, alloc: Global, feed: Feed, raw: bool) -> Result<Blob, Memory>
+        ensures { IfOk result (λ piece. piece ≡ piece_of self.now feed Kind.MailboxFile raw) }
+    {
+        match self.own_piece(feed, raw) {
+            Some(own) => own.copy(alloc),
+            None => piece(alloc, &self.parts, feed, Kind::MailboxFile, raw),
+        }
+    }
+
+    // The mail's own memory, where a mailbox gets just that.
+    fn own_piece(&self, feed: Feed, raw: bool) -> Option<&Blob>
+        ensures { IfSome result (λ piece. piece.now ≡ piece_of self.now feed Kind.MailboxFile raw) }
+    {
+        match feed {
+            Feed::Both => self.own_whole(raw),
+            Feed::Head => None,
+            Feed::Body => None,
+        }
+    }
+
+    // The mail as it is, or with the newlines behind it, where no line is escaped.
+    #[tactic(auto, using(crate::proofs::PieceLemmas::own_raw, crate::proofs::PieceLemmas::own_ended))]
+    fn own_whole(&self, raw: bool) -> Option<&Blob>
+        ensures { IfSome result (λ piece. piece.now ≡ piece_of self.now Feed.Both Kind.MailboxFile raw) }
+    {
+        if needs_escape(self.parts.body.as_slice()) {
+            return None;
+        }
+        if raw {
+            return Some(&self.whole);
+        }
+        match &self.ended {
+            None => None,
+            Some(text) => Some(text),
+        }
+    }
+
     /// A copy of the mail, with the areas and the piece that were made of it.
     pub fn copy(&self, alloc: Global) -> Result<Mail, Memory>
         ensures { IfOk result (λ mail. mail ≡ self.now) }
@@ -156,6 +218,7 @@ impl Mail {
         Ok(Mail {
             parts: self.parts.copy(alloc)?,
             whole: self.whole.copy(alloc)?,
+            ended: copy_kept(alloc, &self.ended)?,
             head_area: copy_kept(alloc, &self.head_area)?,
             both_areas: copy_kept(alloc, &self.both_areas)?,
             mailbox: copy_piece(alloc, &self.mailbox)?,

@@ -1,6 +1,6 @@
 //! What of a mail is written to a mailbox or fed to a program.
-ghost use Rattle.std.specs.Prelude.{◌≡◌, ◌++◌, IfOk, OnOk};
-ghost use Rattle.pm_message.specs.Piece.{piece_of, chosen, escaped, escaped_chosen, ended};
+ghost use Rattle.std.specs.Prelude.{◌≡◌, ◌≤◌, ◌++◌, IfOk, OnOk, false, length, take};
+ghost use Rattle.pm_message.specs.Piece.{piece_of, chosen, escaped, escaped_chosen, ended, ended_unless};
 
 use crate::{Message, whole};
 use memchr::memmem;
@@ -75,6 +75,33 @@ fn end(text: &mut Blob) -> Result<(), Memory>
         text.push_slice(b"\n")?;
     }
     Ok(())
+}
+
+/// Ends a text that isn't empty.
+#[tactic(auto, using(crate::proofs::PieceLemmas::ended_front, crate::proofs::PieceLemmas::ended_longer))]
+pub(crate) fn end_unless_empty(text: &mut Blob) -> Result<(), Memory>
+    ensures ended { OnOk result (text.new ≡ ended_unless false text.old) }
+    ensures front { OnOk result (take (length text.old) text.new ≡ text.old) }
+    ensures longer { OnOk result (length text.old ≤ length text.new) }
+{
+    if text.len() > 0 {
+        end(text)?;
+    }
+    Ok(())
+}
+
+/// Whether a line of the text is escaped.
+#[tactic(auto, using(crate::proofs::EscapeLemmas::none_escaped))]
+pub(crate) fn needs_escape(lines: &[u8]) -> bool
+    ensures { result ≡ false → escaped lines.now ≡ lines.now }
+{
+    if lines.starts_with(b"From ") {
+        return true;
+    }
+    match memmem::find(lines, b"\nFrom ") {
+        None => false,
+        Some(_) => true,
+    }
 }
 
 /// What of the mail is written or fed. `raw` is the flag `r` of procmailrc(5): no newline is added.

@@ -153,8 +153,8 @@ pub fn prepare_mail(
     ensures kept { makes_line bytes renew.now ≡ false → IfOk result (λ mail. mail ≡ split_of bytes) }
 {
     if !needs_line(bytes.as_slice(), renew) {
-        return Mail::split(alloc, bytes);
+        return Mail::split_own(alloc, bytes);
     }
     let renewed = with_line(alloc, bytes.as_slice(), renew, logname, moment)?;
-    Mail::split(alloc, renewed)
+    Mail::split_own(alloc, renewed)
 }

@@ -1,22 +1,18 @@
 -- Acts as entries.
-use Rattle.std.proofs.Common.{◌≡◌, Bool, true, false, ℕ, ℤ, ◌+◌, List, [], ◌∷◌, ◌++◌, Option, Some, None, Ok, Err, refl, sym, subst, inr, ◌∙◌, append-nil}
+use Rattle.std.proofs.Common.{◌≡◌, Bool, true, false, ℕ, ℤ, ◌+◌, List, [], ◌∷◌, ◌++◌, Option, Some, None, Result, Ok, Err, IfOk, OnErr, refl, sym, subst, ◌∙◌, append-nil}
 use Rattle.pm_bytes.specs.declared.error.Memory.{Memory}
 use Rattle.pm_host.specs.Runs.{Ran}
 use Rattle.pm_host.specs.declared.command.Command.{Command}
 use Rattle.pm_host.specs.declared.calls.Logged.{Logged}
 use Rattle.pm_folders.specs.Filing.{place_reply, EndsPlace, PlacesIn}
 use Rattle.pm_folders.specs.declared.tries.PlaceEnd.{PlaceEnd}
-use Rattle.pm_pipe.specs.Runs.{child_reply, EndsRun, RunsTo}
-use Rattle.pm_pipe.specs.declared.child.ChildEnd.{ChildEnd}
-use Rattle.pm_journal.specs.Children.{RunGroup}
-use Rattle.pm_journal.specs.Executed.{UnfinishedCalls}
 use Rattle.pm_journal.specs.Placing.{PlaceGroup, LeftPlace}
 use Rattle.pm_journal.specs.declared.placing.FolderKind.{FolderKind}
 use Rattle.pm_journal.specs.declared.placing.Stamp.{Stamp}
-use Rattle.pm_journal.proofs.ChildFacts.{run_cause}
 use Rattle.pm_journal.proofs.PlaceCause.{place_cause}
-use Rattle.pm_acts.specs.Acts.{LeavesAct}
-use Rattle.pm_objects.specs.Replied.{AreReply}
+use Rattle.pm_journal.specs.Acts.{LeavesAct, NotesRun}
+use Rattle.pm_journal.specs.declared.children.RunEnd.{RunEnd}
+use Rattle.pm_pipe.specs.Replied.{AreReply}
 use Rattle.pm_host.specs.Told.{HostView, Tells, Adds, Makes}
 use Rattle.pm_host.specs.Streams.{StreamView}
 use Rattle.pm_host.specs.declared.answers.Looked.{Looked}
@@ -25,7 +21,7 @@ use Rattle.pm_host.specs.declared.calls.Call.TheVariants.{Look, Remove, Now}
 use Rattle.pm_host.specs.declared.calls.Answer.TheVariants.{Look as AnswerLook, Remove as AnswerRemove, Now as AnswerNow}
 use Rattle.pm_host.proofs.RunsJoin.{tells_at, ran_none}
 use Rattle.pm_journal.specs.Appending.{Appends, append_reply}
-use Rattle.pm_journal.specs.Entries.{View, seen_by, counts_of, said_by, written_by, unlock_reply, Accounts}
+use Rattle.pm_journal.specs.Entries.{View, view_of, seen_by, counts_of, said_by, written_by, unlock_reply, Accounts}
 use Rattle.pm_journal.specs.JournalState.{JournalState}
 use Rattle.pm_journal.specs.Noted.{NotesAct}
 use Rattle.pm_journal.specs.Replies.{IsWriteReply}
@@ -174,45 +170,39 @@ place_left refs kind folder prefix piece stamp end f a b out err h is = record {
   took = record { ran = h.ran; out_same = refl; err_same = refl; same = refl };
 }
 
--- the calls of a run that ended with a reply
-ran_group : (command : Command) (input : List ℕ) (want : Bool) (o : Option Reply) (reply : Reply) (calls : List Logged) → EndsRun command input want o calls → AreReply o (Ok reply) → RunGroup command input want reply calls
-ran_group command input want (Some r) reply calls g e = subst (λ k. RunGroup command input want k calls) (sym e) g
-ran_group command input want None reply calls g e = absurd e
-
--- the calls of a run that was left off
-ran_left : (command : Command) (input : List ℕ) (want : Bool) (o : Option Reply) (f : Memory) (calls : List Logged) → EndsRun command input want o calls → AreReply o (Err f) → UnfinishedCalls (Run command input want) calls
-ran_left command input want (Some r) f calls g e = absurd e
-ran_left command input want None f calls g e = inr g
-
--- only where output is wanted it is left off
-ran_wanted : (command : Command) (input : List ℕ) (want : Bool) (o : Option Reply) (f : Memory) (calls : List Logged) → EndsRun command input want o calls → AreReply o (Err f) → want ≡ true
-ran_wanted command input want (Some r) f calls g e = absurd e
-ran_wanted command input want None f calls g e = g.0
-
-pub run_notes : (refs : List ℕ) (command : Command) (input : List ℕ) (want : Bool) (end : ChildEnd) (reply : Reply) (x y : JournalState) (a b : HostView) (out err : StreamView)
-    → RunsTo command input want (child_reply end) a b → AreReply (child_reply end) (Ok reply)
-    → y.entries ≡ x.entries ++ entry_of (Run command input want) reply (seen_by refs a out err) (seen_by refs b out err) ∷ [] → y.room + 1 ≡ x.room
-    → NotesAct (Run command input want) reply x y (seen_by refs a out err) (seen_by refs b out err)
-run_notes refs command input want end reply x y a b out err h is e r =
-    let group = ran_group command input want (child_reply end) reply h.calls h.group is in
-    noted (Run command input want) reply x y (seen_by refs a out err) (seen_by refs b out err) (record {
-      groups = h.calls ∷ [];
-      honest = (group, tt);
-      ran = subst (λ l. Ran l a b) (sym (append-nil h.calls)) h.ran;
-      said = tells_at (Adds []) (λ l. sym (append-nil l)) err.bytes;
-      written = tells_at (Adds []) (λ l. sym (append-nil l)) out.bytes;
-      framed = (refl, refl);
-      covered = ((λ f. h.ran.failed (run_cause command input want reply h.calls group f)), tt);
+-- the run of a program was noted, whoever holds the objects
+pub run_held : (refs : List ℕ) (command : Command) (input : List ℕ) (want : Bool) (result : Result RunEnd Memory) (x y : JournalState) (a b : HostView) (out err : StreamView)
+    → IfOk result (λ end. NotesRun command input want end x y (view_of a out err) (view_of b out err))
+    → IfOk result (λ end. NotesRun command input want end x y (seen_by refs a out err) (seen_by refs b out err))
+run_held refs command input want (Ok end) x y a b out err h = record {
+  reply = h.reply;
+  end_is = h.end_is;
+  notes = record {
+    entry = h.notes.entry;
+    act_is = h.notes.act_is;
+    reply_is = h.notes.reply_is;
+    entries = h.notes.entries;
+    room = h.notes.room;
+    accounts = record {
+      groups = h.notes.accounts.groups;
+      honest = h.notes.accounts.honest;
+      ran = h.notes.accounts.ran;
+      said = h.notes.accounts.said;
+      written = h.notes.accounts.written;
+      framed = h.notes.accounts.framed;
+      covered = h.notes.accounts.covered;
       same = refl;
-    }) e r
-
-pub run_left : (refs : List ℕ) (command : Command) (input : List ℕ) (want : Bool) (end : ChildEnd) (f : Memory) (a b : HostView) (out err : StreamView) → RunsTo command input want (child_reply end) a b
-    → AreReply (child_reply end) (Err f) → LeavesAct (Run command input want) (seen_by refs a out err) (seen_by refs b out err)
-run_left refs command input want end f a b out err h is = record {
-  calls = h.calls;
-  unfinished = ran_left command input want (child_reply end) f h.calls h.group is;
-  took = record { ran = h.ran; out_same = refl; err_same = refl; same = refl };
+    };
+  };
 }
+run_held refs command input want (Err f) x y a b out err h = tt
 
-pub run_wanted : (command : Command) (input : List ℕ) (want : Bool) (end : ChildEnd) (f : Memory) (a b : HostView) → RunsTo command input want (child_reply end) a b → AreReply (child_reply end) (Err f) → want ≡ true
-run_wanted command input want end f a b h is = ran_wanted command input want (child_reply end) f h.calls h.group is
+-- so was one that was left off
+pub left_held : (refs : List ℕ) (act : Act) (result : Result RunEnd Memory) (a b : HostView) (out err : StreamView)
+    → OnErr result (LeavesAct act (view_of a out err) (view_of b out err)) → OnErr result (LeavesAct act (seen_by refs a out err) (seen_by refs b out err))
+left_held refs act (Ok end) a b out err h = tt
+left_held refs act (Err f) a b out err h = record {
+  calls = h.calls;
+  unfinished = h.unfinished;
+  took = record { ran = h.took.ran; out_same = h.took.out_same; err_same = h.took.err_same; same = refl };
+}

@@ -5,19 +5,19 @@ ghost use Rattle.pm_journal.specs.Entries.{counts_of, view_of, unlock_reply};
 ghost use Rattle.pm_journal.specs.Locking.{lock_reply};
 ghost use Rattle.pm_journal.specs.Contents.{read_reply, content_of};
 ghost use Rattle.pm_journal.specs.Sayings.{say_reply};
-ghost use Rattle.pm_journal.specs.Outcomes.{folder_end, run_end};
+ghost use Rattle.pm_journal.specs.Outcomes.{folder_end};
 ghost use Rattle.pm_folders.specs.Filing.{place_reply};
-ghost use Rattle.pm_pipe.specs.Runs.{child_reply};
-ghost use Rattle.pm_objects.specs.Replied.{AreReply};
+ghost use Rattle.pm_pipe.specs.Replied.{AreReply};
 
-use pm_acts::{Filing, Outside};
 use pm_append::{AppendEnd, ReadEnd, WriteEnd, append_by, append_whole, read_file, write_text};
 use pm_bytes::{Blob, Memory, Name};
 use pm_folders::{PlaceEnd, place};
 use pm_host::{Command, Host, Looked, Removed, Sink};
-use pm_journal::{Act, Counts, Entry, FolderEnd, Journal, LockEnd, LockRule, Reply, RunEnd};
+use pm_journal::{
+    Act, Asks, Counts, Effects, Entry, Filing, FolderEnd, Journal, LockEnd, LockRule, Reply, RunEnd,
+};
 use pm_locks::take_lock;
-use pm_pipe::{ChildEnd, run_child};
+use pm_pipe::{SinkFaults, run_noted};
 use std::alloc::Global;
 
 /// A host and the two sinks of a run.
@@ -55,13 +55,56 @@ impl<'a, H: Host, O: Sink, E: Sink> Objects<'a, H, O, E> {
     }
 }
 
-impl<'a, H: Host, O: Sink, E: Sink> Outside for Objects<'a, H, O, E> {
+impl<'a, H: Host, O: Sink, E: Sink> Asks for Objects<'a, H, O, E> {
     ghost use Rattle.std.specs.Prelude.{[], ◌∷◌};
     ghost use Rattle.pm_journal.specs.Entries.{seen_by};
 
     ghost told = { λ o. seen_by (o.host.ghost_name ∷ o.out.ghost_name ∷ o.err.ghost_name ∷ [])
         (H.told o.host.now) (O.told o.out.now) (E.told o.err.now) };
 
+    fn say(&mut self, journal: &mut Journal, to: Option<Name>, text: Blob) {
+        let before = self.counts();
+        match to {
+            Some(name) => {
+                let end = append_by(&mut *self.host, &name, text.as_slice(), false);
+                let after = self.counts();
+                journal.note(Entry {
+                    act: Act::SayFile { name, text },
+                    reply: append_reply_of(end),
+                    before,
+                    after,
+                });
+            }
+            None => {
+                let end = write_text(&mut *self.err, text.as_slice());
+                let after = self.counts();
+                journal.note(Entry {
+                    act: Act::SayErr { text },
+                    reply: say_reply_of(end),
+                    before,
+                    after,
+                });
+            }
+        }
+    }
+
+    fn run(
+        &mut self,
+        alloc: Global,
+        journal: &mut Journal,
+        command: Command,
+        input: Blob,
+        want: bool,
+    ) -> Result<RunEnd, Memory> {
+        let sinks = SinkFaults {
+            out: self.out.faults(),
+            err: self.err.faults(),
+        };
+        run_noted(alloc, &mut *self.host, journal, command, input, want, sinks)
+    }
+}
+
+impl<'a, H: Host, O: Sink, E: Sink> Effects for Objects<'a, H, O, E> {
     fn append(&mut self, journal: &mut Journal, name: Name, piece: Blob) -> AppendEnd {
         let before = self.counts();
         let end = append_whole(&mut *self.host, &name, piece.as_slice());
@@ -116,32 +159,6 @@ impl<'a, H: Host, O: Sink, E: Sink> Outside for Objects<'a, H, O, E> {
         Ok(end)
     }
 
-    fn run(
-        &mut self,
-        alloc: Global,
-        journal: &mut Journal,
-        command: Command,
-        input: Blob,
-        want: bool,
-    ) -> Result<RunEnd, Memory> {
-        let before = self.counts();
-        let end = run_child(alloc, &mut *self.host, &command, input.as_slice(), want);
-        let reply = child_reply_of(end)?;
-        let end = run_end_of(&reply);
-        let after = self.counts();
-        journal.note(Entry {
-            act: Act::Run {
-                command,
-                input,
-                want,
-            },
-            reply,
-            before,
-            after,
-        });
-        Ok(end)
-    }
-
     fn write_out(&mut self, journal: &mut Journal, piece: Blob) -> WriteEnd {
         let before = self.counts();
         let end = write_text(&mut *self.out, piece.as_slice());
@@ -153,32 +170,6 @@ impl<'a, H: Host, O: Sink, E: Sink> Outside for Objects<'a, H, O, E> {
             after,
         });
         end
-    }
-
-    fn say(&mut self, journal: &mut Journal, to: Option<Name>, text: Blob) {
-        let before = self.counts();
-        match to {
-            Some(name) => {
-                let end = append_by(&mut *self.host, &name, text.as_slice(), false);
-                let after = self.counts();
-                journal.note(Entry {
-                    act: Act::SayFile { name, text },
-                    reply: append_reply_of(end),
-                    before,
-                    after,
-                });
-            }
-            None => {
-                let end = write_text(&mut *self.err, text.as_slice());
-                let after = self.counts();
-                journal.note(Entry {
-                    act: Act::SayErr { text },
-                    reply: say_reply_of(end),
-                    before,
-                    after,
-                });
-            }
-        }
     }
 
     fn read(
@@ -350,40 +341,5 @@ fn folder_end_of(reply: &Reply) -> FolderEnd
         Reply::TornAt { taken, .. } => FolderEnd::Torn(*taken),
         Reply::NamesOut => FolderEnd::NamesOut,
         _ => FolderEnd::Undone,
-    }
-}
-
-// The reply of the run of a program, unless memory was wanting. Copies of the output get its memory; where there is none
-// for that, they will have their own.
-fn child_reply_of(end: ChildEnd) -> Result<Reply, Memory>
-    ensures { AreReply (child_reply end) result }
-{
-    match end {
-        ChildEnd::Ended {
-            code,
-            took,
-            mut output,
-        } => {
-            let _ = output.share();
-            Ok(Reply::Ended { code, took, output })
-        }
-        ChildEnd::NotStarted => Ok(Reply::NotStarted),
-        ChildEnd::Broken { took } => Ok(Reply::Broken { took }),
-        ChildEnd::TooLong(count) => Ok(Reply::TooLong(count)),
-        ChildEnd::Memory => Err(Memory),
-    }
-}
-
-fn run_end_of(reply: &Reply) -> RunEnd
-    ensures { result ≡ run_end reply.now }
-{
-    match reply {
-        Reply::Ended { code, took, .. } => RunEnd::Ended {
-            code: *code,
-            took: *took,
-        },
-        Reply::NotStarted => RunEnd::NotStarted,
-        Reply::TooLong(_) => RunEnd::TooLong,
-        _ => RunEnd::Broken,
     }
 }

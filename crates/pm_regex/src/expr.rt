@@ -1,5 +1,9 @@
 //! An expression that was read.
+ghost use Rattle.std.specs.Prelude.{◌≡◌, IfOk};
+
 use crate::op::Op;
+use pm_bytes::Memory;
+use std::alloc::Global;
 use std::marker::Model;
 
 /// A regular expression, and what stands left of its `\/` where it has one.
@@ -26,8 +30,17 @@ impl Model for Expr {
         × (is_spelling e.right.items ≡ true) };
 }
 
+/// Equal operators.
+fn copied(alloc: Global, ops: &[Op]) -> Result<Vec<Op>, Memory>
+    ensures { IfOk result (λ copy. copy.items ≡ ops.now) }
+{
+    let mut copy = Vec::new(alloc);
+    copy.extend_from_slice(ops)?;
+    Ok(copy)
+}
+
 impl Expr {
-    ghost use Rattle.std.specs.Prelude.{◌≡◌, true, None, Some, option_map, is_some, MatchOption};
+    ghost use Rattle.std.specs.Prelude.{◌≡◌, true, None, Some, option_map, is_some, IfOk, MatchOption};
     ghost use Rattle.pm_regex.specs.Re.{Re};
     ghost use Rattle.pm_regex.specs.Postfix.{Spells, whole_of, is_spelling, is_left_spelling};
 
@@ -38,6 +51,18 @@ impl Expr {
         ensures { result ≡ whole_of (option_map (λ v. v.items) left) right.items }
     {
         Expr { left, right }
+    }
+
+    /// An equal expression.
+    pub fn copy(&self, alloc: Global) -> Result<Expr, Memory>
+        ensures { IfOk result (λ copy. copy ≡ self.now) }
+    {
+        let left = match &self.left {
+            None => None,
+            Some(ops) => Some(copied(alloc, ops.as_slice())?),
+        };
+        let right = copied(alloc, self.right.as_slice())?;
+        Ok(Expr { left, right })
     }
 
     /// Whether the expression has a `\/`.

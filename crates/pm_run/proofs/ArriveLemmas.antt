@@ -27,7 +27,7 @@ use Rattle.pm_meaning.specs.Minds.{Mind}
 use Rattle.pm_meaning.specs.Turns.{Turn, GoesOn}
 use Rattle.pm_meaning.specs.Running.{State, Event, Arrived, Setting, Opening, OpeningRule, begun, dated, home_by, set_by_word, mind_in, named_rcfile, in_home, rcfiles_of, sets_folder, opening_of, step}
 use Rattle.pm_meaning.specs.declared.command_line.CommandLine.{CommandLine}
-use Rattle.pm_actions.proofs.Choices.{choose_then, choose_else, then_out, else_out}
+use Rattle.pm_meaning.proofs.Choices.{choose_then, choose_else, then_out, else_out}
 use Rattle.pm_run.specs.Ends.{rule_of_opening}
 use Rattle.pm_run.specs.Opening.{OpensFrom}
 use Rattle.pm_run.specs.Turned.{turn_in}

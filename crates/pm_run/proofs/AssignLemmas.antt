@@ -24,9 +24,9 @@ use Rattle.pm_meaning.specs.Minds.{Mind}
 use Rattle.pm_meaning.specs.declared.process.End.TheVariants.{HostOff}
 use Rattle.pm_journal.proofs.ActPlans.{executes_then}
 use Rattle.pm_journal.proofs.WantsMemory.{executes_nothing, out_then, out_anywhere}
-use Rattle.pm_actions.specs.Names.{file_name_of}
-use Rattle.pm_actions.proofs.DeliverLemmas.{if_yes, if_no}
-use Rattle.pm_actions.proofs.Choices.{choose_then, choose_else, then_out, else_out, line_told, line_out}
+use Rattle.pm_meaning.specs.UsableNames.{file_name_of}
+use Rattle.pm_meaning.proofs.Choices.{if_yes, if_no}
+use Rattle.pm_meaning.proofs.Choices.{choose_then, choose_else, then_out, else_out, line_told, line_out}
 
 probed_other : (name : List ℕ) (p : Mind) (looked : Looked) → looked ≢ Folder → say_then p (couldnt_chdir_line name) (GoesOn p) ≡ probed name p (Found looked)
 probed_other name p (LookedFile n) h = refl

@@ -34,11 +34,11 @@ use Rattle.pm_meaning.specs.declared.ending.Ending.{Ending}
 use Rattle.pm_journal.proofs.ActPlans.{executes_then}
 use Rattle.pm_journal.proofs.WantsMemory.{executes_nothing, out_front, out_then}
 use Rattle.pm_journal.proofs.WalkJoin.{reaches_once, reaches_then, interrupted_at_once, interrupted_then}
-use Rattle.pm_actions.specs.Outputs.{told}
-use Rattle.pm_actions.proofs.Choices.{choose_else, line_told}
-use Rattle.pm_actions.proofs.DeliverLemmas.{if_yes, if_no}
-use Rattle.pm_actions.proofs.OutputLemmas.{told_then}
-use Rattle.pm_actions.proofs.SkipLemmas.{set_copy}
+use Rattle.pm_meaning.specs.Ready.{told}
+use Rattle.pm_meaning.proofs.Choices.{choose_else, line_told}
+use Rattle.pm_meaning.proofs.Choices.{if_yes, if_no}
+use Rattle.pm_meaning.proofs.OutputLemmas.{told_then}
+use Rattle.pm_meaning.proofs.SkipLemmas.{set_copy}
 use Rattle.pm_run.specs.Codes.{code_written}
 
 abbrev Onward : Type 0

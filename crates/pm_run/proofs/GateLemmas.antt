@@ -26,9 +26,9 @@ use Rattle.pm_meaning.specs.Outputs.{Outputs, outputs_of}
 use Rattle.pm_meaning.specs.Texts.{is_empty, is_file_text}
 use Rattle.pm_meaning.specs.Minds.{Mind}
 use Rattle.pm_meaning.specs.Turns.{Turn, GoesOn, Enters, Clones, say_then, refuse_name, is_too_long, skip_value}
-use Rattle.pm_actions.specs.Turning.{turn_of}
-use Rattle.pm_actions.proofs.Choices.{ok_map, err_map}
-use Rattle.pm_actions.proofs.DeliverLemmas.{if_yes, if_no}
+use Rattle.pm_meaning.specs.Turning.{turn_of}
+use Rattle.pm_meaning.proofs.Choices.{ok_map, err_map}
+use Rattle.pm_meaning.proofs.Choices.{if_yes, if_no}
 use Rattle.pm_meaning.specs.declared.process.End.{End}
 use Rattle.pm_run.specs.Walk.{gate_turn}
 use Rattle.pm_run.specs.declared.gates.Gate.{Gate}

@@ -24,8 +24,8 @@ use Rattle.pm_meaning.specs.Texts.{is_empty, is_file_text}
 use Rattle.pm_meaning.specs.Logging.{log, logged}
 use Rattle.pm_meaning.specs.Minds.{Mind}
 use Rattle.pm_meaning.specs.Turns.{Turn, GoesOn, say_then, refuse_name}
-use Rattle.pm_actions.proofs.Choices.{choose_then, then_out, line_told, line_out, ok_map, err_map}
-use Rattle.pm_actions.proofs.DeliverLemmas.{if_yes, if_no}
+use Rattle.pm_meaning.proofs.Choices.{choose_then, then_out, line_told, line_out, ok_map, err_map}
+use Rattle.pm_meaning.proofs.Choices.{if_yes, if_no}
 
 -- the removal of the lock file failed, and this was told
 pub stuck_told : (name line : List ℕ) (p q : Mind) (reply : Reply) (x y z : JournalState) (a b c : View) → NotesAct (Unlock name) reply x y a b → is_fault reply ≡ true → line ≡ couldnt_unlock_line name → q ≡ without_global name p

@@ -11,24 +11,24 @@ use Rattle.pm_journal.proofs.PlanLeads.{leads_itself, leads_on, leads_to_end, le
 use Rattle.pm_journal.proofs.WantsMemory.{executes_nothing, out_front, out_then}
 use Rattle.pm_recipe.specs.Tree.{Top}
 use Rattle.pm_recipe.specs.declared.tree.Condition.{Condition}
-use Rattle.pm_meaning.specs.declared.question.Verdict.{Verdict}
-use Rattle.pm_meaning.specs.declared.question.Verdict.TheVariants.{Matched, Unmatched, Defective, TooLong}
+use Rattle.pm_meaning.specs.declared.question.Judgement.{Judgement}
+use Rattle.pm_meaning.specs.declared.question.Judgement.TheVariants.{Matched, Unmatched, Defective, TooLong}
 use Rattle.pm_meaning.specs.Chains.{is_admitted, passed, executed}
 use Rattle.pm_meaning.specs.Judging.{Judged, judge, judged_with, by_verdict, behind_conditions, judge_first}
 use Rattle.pm_meaning.specs.Minds.{Mind}
 use Rattle.pm_meaning.specs.Turns.{Turn, GoesOn}
-use Rattle.pm_actions.proofs.Choices.{ok_map, err_map}
+use Rattle.pm_meaning.proofs.Choices.{ok_map, err_map}
 use Rattle.pm_run.specs.Coming.{is_matched}
 
 -- conditions that hold are followed by the action
-acts_then : (verdict : Verdict) (p : Mind) (acts : Plan Turn) → is_matched verdict ≡ true → by_verdict verdict p acts ≡ acts
+acts_then : (verdict : Judgement) (p : Mind) (acts : Plan Turn) → is_matched verdict ≡ true → by_verdict verdict p acts ≡ acts
 acts_then Matched p acts e = refl
 acts_then Unmatched p acts e = absurd (cc)
 acts_then (Defective text) p acts e = absurd (cc)
 acts_then (TooLong size) p acts e = absurd (cc)
 
 -- where they don't hold, the action is no matter
-acts_never : (verdict : Verdict) (p : Mind) (acts others : Plan Turn) → is_matched verdict ≡ false → by_verdict verdict p acts ≡ by_verdict verdict p others
+acts_never : (verdict : Judgement) (p : Mind) (acts others : Plan Turn) → is_matched verdict ≡ false → by_verdict verdict p acts ≡ by_verdict verdict p others
 acts_never Matched p acts others e = absurd (cc)
 acts_never Unmatched p acts others e = refl
 acts_never (Defective text) p acts others e = refl
@@ -65,7 +65,7 @@ module _ (top : Top) (p : Mind) where
     judging_wants acts x y a b is h =
         subst (λ plan. OutOfMemory plan x y a b) (judges_first acts is) (out_front (judge conditions top.flags p) (behind acts) x y a b h)
 
-    module _ (verdict : Verdict) (q : Mind) (x y : JournalState) (a b : View) where
+    module _ (verdict : Judgement) (q : Mind) (x y : JournalState) (a b : View) where
       -- this came of them
       abbrev HasCome : Type 0
       HasCome = Executes (judge conditions top.flags p) (judged_with verdict q) x y a b
@@ -103,6 +103,6 @@ acts_on whole rest to answer x y z a b c h k = (
 )
 
 -- what is told of conditions, by what came of them
-pub told_as : (verdict shown : Verdict) (p : Mind) (turn : Turn) (x : JournalState) (s : View) → verdict ≡ shown → by_verdict shown p (Ends (GoesOn p)) ≡ Ends turn → Executes (by_verdict verdict p (Ends (GoesOn p))) turn x x s s
+pub told_as : (verdict shown : Judgement) (p : Mind) (turn : Turn) (x : JournalState) (s : View) → verdict ≡ shown → by_verdict shown p (Ends (GoesOn p)) ≡ Ends turn → Executes (by_verdict verdict p (Ends (GoesOn p))) turn x x s s
 told_as verdict shown p turn x s e is =
     subst (λ v. Executes (by_verdict v p (Ends (GoesOn p))) turn x x s s) (sym e) (subst (λ plan. Executes plan turn x x s s) (sym is) (executes_nothing turn x x s refl))

@@ -23,8 +23,8 @@ use Rattle.pm_meaning.specs.Turns.{say_then}
 use Rattle.pm_meaning.specs.Running.{State, Item, Event, Running, LeavingFile, Leaving, Over, left_by, step}
 use Rattle.pm_meaning.specs.declared.process.End.{End}
 use Rattle.pm_meaning.specs.declared.process.End.TheVariants.{Delivered, FellOff, NoRc, HostOff}
-use Rattle.pm_actions.proofs.Choices.{choose_then, then_out, line_told, line_out}
-use Rattle.pm_actions.proofs.DeliverLemmas.{if_yes, if_no}
+use Rattle.pm_meaning.proofs.Choices.{choose_then, then_out, line_told, line_out}
+use Rattle.pm_meaning.proofs.Choices.{if_yes, if_no}
 use Rattle.pm_run.specs.Frames.{block_locks, outer_locks, left_outside, left_in, left_over}
 use Rattle.pm_run.specs.declared.frames.Open.{Open}
 use Rattle.pm_run.specs.declared.frames.RcFrame.{RcFrame}

@@ -1,7 +1,6 @@
 pub mod AssignLemmas
 pub mod EnvironmentLemmas
 pub mod JudgeLemmas
-pub mod ConditionLemmas
 pub mod ProcessLemmas
 mod FirstValueLemmas
 mod GlobalLemmas

@@ -35,8 +35,8 @@ use Rattle.pm_run.specs.Frames.{weave, items_of, outer_items, left_outside, left
 use Rattle.pm_run.specs.declared.frames.Open.{Open}
 use Rattle.pm_run.specs.declared.frames.RcFrame.{RcFrame}
 use Rattle.pm_run.specs.declared.frames.Waiting.{Waiting}
-use Rattle.pm_acts.specs.Acts.{ReadsWhole}
-use Rattle.pm_actions.proofs.Choices.{choose_then, choose_else, then_out, else_out, line_told, line_out}
+use Rattle.pm_journal.specs.Acts.{ReadsWhole}
+use Rattle.pm_meaning.proofs.Choices.{choose_then, choose_else, then_out, else_out, line_told, line_out}
 use Rattle.pm_run.specs.Ends.{IsCode}
 use Rattle.pm_run.specs.Opening.{OpensTo, OpensOne, OpensCode, ReadsContent, PassesOn, ReadsTo, ReadsOne, ReadsCode, PassesTo, PassesOver}
 use Rattle.pm_run.specs.declared.opening.Tried.{Tried}

@@ -29,8 +29,8 @@ use Rattle.pm_meaning.specs.Changes.{with_rcfile, opened}
 use Rattle.pm_meaning.specs.Minds.{Mind}
 use Rattle.pm_meaning.specs.Running.{State, Item, FileEnd, Running, Including, Switching, LeavingFile, ahead, Reading, with_statements, open_rcfile, included, switched, locks_in_file, behind_file, step, Event}
 use Rattle.pm_meaning.specs.Turns.{say_then}
-use Rattle.pm_acts.specs.Acts.{ReadsWhole}
-use Rattle.pm_actions.proofs.Choices.{choose_then, choose_else, then_out, else_out}
+use Rattle.pm_journal.specs.Acts.{ReadsWhole}
+use Rattle.pm_meaning.proofs.Choices.{choose_then, choose_else, then_out, else_out}
 use Rattle.pm_run.specs.Frames.{weave, steps_of, items_of, outer_items, block_locks, left_outside, left_in, left_over}
 use Rattle.pm_run.specs.Rcfiles.{waiting, GoesInto, TakesPlace, HasCode, ReadsCode, OpensSome, OpensNone, Opens}
 use Rattle.pm_run.specs.declared.frames.Open.{Open}

@@ -1,8 +1,8 @@
 -- What comes of a recipe before its action.
 use Rattle.std.specs.Prelude.{Bool, true, false}
 use Rattle.pm_recipe.specs.Tree.{Top}
-use Rattle.pm_meaning.specs.declared.question.Verdict.{Verdict}
-use Rattle.pm_meaning.specs.declared.question.Verdict.TheVariants.{Matched}
+use Rattle.pm_meaning.specs.declared.question.Judgement.{Judgement}
+use Rattle.pm_meaning.specs.declared.question.Judgement.TheVariants.{Matched}
 use Rattle.pm_journal.specs.JournalState.{JournalState}
 use Rattle.pm_journal.specs.Entries.{View}
 use Rattle.pm_journal.specs.Executed.{Executes, LeadsTo}
@@ -10,12 +10,12 @@ use Rattle.pm_journal.specs.Plan.{Plan}
 use Rattle.pm_meaning.specs.Judging.{judge_first}
 use Rattle.pm_meaning.specs.Minds.{Mind}
 use Rattle.pm_meaning.specs.Turns.{Turn}
-use Rattle.pm_actions.specs.Turning.{turn_of}
+use Rattle.pm_meaning.specs.Turning.{turn_of}
 use Rattle.pm_run.specs.declared.judging.Come.{Come}
 use Rattle.pm_run.specs.declared.judging.Come.TheVariants.{Acts, Ended}
 
 -- the conditions hold
-abbrev pub is_matched : Verdict → Bool
+abbrev pub is_matched : Judgement → Bool
 is_matched Matched = true
 is_matched other = false
 

@@ -20,16 +20,15 @@ use crate::assigning::assign_value;
 use crate::first_values::{begin, home, login};
 use crate::opening::{Opened, Rule, open_first};
 use crate::turned::Turned;
-use pm_acts::{Outside, ask_moment};
 use pm_bytes::{Blob, Environ, Memory, Name, Names, Pair};
-use pm_journal::{HeldLocks, Journal};
+use pm_journal::{Effects, HeldLocks, Journal, ask_moment};
 use pm_meaning::{CommandLine, Process};
 use pm_message::{Mail, needs_line, prepare_mail};
 use std::alloc::Global;
 use std::collections::VecDeque;
 
 /// The process that begins with this mail, which gets its From line.
-pub fn arrive<D: Outside>(
+pub fn arrive<D: Effects>(
     alloc: Global,
     line: &CommandLine,
     env: &Environ,
@@ -46,7 +45,7 @@ pub fn arrive<D: Outside>(
     ensures keeping { Keeping journal.new [] }
 {
     if !needs_line(bytes.as_slice(), &line.renew) {
-        let message = Mail::split(alloc, bytes)?;
+        let message = Mail::split_own(alloc, bytes)?;
         return begin(alloc, line, env, message);
     }
     let moment = ask_moment(&HeldLocks::new(alloc), outside, journal)?;
@@ -55,7 +54,7 @@ pub fn arrive<D: Outside>(
 }
 
 /// The words of the command line set variables, and its rcfiles are opened in order, up to one that is read.
-pub fn begin_rcfiles<D: Outside>(
+pub fn begin_rcfiles<D: Effects>(
     alloc: Global,
     line: &CommandLine,
     env: &Environ,
@@ -83,7 +82,7 @@ pub fn begin_rcfiles<D: Outside>(
 }
 
 // The words that set variables, one after the other.
-fn set_words<D: Outside>(
+fn set_words<D: Effects>(
     alloc: Global,
     values: &[Pair],
     process: &mut Process,
@@ -103,7 +102,7 @@ fn set_words<D: Outside>(
 }
 
 // A word that sets a variable names no other rcfile and no other host.
-fn set_by_word<D: Outside>(
+fn set_by_word<D: Effects>(
     alloc: Global,
     word: &Pair,
     process: &mut Process,

@@ -13,24 +13,23 @@ ghost use Rattle.pm_meaning.specs.Minds.{mind_of};
 ghost use Rattle.pm_meaning.specs.Turns.{GoesOn, say_then};
 ghost use Rattle.pm_subst.specs.Commands.{commands_in};
 ghost use Rattle.pm_subst.specs.declared.kinds.Mode.TheVariants.{One};
-ghost use Rattle.pm_actions.specs.Turning.{turn_of};
+ghost use Rattle.pm_meaning.specs.Turning.{turn_of};
 ghost use Rattle.pm_run.specs.Turned.{turn_in};
 
 use crate::global_lock::{change_lock, drop_lock};
 use crate::turned::{Turned, turned_by};
-use pm_actions::{
-    Expansion, expand_text, file_name, first_word, outputs_of, refuse, skip_value, tell,
-};
-use pm_acts::{Outside, probe};
+use pm_actions::refuse;
 use pm_bytes::{Blob, Memory, Name, full, read_count};
 use pm_host::Looked;
-use pm_journal::{Journal, couldnt_chdir, host_mismatched, unusable_name};
-use pm_meaning::{End, Process};
+use pm_journal::{Effects, Journal, couldnt_chdir, host_mismatched, probe, unusable_name};
+use pm_meaning::{
+    End, Expansion, Process, expand_text, file_name, first_word, outputs_of, skip_value, tell,
+};
 use pm_subst::Mode;
 use std::alloc::Global;
 
 /// Expands the text and gives it to the variable, with the effect that this has.
-pub fn assign_text<D: Outside>(
+pub fn assign_text<D: Effects>(
     alloc: Global,
     name: &[u8],
     text: &[u8],
@@ -57,7 +56,7 @@ pub fn assign_text<D: Outside>(
 }
 
 // Expands the text with the outputs of its commands, and gives it to the variable.
-fn assign_expanded<D: Outside>(
+fn assign_expanded<D: Effects>(
     alloc: Global,
     name: &[u8],
     text: &[u8],
@@ -84,7 +83,7 @@ fn assign_expanded<D: Outside>(
     }
 }
 
-pub fn assign_value<D: Outside>(
+pub fn assign_value<D: Effects>(
     alloc: Global,
     name: &[u8],
     value: Blob,
@@ -110,7 +109,7 @@ pub fn assign_value<D: Outside>(
 }
 
 // The value may be a line to log, or say how many arguments are dropped.
-fn change_other<D: Outside>(
+fn change_other<D: Effects>(
     alloc: Global,
     name: &[u8],
     value: &[u8],
@@ -135,7 +134,7 @@ fn change_other<D: Outside>(
 }
 
 // LOG got this value.
-fn log_value<D: Outside>(
+fn log_value<D: Effects>(
     alloc: Global,
     value: &[u8],
     process: &Process,
@@ -178,7 +177,7 @@ fn is_shift(name: &[u8]) -> bool
 }
 
 // The value may name another rcfile, that of INCLUDERC or SWITCHRC, or another host.
-fn change_rcfile<D: Outside>(
+fn change_rcfile<D: Effects>(
     alloc: Global,
     name: &[u8],
     value: &[u8],
@@ -205,7 +204,7 @@ fn change_rcfile<D: Outside>(
 }
 
 // HOST got this value.
-fn change_host<D: Outside>(
+fn change_host<D: Effects>(
     alloc: Global,
     value: &[u8],
     process: &Process,
@@ -227,7 +226,7 @@ fn change_host<D: Outside>(
 }
 
 // INCLUDERC got this value.
-fn include_rcfile<D: Outside>(
+fn include_rcfile<D: Effects>(
     alloc: Global,
     value: &[u8],
     process: &Process,
@@ -250,7 +249,7 @@ fn include_rcfile<D: Outside>(
 }
 
 // SWITCHRC got this value.
-fn switch_rcfile<D: Outside>(
+fn switch_rcfile<D: Effects>(
     alloc: Global,
     value: &[u8],
     process: &Process,
@@ -287,7 +286,7 @@ fn is_maildir(name: &[u8]) -> bool
 }
 
 // Names are seen from this folder from now on, if it is there.
-fn move_to_folder<D: Outside>(
+fn move_to_folder<D: Effects>(
     alloc: Global,
     value: &[u8],
     process: &mut Process,
@@ -313,7 +312,7 @@ fn move_to_folder<D: Outside>(
     }
 }
 
-fn probe_folder<D: Outside>(
+fn probe_folder<D: Effects>(
     alloc: Global,
     name: Name,
     process: &mut Process,
@@ -341,7 +340,7 @@ fn probe_folder<D: Outside>(
 }
 
 /// Takes the variable away. With LOCKFILE goes its lock, and without SWITCHRC the current rcfile is over.
-pub fn unset_variable<D: Outside>(
+pub fn unset_variable<D: Effects>(
     alloc: Global,
     name: &[u8],
     process: &mut Process,

@@ -15,11 +15,9 @@ ghost use Rattle.pm_run.specs.Stretches.{Proceeds};
 use crate::copies::copy_for_block;
 use crate::frames::RcFrame;
 use crate::queue::Queue;
-use pm_actions::tell;
-use pm_acts::Outside;
 use pm_bytes::Memory;
-use pm_journal::{Journal, too_many_clones};
-use pm_meaning::{Process, succeed};
+use pm_journal::{Effects, Journal, too_many_clones};
+use pm_meaning::{Process, succeed, tell};
 use std::alloc::Global;
 
 /// The most copies that a run makes.
@@ -27,7 +25,7 @@ const MOST_COPIES: u64 = 16;
 
 /// A copy of the process is made for the block whose first statement stands at this place, unless the run has made 16,
 /// which is told. The process goes on after the block.
-pub fn make_clone<D: Outside>(
+pub fn make_clone<D: Effects>(
     alloc: Global,
     place: usize,
     frame: &RcFrame,
@@ -59,7 +57,7 @@ pub fn make_clone<D: Outside>(
 }
 
 // No copy is made: the recipe has failed.
-fn refuse_clone<D: Outside>(
+fn refuse_clone<D: Effects>(
     alloc: Global,
     process: &Process,
     outside: &mut D,

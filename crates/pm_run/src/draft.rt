@@ -1,7 +1,7 @@
 //! Drafts of abstracts.
 ghost use Rattle.std.specs.Prelude.{◌≡◌};
 ghost use Rattle.pm_actions.specs.AbstractParts.{mail_part as part_of_mail};
-ghost use Rattle.pm_actions.specs.Telling.{log_name as name_of_log};
+ghost use Rattle.pm_meaning.specs.Telling.{log_name as name_of_log};
 
 use pm_bytes::{Blob, Name};
 

@@ -11,11 +11,10 @@ ghost use Rattle.pm_run.specs.Drafts.{IsDrafted, is_draft_for};
 
 use crate::draft::Draft;
 use crate::falling_off::value;
-use pm_actions::{log_name, logs_last, mail_part, push_folder, tell_in};
-use pm_acts::Outside;
+use pm_actions::{logs_last, mail_part, push_folder};
 use pm_bytes::{Blob, Memory};
-use pm_journal::Journal;
-use pm_meaning::Process;
+use pm_journal::{Effects, Journal};
+use pm_meaning::{Process, log_name, tell_in};
 use std::alloc::Global;
 
 /// How many bytes a draft has room for after the mail's part: twice the longest name of a file, and the other words.
@@ -63,7 +62,7 @@ pub fn is_for(draft: &Draft, process: &Process) -> bool
 }
 
 /// Finishes the draft, which is for this process, and logs it as the abstract of the last delivery.
-pub fn tell_draft<D: Outside>(
+pub fn tell_draft<D: Effects>(
     draft: Draft,
     process: &Process,
     outside: &mut D,

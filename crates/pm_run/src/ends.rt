@@ -24,17 +24,19 @@ use crate::drafting::{is_for, tell_draft};
 use crate::falling_off::value;
 use crate::global_lock::give_lock;
 use itoa::Buffer;
-use pm_actions::{abstract_of, code_of, logs_last, note_code, read_line, tell, tell_run};
-use pm_acts::{Outside, run};
+use pm_actions::{abstract_of, logs_last};
 use pm_bytes::{Blob, Memory, read_count};
 use pm_host::Command;
-use pm_journal::{Journal, unusable_name, value_too_long};
-use pm_meaning::{End, Ending, Process, ProgramLine, Status, status_of};
+use pm_journal::{Effects, Journal, run, unusable_name, value_too_long};
+use pm_meaning::{
+    End, Ending, Process, ProgramLine, Status, code_of, note_code, read_line, status_of, tell,
+    tell_run,
+};
 use std::alloc::Global;
 
 /// The process is over: the abstract of its delivery, of which there may be a draft, is logged, TRAP's program runs, and
 /// LOCKFILE's lock is given back.
-pub fn close<D: Outside>(
+pub fn close<D: Effects>(
     alloc: Global,
     end: End,
     draft: Option<Draft>,
@@ -55,7 +57,7 @@ pub fn close<D: Outside>(
 }
 
 // Logs the abstract of the delivery that ended the process, where LOGABSTRACT wants it.
-fn tell_delivery<D: Outside>(
+fn tell_delivery<D: Effects>(
     alloc: Global,
     end: End,
     draft: Option<Draft>,
@@ -75,7 +77,7 @@ fn tell_delivery<D: Outside>(
 }
 
 // A draft that is for this process is finished.
-fn tell_abstract<D: Outside>(
+fn tell_abstract<D: Effects>(
     alloc: Global,
     draft: Option<Draft>,
     process: &Process,
@@ -107,7 +109,7 @@ fn is_told(end: End, process: &Process) -> bool
 }
 
 // Runs TRAP's program at the end of the first process, and answers its exit code: 127 where it didn't run to its end.
-fn trap<D: Outside>(
+fn trap<D: Effects>(
     alloc: Global,
     end: End,
     process: &mut Process,
@@ -179,7 +181,7 @@ fn is_code_set(process: &Process) -> bool
 }
 
 // The program line of TRAP is read after its commands, and its program runs.
-fn trap_line<D: Outside>(
+fn trap_line<D: Effects>(
     alloc: Global,
     text: &[u8],
     process: &mut Process,
@@ -196,7 +198,7 @@ fn trap_line<D: Outside>(
 }
 
 // The program by its line; one that can't be run is told.
-fn trap_by<D: Outside>(
+fn trap_by<D: Effects>(
     alloc: Global,
     line: ProgramLine,
     text: &[u8],
@@ -219,7 +221,7 @@ fn trap_by<D: Outside>(
 }
 
 // The program gets the whole mail.
-fn run_trap<D: Outside>(
+fn run_trap<D: Effects>(
     alloc: Global,
     command: Command,
     text: &[u8],
@@ -249,7 +251,7 @@ fn run_trap<D: Outside>(
 }
 
 // A program line that can't be run is told.
-fn tell_unusable<D: Outside>(
+fn tell_unusable<D: Effects>(
     alloc: Global,
     text: &[u8],
     process: &Process,
@@ -268,7 +270,7 @@ fn tell_unusable<D: Outside>(
 }
 
 // A program line that expands to too many bytes is told.
-fn tell_long<D: Outside>(
+fn tell_long<D: Effects>(
     alloc: Global,
     length: u64,
     process: &mut Process,

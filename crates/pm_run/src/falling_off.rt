@@ -8,23 +8,22 @@ ghost use Rattle.pm_meaning.specs.Locks.{value_or};
 ghost use Rattle.pm_meaning.specs.Minds.{mind_of};
 ghost use Rattle.pm_meaning.specs.Running.{Running, FallingOff, Over, step, unless_same};
 ghost use Rattle.pm_meaning.specs.Running.{default_mailboxes as mailboxes_by_default};
-ghost use Rattle.pm_actions.specs.Turning.{turn_of};
+ghost use Rattle.pm_meaning.specs.Turning.{turn_of};
 ghost use Rattle.pm_run.specs.Drafts.{IsDrafted};
 ghost use Rattle.pm_run.specs.Stretches.{Walks};
 
 use crate::draft::Draft;
 use crate::drafting::draft_for;
-use pm_actions::{deliver_default, tell};
-use pm_acts::Outside;
+use pm_actions::deliver_default;
 use pm_bytes::{Blob, Memory};
-use pm_journal::{Journal, no_delivery};
-use pm_meaning::{End, Process};
+use pm_journal::{Effects, Journal, no_delivery};
+use pm_meaning::{End, Process, tell};
 use pm_vars::Vars;
 use std::alloc::Global;
 use std::collections::VecDeque;
 
 /// Tries DEFAULT, and then ORGMAIL where it is another mailbox. The draft is that of the delivery's abstract.
-pub fn fall_off<D: Outside>(
+pub fn fall_off<D: Effects>(
     alloc: Global,
     process: &mut Process,
     draft: &mut Option<Draft>,
@@ -79,7 +78,7 @@ fn push_other(
 }
 
 // Delivers to the first of these mailboxes that takes the mail.
-fn try_each<D: Outside>(
+fn try_each<D: Effects>(
     alloc: Global,
     mut mailboxes: VecDeque<Blob>,
     process: &mut Process,
@@ -102,7 +101,7 @@ fn try_each<D: Outside>(
 }
 
 // Delivers to the mailbox, once the draft of its abstract is there.
-fn try_mailbox<D: Outside>(
+fn try_mailbox<D: Effects>(
     alloc: Global,
     mailbox: &Blob,
     process: &mut Process,
@@ -122,7 +121,7 @@ fn try_mailbox<D: Outside>(
 }
 
 // No mailbox took the mail.
-fn lose<D: Outside>(
+fn lose<D: Effects>(
     alloc: Global,
     process: &Process,
     outside: &mut D,

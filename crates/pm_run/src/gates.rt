@@ -15,17 +15,16 @@ ghost use Rattle.pm_meaning.specs.Turns.{GoesOn, Enters, say_then};
 ghost use Rattle.pm_subst.specs.Commands.{commands_in};
 ghost use Rattle.pm_subst.specs.declared.kinds.Mode.TheVariants.{One};
 ghost use Rattle.pm_actions.specs.Names.{top_of};
-ghost use Rattle.pm_actions.specs.Turning.{turn_of};
+ghost use Rattle.pm_meaning.specs.Turning.{turn_of};
 ghost use Rattle.pm_run.specs.Walk.{gate_turn};
 
 use crate::judging::{Come, come_to};
-use pm_actions::{
-    Expansion, expand_text, file_name, first_word, lock_rule, outputs_of, refuse, skip_value, tell,
-};
-use pm_acts::{Outside, take};
+use pm_actions::{lock_rule, refuse};
 use pm_bytes::{Blob, Memory, Name, full};
-use pm_journal::{Journal, LockEnd, couldnt_lock, forcing_lock, no_lock};
-use pm_meaning::{End, Process};
+use pm_journal::{Effects, Journal, LockEnd, couldnt_lock, forcing_lock, no_lock, take};
+use pm_meaning::{
+    End, Expansion, Process, expand_text, file_name, first_word, outputs_of, skip_value, tell,
+};
 use pm_recipe::Recipe;
 use pm_subst::Mode;
 use std::alloc::Global;
@@ -41,7 +40,7 @@ pub enum Gate {
 }
 
 /// Comes to a recipe with a block.
-pub fn pass_gate<D: Outside>(
+pub fn pass_gate<D: Effects>(
     alloc: Global,
     recipe: &Recipe,
     process: &mut Process,
@@ -72,7 +71,7 @@ fn gate_by(end: Option<End>) -> Gate
 }
 
 // The block of a recipe that is executed. One for a copy of the process has no lock.
-fn enter_block<D: Outside>(
+fn enter_block<D: Effects>(
     alloc: Global,
     recipe: &Recipe,
     process: &mut Process,
@@ -95,7 +94,7 @@ fn enter_block<D: Outside>(
 }
 
 // The block is entered under the lock of this text. A block has no automatic lock, which is told.
-fn enter_under<D: Outside>(
+fn enter_under<D: Effects>(
     alloc: Global,
     text: &[u8],
     process: &mut Process,
@@ -118,7 +117,7 @@ fn enter_under<D: Outside>(
 }
 
 // Expands the text of the lock with the outputs of its commands, and enters the block under it.
-fn enter_expanded<D: Outside>(
+fn enter_expanded<D: Effects>(
     alloc: Global,
     text: &[u8],
     outputs: &[Blob],
@@ -145,7 +144,7 @@ fn enter_expanded<D: Outside>(
 }
 
 // The lock of this value is asked for, unless it can't be a file's name or is held already.
-fn lock_block<D: Outside>(
+fn lock_block<D: Effects>(
     alloc: Global,
     text: &[u8],
     value: &[u8],
@@ -171,7 +170,7 @@ fn lock_block<D: Outside>(
     }
 }
 
-fn ask_lock<D: Outside>(
+fn ask_lock<D: Effects>(
     alloc: Global,
     name: Name,
     process: &mut Process,
@@ -201,7 +200,7 @@ fn ask_lock<D: Outside>(
 }
 
 // A lock file that was removed by force is told, and the block is entered.
-fn tell_forced<D: Outside>(
+fn tell_forced<D: Effects>(
     alloc: Global,
     forced: u32,
     shown: &Name,
@@ -226,7 +225,7 @@ fn tell_forced<D: Outside>(
 }
 
 // A lock that wasn't got is told, and the block isn't entered.
-fn tell_not_got<D: Outside>(
+fn tell_not_got<D: Effects>(
     alloc: Global,
     name: &Name,
     process: &Process,

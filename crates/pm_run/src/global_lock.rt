@@ -11,17 +11,18 @@ ghost use Rattle.pm_meaning.specs.GlobalLock.{got_lock, take_lock as lock_taken,
 ghost use Rattle.pm_meaning.specs.Locks.{rule_of};
 ghost use Rattle.pm_meaning.specs.Minds.{mind_of};
 ghost use Rattle.pm_meaning.specs.Turns.{GoesOn, say_then};
-ghost use Rattle.pm_actions.specs.Turning.{turn_of};
+ghost use Rattle.pm_meaning.specs.Turning.{turn_of};
 
-use pm_actions::{file_name, is_stuck, lock_rule, refuse, tell};
-use pm_acts::{Outside, give, take};
+use pm_actions::{is_stuck, lock_rule, refuse};
 use pm_bytes::{Memory, Name, full};
-use pm_journal::{Journal, LockEnd, couldnt_lock, couldnt_unlock, forcing_lock};
-use pm_meaning::{End, Process};
+use pm_journal::{
+    Effects, Journal, LockEnd, couldnt_lock, couldnt_unlock, forcing_lock, give, take,
+};
+use pm_meaning::{End, Process, file_name, tell};
 use std::alloc::Global;
 
 /// LOCKFILE got this value.
-pub fn change_lock<D: Outside>(
+pub fn change_lock<D: Effects>(
     alloc: Global,
     value: &[u8],
     process: &mut Process,
@@ -47,7 +48,7 @@ pub fn change_lock<D: Outside>(
 }
 
 /// The lock of LOCKFILE is given back, and the process goes on.
-pub fn drop_lock<D: Outside>(
+pub fn drop_lock<D: Effects>(
     alloc: Global,
     process: &mut Process,
     outside: &mut D,
@@ -65,7 +66,7 @@ pub fn drop_lock<D: Outside>(
 
 /// Gives the lock of LOCKFILE back, where there is one and it is held. Only the line about a lock file that stays wants
 /// memory.
-pub fn give_lock<D: Outside>(
+pub fn give_lock<D: Effects>(
     alloc: Global,
     process: &mut Process,
     outside: &mut D,
@@ -89,7 +90,7 @@ pub fn give_lock<D: Outside>(
     }
 }
 
-fn give_held<D: Outside>(
+fn give_held<D: Effects>(
     alloc: Global,
     name: &Name,
     process: &mut Process,
@@ -114,7 +115,7 @@ fn give_held<D: Outside>(
 }
 
 // Takes the lock of this name, if it isn't held already.
-fn take_lock<D: Outside>(
+fn take_lock<D: Effects>(
     alloc: Global,
     value: &[u8],
     name: &Name,
@@ -136,7 +137,7 @@ fn take_lock<D: Outside>(
     ask_lock(alloc, lock, process, outside, journal)
 }
 
-fn ask_lock<D: Outside>(
+fn ask_lock<D: Effects>(
     alloc: Global,
     name: Name,
     process: &mut Process,
@@ -167,7 +168,7 @@ fn ask_lock<D: Outside>(
 }
 
 // A lock file that was removed by force is told.
-fn tell_forced<D: Outside>(
+fn tell_forced<D: Effects>(
     alloc: Global,
     forced: u32,
     name: &Name,
@@ -190,7 +191,7 @@ fn tell_forced<D: Outside>(
 }
 
 // A lock that wasn't got is told.
-fn tell_not_got<D: Outside>(
+fn tell_not_got<D: Effects>(
     alloc: Global,
     name: &Name,
     process: &Process,

@@ -12,19 +12,18 @@ ghost use Rattle.pm_meaning.specs.Judging.{by_verdict, judge_first};
 ghost use Rattle.pm_meaning.specs.Minds.{Mind, mind_of};
 ghost use Rattle.pm_meaning.specs.Turns.{Turn, GoesOn, say_then};
 ghost use Rattle.pm_actions.specs.Names.{top_of};
-ghost use Rattle.pm_actions.specs.Turning.{turn_of};
+ghost use Rattle.pm_meaning.specs.Turning.{turn_of};
 ghost use Rattle.pm_run.specs.Coming.{ComesTo, is_matched as is_match};
 ghost use Rattle.pm_run.specs.Drafts.{IsDrafted};
 
-use crate::conditions::judge;
 use crate::draft::Draft;
 use crate::drafting::draft_for;
-use pm_actions::{perform, skip_value, tell};
-use pm_acts::Outside;
+use pm_actions::perform;
 use pm_bytes::{Blob, Memory};
-use pm_journal::{Journal, defective_condition};
-use pm_meaning::question::Verdict;
-use pm_meaning::{End, Process, admits, after};
+use pm_conds::judge;
+use pm_journal::{Effects, Journal, defective_condition};
+use pm_meaning::question::Judgement;
+use pm_meaning::{End, Process, admits, after, skip_value, tell};
 use pm_recipe::{Flags, Recipe};
 use std::alloc::Global;
 
@@ -36,7 +35,7 @@ pub enum Come {
 }
 
 /// Comes to a recipe: its conditions are judged where its flags admit it.
-pub fn come_to<D: Outside>(
+pub fn come_to<D: Effects>(
     alloc: Global,
     recipe: &Recipe,
     process: &mut Process,
@@ -89,16 +88,16 @@ fn execute(flags: &Flags, process: &mut Process)
     process.chain = after(flags, &process.chain, true, true, false);
 }
 
-fn is_matched(verdict: &Verdict) -> bool
+fn is_matched(verdict: &Judgement) -> bool
     ensures { result ≡ is_match verdict.now }
 {
-    matches!(verdict, Verdict::Matched)
+    matches!(verdict, Judgement::Matched)
 }
 
 // What is told of conditions that don't hold.
-fn tell_verdict<D: Outside>(
+fn tell_verdict<D: Effects>(
     alloc: Global,
-    verdict: Verdict,
+    verdict: Judgement,
     process: &mut Process,
     outside: &mut D,
     journal: &mut Journal,
@@ -110,14 +109,14 @@ fn tell_verdict<D: Outside>(
     ensures keeping { Keeping journal.new process.new.locks.names }
 {
     match verdict {
-        Verdict::Matched | Verdict::Unmatched => Ok(None),
-        Verdict::Defective(text) => tell_defect(alloc, text, process, outside, journal),
-        Verdict::TooLong(length) => skip_value(alloc, length, process, outside, journal),
+        Judgement::Matched | Judgement::Unmatched => Ok(None),
+        Judgement::Defective(text) => tell_defect(alloc, text, process, outside, journal),
+        Judgement::TooLong(length) => skip_value(alloc, length, process, outside, journal),
     }
 }
 
 // A condition whose text is none is told.
-fn tell_defect<D: Outside>(
+fn tell_defect<D: Effects>(
     alloc: Global,
     text: Blob,
     process: &Process,
@@ -137,7 +136,7 @@ fn tell_defect<D: Outside>(
 }
 
 /// Comes to a recipe without a block, and does its action where it is executed.
-pub fn run_recipe<D: Outside>(
+pub fn run_recipe<D: Effects>(
     alloc: Global,
     recipe: &Recipe,
     process: &mut Process,
@@ -159,7 +158,7 @@ pub fn run_recipe<D: Outside>(
 }
 
 // Does the action, and before it the draft of its abstract.
-fn act<D: Outside>(
+fn act<D: Effects>(
     alloc: Global,
     recipe: &Recipe,
     process: &mut Process,

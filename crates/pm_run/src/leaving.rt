@@ -12,16 +12,15 @@ ghost use Rattle.pm_run.specs.Frames.{block_locks, all_locks, left_in};
 ghost use Rattle.pm_run.specs.Stretches.{Walks};
 
 use crate::frames::{Open, RcFrame, Waiting};
-use pm_actions::{is_stuck, tell};
-use pm_acts::{Outside, give};
+use pm_actions::is_stuck;
 use pm_bytes::{Memory, Name};
-use pm_journal::{Journal, couldnt_unlock};
-use pm_meaning::{End, Process};
+use pm_journal::{Effects, Journal, couldnt_unlock, give};
+use pm_meaning::{End, Process, tell};
 use std::alloc::Global;
 use std::collections::VecDeque;
 
 /// Leaves all blocks of a process that ends so, the innermost first.
-pub fn leave_blocks<D: Outside>(
+pub fn leave_blocks<D: Effects>(
     alloc: Global,
     frame: &mut RcFrame,
     end: End,
@@ -71,7 +70,7 @@ fn come_out(frame: &mut RcFrame) -> bool
 }
 
 /// Leaves the blocks of an rcfile, the innermost first.
-pub fn leave_file<D: Outside>(
+pub fn leave_file<D: Effects>(
     alloc: Global,
     blocks: &mut VecDeque<Open>,
     process: &mut Process,
@@ -97,7 +96,7 @@ pub fn leave_file<D: Outside>(
 }
 
 /// Gives the lock of a block back, where it has one.
-pub fn give_maybe<D: Outside>(
+pub fn give_maybe<D: Effects>(
     alloc: Global,
     lock: &Option<Name>,
     process: &mut Process,
@@ -116,7 +115,7 @@ pub fn give_maybe<D: Outside>(
     }
 }
 
-fn give_block_lock<D: Outside>(
+fn give_block_lock<D: Effects>(
     alloc: Global,
     name: &Name,
     process: &mut Process,
@@ -135,7 +134,7 @@ fn give_block_lock<D: Outside>(
     give_held(alloc, name, process, outside, journal)
 }
 
-fn give_held<D: Outside>(
+fn give_held<D: Effects>(
     alloc: Global,
     name: &Name,
     process: &mut Process,

@@ -6,7 +6,6 @@
 mod arriving;
 mod assigning;
 mod cloning;
-mod conditions;
 mod copies;
 mod draft;
 mod drafting;

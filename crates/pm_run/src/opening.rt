@@ -20,12 +20,10 @@ ghost use Rattle.pm_run.specs.Opening.{OpensFrom, OpensOne, ReadsOne, PassesOver
 
 use crate::frames::RcFrame;
 use crate::rcfiles::read_statements;
-use pm_actions::tell;
-use pm_acts::{Outside, read};
 use pm_bytes::{Blob, Memory, Name};
 use pm_code::{Code, compile};
-use pm_journal::{Journal, couldnt_read, too_many_rcfiles};
-use pm_meaning::{End, Process, new_chain};
+use pm_journal::{Effects, Journal, couldnt_read, read, too_many_rcfiles};
+use pm_meaning::{End, Process, new_chain, tell};
 use pm_recipe::Rc;
 use std::alloc::Global;
 use std::collections::VecDeque;
@@ -65,7 +63,7 @@ pub enum Tried {
 }
 
 /// Opens these rcfiles in order, up to one that is read. The others are left for a process that isn't on its host.
-pub fn open_first<D: Outside>(
+pub fn open_first<D: Effects>(
     alloc: Global,
     rule: Rule,
     mut names: VecDeque<Name>,
@@ -106,7 +104,7 @@ pub fn open_first<D: Outside>(
 }
 
 // Opens an rcfile, unless the run has opened 256, which is told.
-fn open_one<D: Outside>(
+fn open_one<D: Effects>(
     alloc: Global,
     rule: Rule,
     name: Name,
@@ -133,7 +131,7 @@ fn open_one<D: Outside>(
 }
 
 // Reads an rcfile that is one of 256.
-fn read_one<D: Outside>(
+fn read_one<D: Effects>(
     alloc: Global,
     rule: Rule,
     name: Name,
@@ -193,7 +191,7 @@ fn enter(alloc: Global, rule: Rule, name: &Name, process: &mut Process) -> Resul
 
 // The rcfile wasn't read: a mail filter ends at once, and for any other that is told, unless there is none of the user's
 // own.
-fn pass_over<D: Outside>(
+fn pass_over<D: Effects>(
     alloc: Global,
     rule: Rule,
     name: &Name,
@@ -230,7 +228,7 @@ fn may_miss(rule: Rule, missing: bool) -> bool
 
 /// The next rcfile of the command line that can be read takes the place of all others of a process that isn't on its
 /// host, once their blocks were left; without one the process is over.
-pub fn open_later<D: Outside>(
+pub fn open_later<D: Effects>(
     alloc: Global,
     frame: &mut RcFrame,
     process: &mut Process,

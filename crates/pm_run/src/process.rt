@@ -19,9 +19,8 @@ use crate::frames::RcFrame;
 use crate::opening::{Opened, begin_frame};
 use crate::queue::{Copy, Queue, new_queue};
 use crate::walk::run_frame;
-use pm_acts::{Outside, give_all};
 use pm_bytes::{Blob, Environ, Memory};
-use pm_journal::Journal;
+use pm_journal::{Effects, Journal, give_all};
 use pm_meaning::{CommandLine, Ending, Process};
 use std::alloc::Global;
 
@@ -35,7 +34,7 @@ pub struct Counts {
 /// Runs the process that delivers this mail, and then the copies of it that were made for blocks, one after the other.
 /// The answer is how the first process ended. No lock is held afterwards, and after want of memory the removal of each
 /// one that was held has been tried once.
-pub fn run_processes<D: Outside>(
+pub fn run_processes<D: Effects>(
     alloc: Global,
     line: CommandLine,
     env: &Environ,
@@ -79,7 +78,7 @@ fn counts_of(process: &Process) -> Counts
 }
 
 // The first process, from the words of the command line to its end.
-fn run_first<D: Outside>(
+fn run_first<D: Effects>(
     alloc: Global,
     line: &CommandLine,
     env: &Environ,
@@ -107,7 +106,7 @@ fn run_first<D: Outside>(
 }
 
 // A process of which nothing is left to do, from its default mailboxes to its end.
-fn close_without<D: Outside>(
+fn close_without<D: Effects>(
     alloc: Global,
     process: &mut Process,
     outside: &mut D,
@@ -124,7 +123,7 @@ fn close_without<D: Outside>(
 }
 
 // A process, from what is left of its rcfiles to its end.
-fn run_to_end<D: Outside>(
+fn run_to_end<D: Effects>(
     alloc: Global,
     frame: &mut RcFrame,
     process: &mut Process,
@@ -147,7 +146,7 @@ fn run_to_end<D: Outside>(
 }
 
 // The copies, one after the other, each from its block on.
-fn run_copies<D: Outside>(
+fn run_copies<D: Effects>(
     alloc: Global,
     first: Ending,
     counts: Counts,

@@ -20,19 +20,17 @@ ghost use Rattle.pm_run.specs.Stretches.{Walks};
 
 use crate::frames::{RcFrame, Waiting};
 use crate::leaving::leave_file;
-use pm_actions::tell;
-use pm_acts::{Outside, read};
 use pm_bytes::{Memory, Name};
 use pm_code::{Code, compile};
-use pm_journal::{Journal, couldnt_read, too_many_rcfiles};
-use pm_meaning::{Process, new_chain};
+use pm_journal::{Effects, Journal, couldnt_read, read, too_many_rcfiles};
+use pm_meaning::{Process, new_chain, tell};
 use pm_recipe::{Rc, RcRefused, Statements, one_rc, read_rc};
 use std::alloc::Global;
 use std::collections::VecDeque;
 use std::mem;
 
 /// Opens the rcfile, whose statements come before what is left of the current one.
-pub fn include<D: Outside>(
+pub fn include<D: Effects>(
     alloc: Global,
     name: Name,
     frame: &mut RcFrame,
@@ -85,7 +83,7 @@ fn go_into(
 }
 
 /// Opens the rcfile, which takes the place of the current one. Where it isn't read, that one goes on.
-pub fn switch<D: Outside>(
+pub fn switch<D: Effects>(
     alloc: Global,
     name: Name,
     frame: &mut RcFrame,
@@ -111,7 +109,7 @@ pub fn switch<D: Outside>(
 }
 
 // The blocks of the current rcfile are left, and the one of this code stands in its place.
-fn take_place<D: Outside>(
+fn take_place<D: Effects>(
     alloc: Global,
     name: Name,
     code: Code,
@@ -145,7 +143,7 @@ fn take_place<D: Outside>(
 }
 
 /// Leaves the blocks of the current rcfile, of which nothing is left.
-pub fn end_file<D: Outside>(
+pub fn end_file<D: Effects>(
     alloc: Global,
     frame: &mut RcFrame,
     process: &mut Process,
@@ -168,7 +166,7 @@ pub fn end_file<D: Outside>(
 }
 
 // Opens an rcfile, unless the run has opened 256. That, and that it wasn't read, is told.
-fn open_code<D: Outside>(
+fn open_code<D: Effects>(
     alloc: Global,
     name: &Name,
     process: &mut Process,
@@ -191,7 +189,7 @@ fn open_code<D: Outside>(
 }
 
 // Reads an rcfile. That it wasn't read is told.
-fn read_code<D: Outside>(
+fn read_code<D: Effects>(
     alloc: Global,
     name: &Name,
     process: &Process,
@@ -245,7 +243,7 @@ pub fn read_statements(alloc: Global, rc: &[u8]) -> Result<Statements, Memory>
 }
 
 // The run has opened as many rcfiles as it may.
-fn tell_many<D: Outside>(
+fn tell_many<D: Effects>(
     alloc: Global,
     name: &Name,
     process: &Process,
@@ -269,7 +267,7 @@ fn tell_many<D: Outside>(
 }
 
 // The rcfile wasn't read.
-fn tell_unread<D: Outside>(
+fn tell_unread<D: Effects>(
     alloc: Global,
     name: &Name,
     process: &Process,

@@ -5,7 +5,7 @@ ghost use Rattle.pm_journal.specs.Executed.{Carries};
 ghost use Rattle.pm_journal.specs.Held.{Keeping};
 ghost use Rattle.pm_meaning.specs.Assigning.{skip_defect};
 ghost use Rattle.pm_meaning.specs.Minds.{mind_of};
-ghost use Rattle.pm_actions.specs.Turning.{turn_of};
+ghost use Rattle.pm_meaning.specs.Turning.{turn_of};
 ghost use Rattle.pm_run.specs.Turned.{turn_in};
 ghost use Rattle.pm_run.specs.Walk.{plan_of};
 
@@ -13,16 +13,14 @@ use crate::assigning::{assign_text, unset_variable};
 use crate::draft::Draft;
 use crate::judging::run_recipe;
 use crate::turned::{Turned, turned_by};
-use pm_actions::tell;
-use pm_acts::Outside;
 use pm_bytes::Memory;
 use pm_code::Step;
-use pm_journal::{Journal, skipped};
-use pm_meaning::{End, Process};
+use pm_journal::{Effects, Journal, skipped};
+use pm_meaning::{End, Process, tell};
 use std::alloc::Global;
 
 /// Does a step that is a statement; the beginning and the end of a block are none. The draft is that of a recipe's abstract.
-pub fn run_statement<D: Outside>(
+pub fn run_statement<D: Effects>(
     alloc: Global,
     step: &Step,
     process: &mut Process,
@@ -62,7 +60,7 @@ pub fn run_statement<D: Outside>(
 }
 
 // A line that isn't understood is told.
-fn skip_line<D: Outside>(
+fn skip_line<D: Effects>(
     alloc: Global,
     text: &[u8],
     process: &Process,

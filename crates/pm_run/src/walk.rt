@@ -20,10 +20,9 @@ use crate::queue::Queue;
 use crate::rcfiles::{end_file, include, switch};
 use crate::statements::run_statement;
 use crate::turned::Turned;
-use pm_acts::Outside;
 use pm_bytes::{Memory, Name};
 use pm_code::Step;
-use pm_journal::Journal;
+use pm_journal::{Effects, Journal};
 use pm_meaning::{End, Process, new_chain, succeed};
 use std::alloc::Global;
 
@@ -43,7 +42,7 @@ pub enum Stepped {
 
 /// Runs what is left of the rcfiles, up to the process's end, if a statement ends it. Then the open blocks are left. The
 /// draft is that of the last action's abstract.
-pub fn run_frame<D: Outside>(
+pub fn run_frame<D: Effects>(
     alloc: Global,
     frame: &mut RcFrame,
     process: &mut Process,
@@ -79,7 +78,7 @@ pub fn run_frame<D: Outside>(
 
 // Leaves all blocks of a process that a statement ends. On another host the next rcfile of the command line takes the
 // place of the others, where one can be read.
-fn halt<D: Outside>(
+fn halt<D: Effects>(
     alloc: Global,
     end: End,
     frame: &mut RcFrame,
@@ -103,7 +102,7 @@ fn halt<D: Outside>(
 }
 
 // Does the first item. What a statement does leaves the count of openings as it was.
-fn step_frame<D: Outside>(
+fn step_frame<D: Effects>(
     alloc: Global,
     frame: &mut RcFrame,
     process: &mut Process,
@@ -201,7 +200,7 @@ fn enter_block(
 }
 
 // Ends the innermost block; without one the rcfile is over, and the one that waits first goes on.
-fn end_innermost<D: Outside>(
+fn end_innermost<D: Effects>(
     alloc: Global,
     frame: &mut RcFrame,
     next: usize,

@@ -7,7 +7,7 @@ use Rattle.lockfile_top.proofs.doing.do_jobs.Given as goal
 
 abbrev pub invariant-loop-job : goal.invariant-loop-job
 invariant-loop-job g l = record {
-  leads : LeadsTo (do_tasks (tasks_of l.fn.jobs.items) l.fn.made.items) (do_tasks (tasks_of l.jobs.items) l.made.items) l.fn.journal l.journal (g.D.Outside.told l.fn.outside) (g.D.Outside.told l.outside);
+  leads : LeadsTo (do_tasks (tasks_of l.fn.jobs.items) l.fn.made.items) (do_tasks (tasks_of l.jobs.items) l.made.items) l.fn.journal l.journal (g.D.Asks.told l.fn.outside) (g.D.Asks.told l.outside);
   ready : AllReady l.jobs.items;
   space : length l.made.items + length l.jobs.items ≤ vec_capacity l.made;
   room : 3 * length l.jobs.items + length l.made.items + 1 ≤ l.journal.room;

@@ -6,7 +6,7 @@ use Rattle.lockfile_top.proofs.doing.give_up.Given as goal
 
 abbrev pub invariant-loop-name : goal.invariant-loop-name
 invariant-loop-name g l = record {
-  leads : LeadsTo (remove_each (reverse l.fn.made.items) (say_then l.fn.sorry GaveUp)) (remove_each (reverse l.made.items) (say_then l.fn.sorry GaveUp)) l.fn.journal l.journal (g.D.Outside.told l.fn.outside) (g.D.Outside.told l.outside);
+  leads : LeadsTo (remove_each (reverse l.fn.made.items) (say_then l.fn.sorry GaveUp)) (remove_each (reverse l.made.items) (say_then l.fn.sorry GaveUp)) l.fn.journal l.journal (g.D.Asks.told l.fn.outside) (g.D.Asks.told l.outside);
   room : length l.made.items + 1 ≤ l.journal.room;
 }
 

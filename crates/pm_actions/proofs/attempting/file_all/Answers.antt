@@ -4,7 +4,7 @@ use Rattle.pm_meaning.specs.Minds.{mind_of}
 use Rattle.pm_actions.specs.Copies.{AllShown}
 use Rattle.pm_actions.proofs.AttemptLemmas.{attempted_plain, attempted_plain_out}
 use Rattle.pm_actions.proofs.FileLemmas.{copies_shown}
-use Rattle.pm_actions.proofs.FoundLemmas.{grown_none, grown_out, untouched_if, found_if}
+use Rattle.pm_actions.proofs.FoundLemmas.{grown_none, grown_out, none_new, met_none, met_on}
 use Rattle.pm_actions.proofs.attempting.file_all.Goals as goal
 
 pub returns-in_err-copies-clause-carries : goal.returns-in_err-copies-clause-carries
@@ -30,13 +30,13 @@ returns-clause-carries g c =
     (attempted_plain c.args.flags c.args.destinations.now (mind_of c.args.process.now) (mind_of c.file_each.new.process) c.in_ok-filed.filed _ c.reserve.new.self c.file_each.new.journal _ _ c.reserve.ensures.same k.0, tt)
 
 pub returns-in_err-copies-clause-untouched : goal.returns-in_err-copies-clause-untouched
-returns-in_err-copies-clause-untouched g c = on_err _ _ (untouched_if c.args.destinations.now c.args.journal.now c.args.journal.now refl)
+returns-in_err-copies-clause-untouched g c = on_err _ _ (none_new c.args.journal.now c.args.journal.now refl)
 
 pub returns-in_err-room_for-clause-untouched : goal.returns-in_err-room_for-clause-untouched
-returns-in_err-room_for-clause-untouched g c = on_err _ _ (untouched_if c.args.destinations.now c.args.journal.now c.args.journal.now refl)
+returns-in_err-room_for-clause-untouched g c = on_err _ _ (none_new c.args.journal.now c.args.journal.now refl)
 
 pub returns-in_err-reserve-clause-untouched : goal.returns-in_err-reserve-clause-untouched
-returns-in_err-reserve-clause-untouched g c = on_err _ _ (untouched_if c.args.destinations.now c.args.journal.now c.reserve.new.self c.reserve.ensures.same)
+returns-in_err-reserve-clause-untouched g c = on_err _ _ (none_new c.args.journal.now c.reserve.new.self c.reserve.ensures.same)
 
 pub returns-in_err-filed-clause-untouched : goal.returns-in_err-filed-clause-untouched
 returns-in_err-filed-clause-untouched g c =
@@ -44,5 +44,4 @@ returns-in_err-filed-clause-untouched g c =
     let x = c.args.journal.now in
     let w = c.reserve.new.self in
     let z = c.file_each.new.journal in
-    on_err _ _ (found_if c.args.flags (mind_of c.args.process.now) c.args.destinations.now c.in_ok-copies.copies.items x w z (grown_none x w c.reserve.ensures.same) (grown_out _ w z _ _ k.1) c.in_ok-copies.ensures.copies
-    c.in_err-filed.ensures.found)
+    on_err _ _ (met_none x z (met_on x w z (grown_none x w c.reserve.ensures.same) (grown_out _ w z _ _ k.1) c.in_err-filed.ensures.met))

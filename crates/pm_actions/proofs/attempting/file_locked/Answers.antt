@@ -4,7 +4,7 @@ use Rattle.pm_meaning.specs.Minds.{mind_of}
 use Rattle.pm_actions.specs.Copies.{AllShown}
 use Rattle.pm_actions.proofs.AttemptLemmas.{attempted_locked, attempted_locked_out, locked_mind}
 use Rattle.pm_actions.proofs.FileLemmas.{copies_locked, copies_shown}
-use Rattle.pm_actions.proofs.FoundLemmas.{grown_none, grown_act, grown_out, grown_on, untouched_if, found_if}
+use Rattle.pm_actions.proofs.FoundLemmas.{grown_none, grown_act, grown_out, grown_on, none_new, met_none, met_on}
 use Rattle.pm_actions.proofs.attempting.file_locked.Goals as goal
 
 pub returns-in_err-noted-clause-carries : goal.returns-in_err-noted-clause-carries
@@ -54,22 +54,22 @@ returns-in_ok-filed-in-Held-clause-carries g c =
     )
 
 pub returns-in_err-noted-clause-untouched : goal.returns-in_err-noted-clause-untouched
-returns-in_err-noted-clause-untouched g c = on_err _ _ (untouched_if c.args.destinations.now c.args.journal.now c.args.journal.now refl)
+returns-in_err-noted-clause-untouched g c = on_err _ _ (none_new c.args.journal.now c.args.journal.now refl)
 
 pub returns-in_err-kept-clause-untouched : goal.returns-in_err-kept-clause-untouched
-returns-in_err-kept-clause-untouched g c = on_err _ _ (untouched_if c.args.destinations.now c.args.journal.now c.args.journal.now refl)
+returns-in_err-kept-clause-untouched g c = on_err _ _ (none_new c.args.journal.now c.args.journal.now refl)
 
 pub returns-in_err-copies-clause-untouched : goal.returns-in_err-copies-clause-untouched
-returns-in_err-copies-clause-untouched g c = on_err _ _ (untouched_if c.args.destinations.now c.args.journal.now c.args.journal.now refl)
+returns-in_err-copies-clause-untouched g c = on_err _ _ (none_new c.args.journal.now c.args.journal.now refl)
 
 pub returns-in_err-reserve-clause-untouched : goal.returns-in_err-reserve-clause-untouched
-returns-in_err-reserve-clause-untouched g c = on_err _ _ (untouched_if c.args.destinations.now c.args.journal.now c.args.journal.now refl)
+returns-in_err-reserve-clause-untouched g c = on_err _ _ (none_new c.args.journal.now c.args.journal.now refl)
 
 pub returns-in_err-room_for-clause-untouched : goal.returns-in_err-room_for-clause-untouched
-returns-in_err-room_for-clause-untouched g c = on_err _ _ (untouched_if c.args.destinations.now c.args.journal.now c.args.journal.now refl)
+returns-in_err-room_for-clause-untouched g c = on_err _ _ (none_new c.args.journal.now c.args.journal.now refl)
 
 pub returns-in_err-reserve-2-clause-untouched : goal.returns-in_err-reserve-2-clause-untouched
-returns-in_err-reserve-2-clause-untouched g c = on_err _ _ (untouched_if c.args.destinations.now c.args.journal.now c.reserve-2.new.self c.reserve-2.ensures.same)
+returns-in_err-reserve-2-clause-untouched g c = on_err _ _ (none_new c.args.journal.now c.reserve-2.new.self c.reserve-2.ensures.same)
 
 pub returns-in_err-filed-in-Held-clause-untouched : goal.returns-in_err-filed-in-Held-clause-untouched
 returns-in_err-filed-in-Held-clause-untouched g c =
@@ -80,4 +80,4 @@ returns-in_err-filed-in-Held-clause-untouched g c =
     let y = c.take.new.journal in
     let z = c.file_each.new.journal in
     let taken = grown_on x w y (grown_none x w c.reserve-2.ensures.same) (grown_act _ _ w y _ _ c.take.ensures.notes) in
-    on_err _ _ (found_if c.args.flags p c.args.destinations.now c.in_ok-copies.copies.items x y z taken (grown_out _ y z _ _ k.1) c.in_ok-copies.ensures.copies c.in_err-filed-in-Held.ensures.found)
+    on_err _ _ (met_none x z (met_on x y z taken (grown_out _ y z _ _ k.1) c.in_err-filed-in-Held.ensures.met))

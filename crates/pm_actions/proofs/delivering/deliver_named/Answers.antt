@@ -3,7 +3,11 @@ use Rattle.pm_journal.proofs.WantsMemory.{on_err, out_anywhere}
 use Rattle.pm_meaning.specs.Delivering.{deliver_at, deliver_named}
 use Rattle.pm_meaning.specs.Locks.{blamed_text}
 use Rattle.pm_meaning.specs.Minds.{mind_of}
-use Rattle.pm_actions.proofs.DeliverLemmas.{carried, texts_usable}
+use Rattle.pm_meaning.proofs.Choices.{carried}
+use Rattle.pm_actions.proofs.DeliverLemmas.{texts_usable}
+use Rattle.pm_meaning.proofs.Choices.{err_map}
+use Rattle.pm_meaning.specs.Turns.{GoesOn, refuse_name}
+use Rattle.pm_actions.proofs.CalmLemmas.{calm_out, calm_said, calm_sure, sure_none}
 use Rattle.pm_actions.proofs.delivering.deliver_named.Goals as goal
 
 pub returns-in_err-destinations-clause-carries : goal.returns-in_err-destinations-clause-carries
@@ -22,3 +26,16 @@ returns-in_ok-lock-in-Some-clause-carries g c =
     let lock = c.in_ok-lock-in-Some.lock in
     let same = texts_usable o.flags c.args.lock lock blamed o.text.now c.args.words.now ds p usable.0 (c.as_slice.ensures.value ∙ usable.1) c.in_ok-lock-in-Some.ensures in
     carried (deliver_at o.flags lock blamed o.text.now ds p) (deliver_named o.flags c.args.lock blamed o.text.now c.args.words.now p) _ _ _ _ _ _ same c.deliver_at.ensures.carries
+
+pub returns-in_err-destinations-clause-sure : goal.returns-in_err-destinations-clause-sure
+returns-in_err-destinations-clause-sure g c = on_err _ _ (sure_none c.args.order.now.flags c.args.journal.now c.args.journal.now refl)
+
+pub returns-in_err-lock-in-Some-clause-sure : goal.returns-in_err-lock-in-Some-clause-sure
+returns-in_err-lock-in-Some-clause-sure g c = on_err _ _ (sure_none c.args.order.now.flags c.args.journal.now c.args.journal.now refl)
+
+pub returns-in_ok-lock-in-Some-clause-sure : goal.returns-in_ok-lock-in-Some-clause-sure
+returns-in_ok-lock-in-Some-clause-sure g c = c.deliver_at.ensures.sure
+
+pub returns-in-None-clause-sure : goal.returns-in-None-clause-sure
+returns-in-None-clause-sure g c =
+    err_map c.refuse.result _ _ (λ out. calm_sure c.args.order.now.flags c.args.journal.now c.refuse.new.journal (calm_out c.args.order.now.flags (refuse_name c.args.order.now.text.now (mind_of c.args.process.now)) c.args.journal.now c.refuse.new.journal _ _ (calm_said c.args.order.now.flags (mind_of c.args.process.now) _ (GoesOn (mind_of c.args.process.now))) out)) c.refuse.ensures.carries.1

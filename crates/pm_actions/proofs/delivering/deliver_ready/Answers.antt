@@ -3,8 +3,14 @@ use Rattle.pm_journal.proofs.WantsMemory.{on_err, out_anywhere}
 use Rattle.pm_meaning.specs.Assigning.{first_word}
 use Rattle.pm_meaning.specs.Delivering.{deliver_text, deliver_with}
 use Rattle.pm_meaning.specs.Minds.{mind_of}
-use Rattle.pm_actions.specs.Outputs.{ready_of}
-use Rattle.pm_actions.proofs.DeliverLemmas.{carried, lock_expands}
+use Rattle.pm_meaning.specs.Ready.{ready_of}
+use Rattle.pm_meaning.proofs.Choices.{carried}
+use Rattle.pm_actions.proofs.DeliverLemmas.{lock_expands}
+use Rattle.pm_meaning.proofs.Choices.{err_map}
+use Rattle.pm_journal.specs.LogText.{value_too_long_line}
+use Rattle.pm_meaning.specs.Changes.{overflowed}
+use Rattle.pm_meaning.specs.Turns.{GoesOn, say_then}
+use Rattle.pm_actions.proofs.CalmLemmas.{calm_out, calm_said, calm_sure, sure_none}
 use Rattle.pm_actions.proofs.delivering.deliver_ready.Goals as goal
 
 pub returns-in_err-words-clause-carries : goal.returns-in_err-words-clause-carries
@@ -19,3 +25,14 @@ returns-in-Words-clause-carries g c =
     let fits = rw (c.in-Words.is, c.lock_text-lock.ensures, c.as_slice.ensures.value) at c.in_ok-words.ensures in
     let same = ap (λ l. deliver_text o.flags o.lock.now value o.text.now l p) c.as_slice-outputs.ensures.value ∙ lock_expands o.flags o.lock.now value o.text.now r fits.0 (c.first_word-value.ensures ∙ ap first_word fits.1) in
     carried _ (deliver_with o.flags o.lock.now o.text.now r) _ _ _ _ _ _ same c.deliver_text.ensures.carries
+
+pub returns-in_err-words-clause-sure : goal.returns-in_err-words-clause-sure
+returns-in_err-words-clause-sure g c = on_err _ _ (sure_none c.args.order.now.flags c.args.journal.now c.args.journal.now refl)
+
+pub returns-in-Words-clause-sure : goal.returns-in-Words-clause-sure
+returns-in-Words-clause-sure g c = c.deliver_text.ensures.sure
+
+pub returns-in-TooLong-clause-sure : goal.returns-in-TooLong-clause-sure
+returns-in-TooLong-clause-sure g c =
+    let turn = GoesOn (overflowed (mind_of c.args.process.now)) in
+    err_map c.skip_value.result _ _ (λ out. calm_sure c.args.order.now.flags c.args.journal.now c.skip_value.new.journal (calm_out c.args.order.now.flags (say_then (mind_of c.args.process.now) (value_too_long_line c.in-TooLong.length) turn) c.args.journal.now c.skip_value.new.journal _ _ (calm_said c.args.order.now.flags (mind_of c.args.process.now) _ turn) out)) c.skip_value.ensures.carries.1

@@ -2,7 +2,13 @@ use Rattle.std.proofs.Common.{refl, rules, ◌∙◌}
 use Rattle.pm_journal.proofs.WantsMemory.{on_err, out_anywhere}
 use Rattle.pm_meaning.specs.Delivering.{deliver_to, deliver_text}
 use Rattle.pm_meaning.specs.Minds.{mind_of}
-use Rattle.pm_actions.proofs.DeliverLemmas.{carried, text_expands}
+use Rattle.pm_meaning.proofs.Choices.{carried}
+use Rattle.pm_actions.proofs.DeliverLemmas.{text_expands}
+use Rattle.pm_meaning.proofs.Choices.{err_map}
+use Rattle.pm_journal.specs.LogText.{value_too_long_line}
+use Rattle.pm_meaning.specs.Changes.{overflowed}
+use Rattle.pm_meaning.specs.Turns.{GoesOn, say_then}
+use Rattle.pm_actions.proofs.CalmLemmas.{calm_out, calm_said, calm_sure, sure_none}
 use Rattle.pm_actions.proofs.delivering.deliver_text.Goals as goal
 
 pub returns-in_err-words-clause-carries : goal.returns-in_err-words-clause-carries
@@ -16,3 +22,14 @@ returns-in-Words-clause-carries g c =
     let words = c.as_slice.result.now in
     let same = text_expands o.flags o.lock.now c.args.value o.text.now c.args.outputs.now words p fits.0 (c.as_slice.ensures.value ∙ fits.1) in
     carried (deliver_to o.flags o.lock.now c.args.value o.text.now words p) (deliver_text o.flags o.lock.now c.args.value o.text.now c.args.outputs.now p) _ _ _ _ _ _ same c.deliver_to_words.ensures.carries
+
+pub returns-in_err-words-clause-sure : goal.returns-in_err-words-clause-sure
+returns-in_err-words-clause-sure g c = on_err _ _ (sure_none c.args.order.now.flags c.args.journal.now c.args.journal.now refl)
+
+pub returns-in-Words-clause-sure : goal.returns-in-Words-clause-sure
+returns-in-Words-clause-sure g c = c.deliver_to_words.ensures.sure
+
+pub returns-in-TooLong-clause-sure : goal.returns-in-TooLong-clause-sure
+returns-in-TooLong-clause-sure g c =
+    let turn = GoesOn (overflowed (mind_of c.args.process.now)) in
+    err_map c.skip_value.result _ _ (λ out. calm_sure c.args.order.now.flags c.args.journal.now c.skip_value.new.journal (calm_out c.args.order.now.flags (say_then (mind_of c.args.process.now) (value_too_long_line c.in-TooLong.length) turn) c.args.journal.now c.skip_value.new.journal _ _ (calm_said c.args.order.now.flags (mind_of c.args.process.now) _ turn) out)) c.skip_value.ensures.carries.1

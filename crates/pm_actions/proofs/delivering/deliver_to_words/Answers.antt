@@ -1,10 +1,13 @@
 use Rattle.std.proofs.Common.{refl, rules}
 use Rattle.pm_journal.proofs.WantsMemory.{on_err, out_anywhere}
 use Rattle.pm_meaning.specs.Delivering.{deliver_named, deliver_to}
-use Rattle.pm_meaning.specs.Turns.{refuse_name}
+use Rattle.pm_meaning.specs.Turns.{refuse_name, GoesOn}
 use Rattle.pm_meaning.specs.Locks.{blamed_text}
 use Rattle.pm_meaning.specs.Minds.{mind_of}
-use Rattle.pm_actions.proofs.DeliverLemmas.{carried, lock_unusable, lock_usable, no_destination, some_words, no_words}
+use Rattle.pm_meaning.proofs.Choices.{carried}
+use Rattle.pm_actions.proofs.DeliverLemmas.{lock_unusable, lock_usable, no_destination, some_words, no_words}
+use Rattle.pm_meaning.proofs.Choices.{err_map}
+use Rattle.pm_actions.proofs.CalmLemmas.{calm_out, calm_said, calm_sure, sure_none}
 use Rattle.pm_actions.proofs.delivering.deliver_to_words.Goals as goal
 
 pub returns-in_err-word-clause-carries : goal.returns-in_err-word-clause-carries
@@ -36,3 +39,20 @@ returns-in-Err-Unusable-clause-carries g c =
     let bad = rw (c.in-Err-Unusable.is, c.in-Err-Unusable.field-0-is) at c.lock_name.ensures in
     let same = lock_unusable o.flags o.lock.now c.args.value o.text.now c.blamed_text-text.result.now c.in_ok-word.word c.args.words.now p (some_words _ c.if-words-eq0.false) c.in_ok-word.ensures bad c.blamed_text-text.ensures in
     carried (refuse_name c.blamed_text-text.result.now p) (deliver_to o.flags o.lock.now c.args.value o.text.now c.args.words.now p) _ _ _ _ _ _ same c.refuse-in-Err-Unusable.ensures.carries
+
+pub returns-in_err-word-clause-sure : goal.returns-in_err-word-clause-sure
+returns-in_err-word-clause-sure g c = on_err _ _ (sure_none c.args.order.now.flags c.args.journal.now c.args.journal.now refl)
+
+pub returns-in-Ok-clause-sure : goal.returns-in-Ok-clause-sure
+returns-in-Ok-clause-sure g c = c.deliver_named.ensures.sure
+
+pub returns-in-Err-Memory-clause-sure : goal.returns-in-Err-Memory-clause-sure
+returns-in-Err-Memory-clause-sure g c = sure_none c.args.order.now.flags c.args.journal.now c.args.journal.now refl
+
+pub returns-then-words-eq0-clause-sure : goal.returns-then-words-eq0-clause-sure
+returns-then-words-eq0-clause-sure g c =
+    err_map c.refuse.result _ _ (λ out. calm_sure c.args.order.now.flags c.args.journal.now c.refuse.new.journal (calm_out c.args.order.now.flags (refuse_name c.args.order.now.text.now (mind_of c.args.process.now)) c.args.journal.now c.refuse.new.journal _ _ (calm_said c.args.order.now.flags (mind_of c.args.process.now) _ (GoesOn (mind_of c.args.process.now))) out)) c.refuse.ensures.carries.1
+
+pub returns-in-Err-Unusable-clause-sure : goal.returns-in-Err-Unusable-clause-sure
+returns-in-Err-Unusable-clause-sure g c =
+    err_map c.refuse-in-Err-Unusable.result _ _ (λ out. calm_sure c.args.order.now.flags c.args.journal.now c.refuse-in-Err-Unusable.new.journal (calm_out c.args.order.now.flags (refuse_name c.blamed_text-text.result.now (mind_of c.args.process.now)) c.args.journal.now c.refuse-in-Err-Unusable.new.journal _ _ (calm_said c.args.order.now.flags (mind_of c.args.process.now) _ (GoesOn (mind_of c.args.process.now))) out)) c.refuse-in-Err-Unusable.ensures.carries.1

@@ -1,11 +1,16 @@
-use Rattle.std.proofs.Common.{refl, rules}
+use Rattle.std.proofs.Common.{refl, rules, ◌++◌, ap, ◌∙◌}
 use Rattle.pm_journal.proofs.WantsMemory.{on_err, out_anywhere, out_front}
-use Rattle.pm_meaning.specs.Delivering.{attempt, after_attempt, say_each}
+use Rattle.pm_meaning.specs.Delivering.{attempt, after_attempt, say_each, attempt_lines}
 use Rattle.pm_meaning.specs.Minds.{mind_of}
 use Rattle.pm_actions.specs.Copies.{attempted_of}
-use Rattle.pm_actions.specs.Turning.{turn_of}
-use Rattle.pm_actions.proofs.Choices.{ok_map, err_map}
-use Rattle.pm_actions.proofs.DeliverLemmas.{carried, said_after, attempt_then, attempt_then_out}
+use Rattle.pm_meaning.specs.Turning.{turn_of}
+use Rattle.pm_meaning.proofs.Choices.{ok_map, err_map}
+use Rattle.pm_meaning.proofs.Choices.{carried}
+use Rattle.pm_actions.proofs.DeliverLemmas.{said_after, attempt_then, attempt_then_out}
+use Rattle.pm_meaning.specs.Abstracts.{copy_lines}
+use Rattle.pm_actions.proofs.CalmLemmas.{calm_none, calm_out, calm_each}
+use Rattle.pm_actions.proofs.FoundLemmas.{grown_out}
+use Rattle.pm_actions.proofs.SureLemmas.{attempt_sure, attempt_quiet, sure_told, told_some, copy_some, lines_some, err_both}
 use Rattle.pm_actions.proofs.delivering.file_and_say.Goals as goal
 
 pub returns-in_err-attempt-clause-carries : goal.returns-in_err-attempt-clause-carries
@@ -31,7 +36,52 @@ returns-clause-carries g c =
     let q = mind_of c.settle.new.process in
     let done = attempted_of c.in_ok-attempt.attempt (mind_of c.attempt.new.process) in
     let said =
-    carried (say_each q c.push_copy.new.lines.items (turn_of c.end_of-end.result q)) (after_attempt c.args.order.now.flags c.args.order.now.text.now done) _ _ _ _ _ _ (said_after c.args.order.now.flags c.args.order.now.text.now c.in_ok-attempt.attempt (mind_of c.attempt.new.process) q c.in_ok-lines.lines.items _ c.is_done.result _ c.in_ok-push_copy.ensures c.in_ok-lines.ensures c.is_done.ensures c.settle.ensures.mind (c.end_of-end.ensures q)) c.say_each.ensures.carries in (
+    carried (say_each q c.push_copy.new.lines.items (turn_of c.end_of-end.result q)) (after_attempt c.args.order.now.flags c.args.order.now.text.now done) _ _ _ _ _ _ (said_after c.args.order.now.flags c.args.order.now.text.now c.in_ok-attempt.attempt (mind_of c.attempt.new.process) q c.in_ok-lines.lines.items _ c.is_done.result _ c.in_ok-push_copy.ensures.lines c.in_ok-lines.ensures.lines c.is_done.ensures c.settle.ensures.mind (c.end_of-end.ensures q)) c.say_each.ensures.carries in (
       ok_map _ _ _ (λ end h. attempt_then c.args.order.now.flags c.args.lock c.args.order.now.text.now c.args.destinations.now p done (turn_of end q) c.args.journal.now c.attempt.new.journal c.say_each.new.journal _ _ _ c.in_ok-attempt.ensures.carries.0 h) said.0,
       err_map _ _ _ (λ h. attempt_then_out c.args.order.now.flags c.args.lock c.args.order.now.text.now c.args.destinations.now p done c.args.journal.now c.attempt.new.journal c.say_each.new.journal _ _ _ c.in_ok-attempt.ensures.carries.0 h) said.1,
     )
+
+pub returns-in_err-attempt-clause-sure : goal.returns-in_err-attempt-clause-sure
+returns-in_err-attempt-clause-sure g c =
+    on_err _ _ (attempt_sure c.args.order.now.flags c.args.journal.now c.attempt.new.journal (grown_out _ c.args.journal.now c.attempt.new.journal _ _ c.in_err-attempt.ensures.carries.1) c.in_err-attempt.ensures.untouched)
+
+pub returns-in_err-lines-clause-sure : goal.returns-in_err-lines-clause-sure
+returns-in_err-lines-clause-sure g c =
+    let flags = c.args.order.now.flags in
+    let text = c.args.order.now.text.now in
+    let done = attempted_of c.in_ok-attempt.attempt (mind_of c.attempt.new.process) in
+    let x = c.args.journal.now in
+    let y = c.attempt.new.journal in
+    let tried = c.in_ok-attempt.ensures.carries.0 in
+    let quiet = attempt_quiet flags text c.args.lock c.args.destinations.now (mind_of c.args.process.now) tried.more done tried.plays in
+    let first = attempt_lines text c.in_ok-attempt.attempt in
+    on_err _ _ (sure_told flags first x y y tried.more tried.entries quiet (calm_none flags y y refl) (λ final. told_some first c.in_err-lines.ensures.sure))
+
+pub returns-in_err-push_copy-clause-sure : goal.returns-in_err-push_copy-clause-sure
+returns-in_err-push_copy-clause-sure g c =
+    let flags = c.args.order.now.flags in
+    let text = c.args.order.now.text.now in
+    let done = attempted_of c.in_ok-attempt.attempt (mind_of c.attempt.new.process) in
+    let x = c.args.journal.now in
+    let y = c.attempt.new.journal in
+    let tried = c.in_ok-attempt.ensures.carries.0 in
+    let quiet = attempt_quiet flags text c.args.lock c.args.destinations.now (mind_of c.args.process.now) tried.more done tried.plays in
+    let first = attempt_lines text c.in_ok-attempt.attempt in
+    on_err _ _ (sure_told flags first x y y tried.more tried.entries quiet (calm_none flags y y refl) (copy_some flags first c.in_err-push_copy.ensures.sure))
+
+pub returns-clause-sure : goal.returns-clause-sure
+returns-clause-sure g c =
+    let flags = c.args.order.now.flags in
+    let text = c.args.order.now.text.now in
+    let done = attempted_of c.in_ok-attempt.attempt (mind_of c.attempt.new.process) in
+    let x = c.args.journal.now in
+    let y = c.attempt.new.journal in
+    let tried = c.in_ok-attempt.ensures.carries.0 in
+    let quiet = attempt_quiet flags text c.args.lock c.args.destinations.now (mind_of c.args.process.now) tried.more done tried.plays in
+    let first = attempt_lines text c.in_ok-attempt.attempt in
+    let q = mind_of c.settle.new.process in
+    let all = c.push_copy.new.lines.items in
+    let z = c.say_each.new.journal in
+    let same = c.in_ok-push_copy.ensures.lines ∙ ap (λ l. l ++ copy_lines c.is_done.result flags q) c.in_ok-lines.ensures.lines in
+    err_both c.say_each.result _ _ _ (λ some out. sure_told flags first x y z tried.more tried.entries quiet (calm_out flags (say_each q all (turn_of c.end_of-end.result q)) y z _ _ (calm_each flags q all (turn_of c.end_of-end.result q)) out)
+    (lines_some flags c.is_done.result q all first same some)) c.say_each.ensures.sure c.say_each.ensures.carries.1

@@ -3,7 +3,10 @@ use Rattle.pm_meaning.specs.Acting.{act_on}
 use Rattle.pm_meaning.specs.ProgramActions.{write_out}
 use Rattle.pm_meaning.specs.Minds.{mind_of}
 use Rattle.pm_actions.specs.Names.{top_of}
-use Rattle.pm_actions.proofs.DeliverLemmas.{carried, goes_on, acts_block, stores, pipes, captures, forwards, writes_out}
+use Rattle.pm_meaning.proofs.Choices.{carried}
+use Rattle.pm_actions.proofs.DeliverLemmas.{goes_on, acts_block, stores, pipes, captures, forwards, writes_out}
+use Rattle.std.proofs.Common.{OnErr, subst}
+use Rattle.pm_actions.specs.Undelivered.{Undelivered}
 use Rattle.pm_actions.proofs.delivering.perform.Goals as goal
 
 pub returns-in-Mailbox-clause-carries : goal.returns-in-Mailbox-clause-carries
@@ -51,4 +54,23 @@ returns-in-WriteOut-clause-carries g c =
 pub returns-in-Block : goal.returns-in-Block
 returns-in-Block g c =
     let p = mind_of c.args.process.now in
-    record { carries = (goes_on p _ _ _ (acts_block (top_of c.args.recipe.now) c.args.recipe.now.action _ p c.in-Block.is), tt); keeping = c.requires.keeping }
+    record { carries = (goes_on p _ _ _ (acts_block (top_of c.args.recipe.now) c.args.recipe.now.action _ p c.in-Block.is), tt); sure = tt; keeping = c.requires.keeping }
+
+pub returns-in-Mailbox-clause-sure : goal.returns-in-Mailbox-clause-sure
+returns-in-Mailbox-clause-sure g c =
+    subst (λ f. OnErr c.deliver_mail.result (Undelivered f c.args.journal.now c.deliver_mail.new.journal)) c.order_of-order.ensures.flags c.deliver_mail.ensures.sure
+
+pub returns-in-Pipe-clause-sure : goal.returns-in-Pipe-clause-sure
+returns-in-Pipe-clause-sure g c =
+    subst (λ f. OnErr c.pipe.result (Undelivered f c.args.journal.now c.pipe.new.journal)) c.order_of-order-in-Pipe.ensures.flags c.pipe.ensures.sure
+
+pub returns-in-Capture-clause-sure : goal.returns-in-Capture-clause-sure
+returns-in-Capture-clause-sure g c =
+    subst (λ f. OnErr c.capture.result (Undelivered f c.args.journal.now c.capture.new.journal)) c.order_of-order-in-Capture.ensures.flags c.capture.ensures.sure
+
+pub returns-in-Forward-clause-sure : goal.returns-in-Forward-clause-sure
+returns-in-Forward-clause-sure g c =
+    subst (λ f. OnErr c.forward.result (Undelivered f c.args.journal.now c.forward.new.journal)) c.order_of-order-in-Forward.ensures.flags c.forward.ensures.sure
+
+pub returns-in-WriteOut-clause-sure : goal.returns-in-WriteOut-clause-sure
+returns-in-WriteOut-clause-sure g c = c.write_out.ensures.sure

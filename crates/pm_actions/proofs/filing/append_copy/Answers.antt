@@ -1,12 +1,11 @@
-use Rattle.std.proofs.Common.{refl, sym, ap, ◌∙◌, subst, arith}
+use Rattle.std.proofs.Common.{refl, sym, ◌∙◌, subst, arith}
 use Rattle.pm_journal.proofs.KeepingActs.{keeping_plain}
 use Rattle.pm_journal.specs.Held.{Keeping}
 use Rattle.pm_meaning.specs.Minds.{mind_of}
 use Rattle.pm_actions.specs.Copies.{filing_of, with_kept}
-use Rattle.pm_actions.proofs.Choices.{ok_map, err_map}
+use Rattle.pm_meaning.proofs.Choices.{ok_map, err_map}
 use Rattle.pm_actions.proofs.FileLemmas.{taken_by_nothing, appended_plain, appended_plain_out}
-use Rattle.pm_actions.specs.Filing.{is_folder_there}
-use Rattle.pm_actions.proofs.FoundLemmas.{found_first}
+use Rattle.pm_actions.proofs.FoundLemmas.{met_append, met_first}
 use Rattle.pm_actions.proofs.filing.append_copy.Goals as goal
 
 pub returns-then-is_nothing-clause-carries : goal.returns-then-is_nothing-clause-carries
@@ -37,7 +36,8 @@ returns-clause-keeping g c =
     subst (λ l. Keeping c.append-end.new.journal l.names) (sym c.remember.ensures.locks)
     (keeping_plain _ _ c.args.journal.now c.args.journal.now c.append-end.new.journal _ _ _ tt c.requires.keeping refl (omega (arith, c.requires.room)) c.append-end.ensures)
 
-pub returns-then-is_folder-clause-found : goal.returns-then-is_folder-clause-found
-returns-then-is_folder-clause-found g c =
-    let there = ap is_folder_there c.append-end.ensures.reply_is ∙ (sym c.is_folder.ensures ∙ c.if-is_folder.true) in
-    err_map c.file_plain.result _ _ (λ h. found_first c.args.journal.now c.append-end.new.journal c.file_plain.new.journal c.append-end.ensures.entry h.more c.append-end.ensures.entries there h.entries) c.file_plain.ensures.carries.1
+pub returns-then-is_folder-clause-met : goal.returns-then-is_folder-clause-met
+returns-then-is_folder-clause-met g c =
+    let there = sym c.is_folder.ensures ∙ c.if-is_folder.true in
+    let met = met_append c.append-end.ensures.entry c.args.copy.name c.args.copy.piece _ c.append-end.ensures.act_is c.append-end.ensures.reply_is there in
+    err_map c.file_plain.result _ _ (λ h. met_first c.args.journal.now c.append-end.new.journal c.file_plain.new.journal c.append-end.ensures.entry h.more c.append-end.ensures.entries met h.entries) c.file_plain.ensures.carries.1

@@ -3,7 +3,7 @@ use Rattle.pm_journal.proofs.WantsMemory.{on_err}
 use Rattle.pm_meaning.specs.Minds.{mind_of}
 use Rattle.pm_actions.specs.Copies.{AllShown}
 use Rattle.pm_actions.proofs.FileLemmas.{rest_begun, copy_on, copy_stops, copy_wants, copies_over}
-use Rattle.pm_actions.proofs.FoundLemmas.{grown_none, grown_on, grown_by, grown_out, found_at, rest_none}
+use Rattle.pm_actions.proofs.FoundLemmas.{grown_none, grown_on, grown_by, grown_out, met_on}
 use Rattle.pm_actions.proofs.filing.file_each.Goals as goal
 
 pub loop-copy-init : goal.loop-copy-init
@@ -14,7 +14,6 @@ loop-copy-init g c = record {
   shown = c.requires.shown;
   locks = refl;
   grown = grown_none c.args.journal.now c.args.journal.now refl;
-  none = λ h. h;
 }
 
 pub file_copy-requires-clause-room : goal.file_copy-requires-clause-room
@@ -44,15 +43,13 @@ loop-copy-preserved g c =
       shown = (subst AllShown c.in-Some.ensures.items c.loop-copy.invariant.shown).1;
       locks = c.file_copy.ensures.locks ∙ c.loop-copy.invariant.locks;
       grown = grown_on c.args.journal.now c.loop-copy.journal c.file_copy.new.journal c.loop-copy.invariant.grown (grown_by _ _ c.loop-copy.journal c.file_copy.new.journal _ _ c.in_ok-filed.ensures.carries.0);
-      none = λ h. rest_none c.loop-copy.copies.items c.pop_front.new.self.items c.in-Some.copy c.in-Some.ensures.items (c.loop-copy.invariant.none h);
     }
 
 pub returns-clause-carries : goal.returns-clause-carries
 returns-clause-carries g c = λ ds is.
     let e : c.loop-copy.copies.items ≡ [] = search rules in (copies_over _ c.args.flags c.loop-copy.copies.items (mind_of c.loop-copy.process) _ _ _ _ (c.loop-copy.invariant.rest ds is) e, tt)
 
-pub returns-in_err-filed-clause-found : goal.returns-in_err-filed-clause-found
-returns-in_err-filed-clause-found g c =
+pub returns-in_err-filed-clause-met : goal.returns-in_err-filed-clause-met
+returns-in_err-filed-clause-met g c =
     let grown = grown_out _ c.loop-copy.journal c.file_copy.new.journal _ _ c.in_err-filed.ensures.carries.1 in
-    on_err _ _ (found_at c.args.copies.items c.loop-copy.copies.items c.pop_front.new.self.items c.in-Some.copy c.args.journal.now c.loop-copy.journal c.file_copy.new.journal c.in-Some.ensures.items c.loop-copy.invariant.grown grown
-    c.loop-copy.invariant.none c.in_err-filed.ensures.found)
+    on_err _ _ (met_on c.args.journal.now c.loop-copy.journal c.file_copy.new.journal c.loop-copy.invariant.grown grown c.in_err-filed.ensures.met)

@@ -2,7 +2,7 @@ use Rattle.std.proofs.Common.{refl, rules, sym, ◌∙◌}
 use Rattle.pm_journal.proofs.WantsMemory.{on_err, out_anywhere}
 use Rattle.pm_meaning.specs.Minds.{mind_of}
 use Rattle.pm_actions.specs.Copies.{filing_of}
-use Rattle.pm_actions.proofs.Choices.{ok_map, err_map}
+use Rattle.pm_meaning.proofs.Choices.{ok_map, err_map}
 use Rattle.pm_actions.proofs.FileLemmas.{plain_unnamed, plain_filed, plain_wants}
 use Rattle.pm_actions.proofs.filing.file_plain.Goals as goal
 

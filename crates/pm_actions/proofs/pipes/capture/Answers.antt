@@ -2,7 +2,7 @@ use Rattle.std.proofs.Common.{refl}
 use Rattle.pm_meaning.specs.Minds.{mind_of}
 use Rattle.pm_meaning.specs.ProgramActions.{Captures, capture_line}
 use Rattle.pm_actions.specs.Programs.{reading_of}
-use Rattle.pm_actions.proofs.DeliverLemmas.{carried}
+use Rattle.pm_meaning.proofs.Choices.{carried}
 use Rattle.pm_actions.proofs.PipeLemmas.{is_capture}
 use Rattle.pm_actions.proofs.pipes.capture.Goals as goal
 
@@ -14,3 +14,6 @@ returns-clause-carries g c =
     let same =
     is_capture o.flags o.lock.now o.text.now c.appended_name.result.now (Captures name) (reading_of c.line_reading-reading.result o.text.now) p name c.appended_name.ensures refl c.line_reading-reading.ensures in
     carried _ (capture_line o.flags o.lock.now name o.text.now p) _ _ _ _ _ _ same c.do_program.ensures.carries
+
+pub returns-clause-sure : goal.returns-clause-sure
+returns-clause-sure g c = c.do_program.ensures.sure

@@ -4,11 +4,13 @@ use Rattle.pm_meaning.specs.Delivering.{make_ready}
 use Rattle.pm_meaning.specs.Minds.{mind_of}
 use Rattle.pm_meaning.specs.ProgramActions.{do_program}
 use Rattle.pm_actions.specs.Errands.{task_of}
-use Rattle.pm_actions.specs.Outputs.{ready_of}
+use Rattle.pm_meaning.specs.Ready.{ready_of}
 use Rattle.pm_actions.specs.Programs.{reading_of}
-use Rattle.pm_actions.proofs.DeliverLemmas.{carried}
+use Rattle.pm_meaning.proofs.Choices.{carried}
 use Rattle.pm_actions.proofs.PipeLemmas.{with_task, task_first}
-use Rattle.pm_actions.proofs.Sequences.{then_carries, out_same}
+use Rattle.pm_meaning.proofs.Sequences.{then_carries, out_same}
+use Rattle.pm_meaning.proofs.Choices.{err_map}
+use Rattle.pm_actions.proofs.CalmLemmas.{calm_out, calm_end, calm_ready, calm_sure, sure_none, sure_after}
 use Rattle.pm_actions.proofs.pipes.do_program.Goals as goal
 
 pub returns-in_err-of_lock-clause-carries : goal.returns-in_err-of_lock-clause-carries
@@ -34,3 +36,20 @@ returns-clause-carries g c =
     carried _ (do_program t reading p) _ _ _ _ _ _ same
     (then_carries (make_ready c.as_slice.result.now c.as_slice-2.result.now p) (with_task t reading) (ready_of c.in_ok-ready.ready (mind_of c.make_ready.new.process)) _ _ _ _ _ _ _ _
     c.in_ok-ready.ensures.carries.0 c.do_ready.ensures.carries)
+
+pub returns-in_err-of_lock-clause-sure : goal.returns-in_err-of_lock-clause-sure
+returns-in_err-of_lock-clause-sure g c = on_err _ _ (sure_none c.args.task.now.flags c.args.journal.now c.args.journal.now refl)
+
+pub returns-in_err-of_text-clause-sure : goal.returns-in_err-of_text-clause-sure
+returns-in_err-of_text-clause-sure g c = on_err _ _ (sure_none c.args.task.now.flags c.args.journal.now c.args.journal.now refl)
+
+pub returns-in_err-ready-clause-sure : goal.returns-in_err-ready-clause-sure
+returns-in_err-ready-clause-sure g c =
+    let p = mind_of c.args.process.now in
+    on_err _ _ (calm_sure c.args.task.now.flags c.args.journal.now c.make_ready.new.journal (calm_out c.args.task.now.flags (make_ready c.as_slice.result.now c.as_slice-2.result.now p) c.args.journal.now c.make_ready.new.journal _ _ (calm_ready c.args.task.now.flags c.as_slice.result.now c.as_slice-2.result.now p) c.in_err-ready.ensures.carries.1))
+
+pub returns-clause-sure : goal.returns-clause-sure
+returns-clause-sure g c =
+    let p = mind_of c.args.process.now in
+    let calm = calm_end c.args.task.now.flags (make_ready c.as_slice.result.now c.as_slice-2.result.now p) (ready_of c.in_ok-ready.ready (mind_of c.make_ready.new.process)) c.args.journal.now c.make_ready.new.journal _ _ (calm_ready c.args.task.now.flags c.as_slice.result.now c.as_slice-2.result.now p) c.in_ok-ready.ensures.carries.0 in
+    err_map c.do_ready.result _ _ (sure_after c.args.task.now.flags c.args.journal.now c.make_ready.new.journal c.do_ready.new.journal calm) c.do_ready.ensures.sure

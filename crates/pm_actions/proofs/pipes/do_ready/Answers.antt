@@ -8,10 +8,12 @@ use Rattle.pm_meaning.specs.Minds.{Mind, mind_of}
 use Rattle.pm_meaning.specs.ProgramActions.{Tried, work_of, fed_piece, do_line, program_with}
 use Rattle.pm_meaning.specs.Turns.{Turn, GoesOn, say_then}
 use Rattle.pm_actions.specs.Errands.{task_of}
-use Rattle.pm_actions.specs.Outputs.{ready_of}
+use Rattle.pm_meaning.specs.Ready.{ready_of}
 use Rattle.pm_actions.specs.Programs.{reading_of}
-use Rattle.pm_actions.proofs.DeliverLemmas.{carried}
+use Rattle.pm_meaning.proofs.Choices.{carried}
 use Rattle.pm_actions.proofs.TaskLemmas.{lock_too_long, lock_worded}
+use Rattle.pm_meaning.proofs.Choices.{err_map}
+use Rattle.pm_actions.proofs.CalmLemmas.{calm_out, calm_said, calm_sure, sure_none}
 use Rattle.pm_actions.proofs.pipes.do_ready.Goals as goal
 
 pub returns-in_err-text-clause-carries : goal.returns-in_err-text-clause-carries
@@ -41,3 +43,17 @@ returns-in_ok-line-in-Word-clause-carries g c =
     let h = rw (c.in-Word.is, c.as_slice.ensures.value) at c.in_ok-text.ensures in
     let read = c.in_ok-line-in-Word.ensures ∙ ap (λ l. reading.read l p) c.as_slice-in-Word.ensures.value in
     carried (do_line t c.in-Word.word work c.in_ok-line-in-Word.line p) (program_with t reading r) _ _ _ _ _ _ (ap (λ l. do_line t c.in-Word.word work l p) read ∙ lock_worded t r.lock_outputs next c.in-Word.word p h) c.do_line.ensures.carries
+
+pub returns-in_err-text-clause-sure : goal.returns-in_err-text-clause-sure
+returns-in_err-text-clause-sure g c = on_err _ _ (sure_none c.args.task.now.flags c.args.journal.now c.args.journal.now refl)
+
+pub returns-in_err-line-in-Word-clause-sure : goal.returns-in_err-line-in-Word-clause-sure
+returns-in_err-line-in-Word-clause-sure g c = on_err _ _ (sure_none c.args.task.now.flags c.args.journal.now c.args.journal.now refl)
+
+pub returns-in-TooLong-clause-sure : goal.returns-in-TooLong-clause-sure
+returns-in-TooLong-clause-sure g c =
+    let turn = GoesOn (overflowed (mind_of c.args.process.now)) in
+    err_map c.skip_value.result _ _ (λ out. calm_sure c.args.task.now.flags c.args.journal.now c.skip_value.new.journal (calm_out c.args.task.now.flags (say_then (mind_of c.args.process.now) (value_too_long_line c.in-TooLong.length) turn) c.args.journal.now c.skip_value.new.journal _ _ (calm_said c.args.task.now.flags (mind_of c.args.process.now) _ turn) out)) c.skip_value.ensures.carries.1
+
+pub returns-in_ok-line-in-Word-clause-sure : goal.returns-in_ok-line-in-Word-clause-sure
+returns-in_ok-line-in-Word-clause-sure g c = c.do_line.ensures.sure

@@ -1,5 +1,6 @@
 use Rattle.std.proofs.Common.{◌++◌, refl, rules, ap, ◌∙◌}
 use Rattle.pm_journal.proofs.WantsMemory.{on_err, out_anywhere}
+use Rattle.pm_actions.proofs.CalmLemmas.{sure_none}
 use Rattle.pm_actions.proofs.pipes.forward.Goals as goal
 
 pub returns-in_err-destination-clause-carries : goal.returns-in_err-destination-clause-carries
@@ -10,3 +11,9 @@ returns-in_err-push_slice-clause-carries g c = (search rules, on_err _ _ (out_an
 
 pub forward_as-requires-clause-called : goal.forward_as-requires-clause-called
 forward_as-requires-clause-called g c = c.as_slice.ensures ∙ (c.in_ok-push_slice.ensures.ok ∙ ap (λ l. l ++ c.args.order.now.text.now) c.in_ok-destination.ensures)
+
+pub returns-in_err-destination-clause-sure : goal.returns-in_err-destination-clause-sure
+returns-in_err-destination-clause-sure g c = on_err _ _ (sure_none c.args.order.now.flags c.args.journal.now c.args.journal.now refl)
+
+pub returns-in_err-push_slice-clause-sure : goal.returns-in_err-push_slice-clause-sure
+returns-in_err-push_slice-clause-sure g c = on_err _ _ (sure_none c.args.order.now.flags c.args.journal.now c.args.journal.now refl)

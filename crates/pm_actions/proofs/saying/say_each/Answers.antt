@@ -2,12 +2,12 @@ use Rattle.std.proofs.Common.{rules}
 use Rattle.pm_journal.proofs.PlanLeads.{leads_itself}
 use Rattle.pm_journal.proofs.WantsMemory.{on_err}
 use Rattle.pm_meaning.specs.Minds.{mind_of}
-use Rattle.pm_actions.specs.Turning.{turn_of}
-use Rattle.pm_actions.proofs.SayingLemmas.{line_on, line_wants, lines_over}
+use Rattle.pm_meaning.specs.Turning.{turn_of}
+use Rattle.pm_actions.proofs.SayingLemmas.{line_on, line_wants, lines_over, lines_were, lines_left}
 use Rattle.pm_actions.proofs.saying.say_each.Goals as goal
 
 pub loop-line-init : goal.loop-line-init
-loop-line-init g c = record { leads = leads_itself _ _ _; keeping = c.requires.keeping }
+loop-line-init g c = record { leads = leads_itself _ _ _; keeping = c.requires.keeping; some = λ none. none }
 
 pub returns-in_err-tell-clause-carries : goal.returns-in_err-tell-clause-carries
 returns-in_err-tell-clause-carries g c =
@@ -20,9 +20,13 @@ loop-line-preserved g c =
     record {
       leads = line_on _ p c.loop-line.lines.items c.pop_front.new.self.items c.in-Some.line (turn_of c.args.end p) _ _ _ _ _ _ c.loop-line.invariant.leads c.in-Some.ensures.items c.in_ok-tell.ensures.carries.0;
       keeping = c.tell.ensures.keeping;
+      some = lines_left c.args.lines.items c.loop-line.lines.items c.pop_front.new.self.items c.in-Some.line c.loop-line.invariant.some c.in-Some.ensures.items;
     }
 
 pub returns-clause-carries : goal.returns-clause-carries
 returns-clause-carries g c =
     let p = mind_of c.args.process.now in
     (lines_over _ p c.loop-line.lines.items (turn_of c.args.end p) _ _ _ _ c.loop-line.invariant.leads (search rules), tt)
+
+pub returns-in_err-tell-clause-sure : goal.returns-in_err-tell-clause-sure
+returns-in_err-tell-clause-sure g c = on_err _ _ (lines_were c.args.lines.items c.loop-line.lines.items c.pop_front.new.self.items c.in-Some.line c.loop-line.invariant.some c.in-Some.ensures.items)

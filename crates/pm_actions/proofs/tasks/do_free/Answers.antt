@@ -2,10 +2,15 @@ use Rattle.std.proofs.Common.{rules}
 use Rattle.pm_journal.proofs.PlanLeads.{leads_to_end, leads_to_want}
 use Rattle.pm_journal.proofs.WantsMemory.{on_err}
 use Rattle.pm_meaning.specs.Minds.{mind_of}
-use Rattle.pm_meaning.specs.ProgramActions.{told_first, try_and_say}
+use Rattle.pm_meaning.specs.ProgramActions.{told_first, try_and_say, lacks_lock}
 use Rattle.pm_actions.specs.Errands.{task_of}
-use Rattle.pm_actions.specs.Turning.{turn_of}
-use Rattle.pm_actions.proofs.Choices.{ok_map, err_map}
+use Rattle.pm_meaning.specs.Turning.{turn_of}
+use Rattle.pm_meaning.proofs.Choices.{ok_map, err_map}
+use Rattle.pm_journal.specs.LogText.{no_lock_line}
+use Rattle.pm_journal.specs.Plan.{Ends, and_then}
+use Rattle.pm_meaning.specs.Logging.{log}
+use Rattle.pm_meaning.specs.Turns.{GoesOn}
+use Rattle.pm_actions.proofs.CalmLemmas.{calm_if, calm_said, calm_out, calm_lead, calm_sure, sure_after}
 use Rattle.pm_actions.proofs.tasks.do_free.Goals as goal
 
 pub returns-in_err-tell_first-clause-carries : goal.returns-in_err-tell_first-clause-carries
@@ -25,3 +30,21 @@ returns-clause-carries g c =
       ok_map _ _ _ (λ end h. leads_to_end whole next (turn_of end q) c.args.journal.now c.tell_first.new.journal c.try_and_say.new.journal _ _ _ leads h) said.0,
       err_map _ _ _ (λ h. leads_to_want whole next c.args.journal.now c.tell_first.new.journal c.try_and_say.new.journal _ _ _ leads h) said.1,
     )
+
+pub returns-in_err-tell_first-clause-sure : goal.returns-in_err-tell_first-clause-sure
+returns-in_err-tell_first-clause-sure g c =
+    let t = task_of c.args.task.now in
+    let p = mind_of c.args.process.now in
+    let flags = c.args.task.now.flags in
+    let whole = told_first t p (Ends (GoesOn p)) in
+    let calm = calm_if flags (lacks_lock t) (and_then (log (no_lock_line t.text) p) (λ done. Ends (GoesOn p))) (Ends (GoesOn p)) (calm_said flags p (no_lock_line t.text) (GoesOn p)) tt in
+    λ work is. on_err _ _ (calm_sure flags c.args.journal.now c.tell_first.new.journal (calm_out flags whole c.args.journal.now c.tell_first.new.journal _ _ calm (c.in_err-tell_first.ensures.memory (Ends (GoesOn p)))))
+
+pub returns-clause-sure : goal.returns-clause-sure
+returns-clause-sure g c =
+    let t = task_of c.args.task.now in
+    let p = mind_of c.args.process.now in
+    let flags = c.args.task.now.flags in
+    let whole = told_first t p (Ends (GoesOn p)) in
+    let calm = calm_if flags (lacks_lock t) (and_then (log (no_lock_line t.text) p) (λ done. Ends (GoesOn p))) (Ends (GoesOn p)) (calm_said flags p (no_lock_line t.text) (GoesOn p)) tt in
+    λ work is. err_map c.try_and_say.result _ _ (sure_after flags c.args.journal.now c.tell_first.new.journal c.try_and_say.new.journal (calm_lead flags whole (GoesOn p) c.args.journal.now c.tell_first.new.journal _ _ calm (c.in_ok-tell_first.ensures.told (Ends (GoesOn p))))) (c.try_and_say.ensures.sure work is)

@@ -9,8 +9,10 @@ use Rattle.pm_meaning.specs.ProgramActions.{Tried, work_of, fed_piece, do_named,
 use Rattle.pm_meaning.specs.Turns.{GoesOn, say_then, refuse_name}
 use Rattle.pm_meaning.specs.declared.process.ProgramLine.TheVariants.{Runs, NoWords, Unusable, TooLong}
 use Rattle.pm_actions.specs.Errands.{task_of}
-use Rattle.pm_actions.proofs.DeliverLemmas.{carried}
+use Rattle.pm_meaning.proofs.Choices.{carried}
 use Rattle.pm_actions.proofs.TaskLemmas.{read_so}
+use Rattle.pm_meaning.proofs.Choices.{err_map}
+use Rattle.pm_actions.proofs.CalmLemmas.{calm_out, calm_said, calm_sure, sure_none}
 use Rattle.pm_actions.proofs.tasks.do_line.Goals as goal
 
 pub returns-in_err-errand-in-Runs-clause-carries : goal.returns-in_err-errand-in-Runs-clause-carries
@@ -46,3 +48,26 @@ returns-in-TooLong-clause-carries g c =
     let work : Command → Mind → Plan Tried = work_of t.purpose t.flags (fed_piece t.flags p) in
     carried (say_then p (value_too_long_line c.in-TooLong.length) (GoesOn (overflowed p))) (do_line t c.args.word work c.args.line p) _ _ _ _ _ _
     (read_so t c.args.word work (TooLong c.in-TooLong.length) c.args.line p c.in-TooLong.is) c.skip_value.ensures.carries
+
+pub returns-in_err-errand-in-Runs-clause-sure : goal.returns-in_err-errand-in-Runs-clause-sure
+returns-in_err-errand-in-Runs-clause-sure g c = on_err _ _ (sure_none c.args.task.now.flags c.args.journal.now c.args.journal.now refl)
+
+pub returns-in_ok-errand-in-Runs-clause-sure : goal.returns-in_ok-errand-in-Runs-clause-sure
+returns-in_ok-errand-in-Runs-clause-sure g c =
+    let t = task_of c.args.task.now in
+    let p = mind_of c.args.process.now in
+    let work : Command → Mind → Plan Tried = work_of t.purpose t.flags (fed_piece t.flags p) in
+    c.do_named.ensures.sure (work c.in-Runs.command) c.in_ok-errand-in-Runs.ensures
+
+pub returns-in-NoWords-clause-sure : goal.returns-in-NoWords-clause-sure
+returns-in-NoWords-clause-sure g c =
+    err_map c.refuse.result _ _ (λ out. calm_sure c.args.task.now.flags c.args.journal.now c.refuse.new.journal (calm_out c.args.task.now.flags (refuse_name c.args.task.now.text.now (mind_of c.args.process.now)) c.args.journal.now c.refuse.new.journal _ _ (calm_said c.args.task.now.flags (mind_of c.args.process.now) _ (GoesOn (mind_of c.args.process.now))) out)) c.refuse.ensures.carries.1
+
+pub returns-in-Unusable-clause-sure : goal.returns-in-Unusable-clause-sure
+returns-in-Unusable-clause-sure g c =
+    err_map c.refuse_line.result _ _ (λ out. calm_sure c.args.task.now.flags c.args.journal.now c.refuse_line.new.journal (calm_out c.args.task.now.flags (refuse_name (unusable_text (task_of c.args.task.now) c.args.word) (mind_of c.args.process.now)) c.args.journal.now c.refuse_line.new.journal _ _ (calm_said c.args.task.now.flags (mind_of c.args.process.now) _ (GoesOn (mind_of c.args.process.now))) out)) c.refuse_line.ensures.carries.1
+
+pub returns-in-TooLong-clause-sure : goal.returns-in-TooLong-clause-sure
+returns-in-TooLong-clause-sure g c =
+    let turn = GoesOn (overflowed (mind_of c.args.process.now)) in
+    err_map c.skip_value.result _ _ (λ out. calm_sure c.args.task.now.flags c.args.journal.now c.skip_value.new.journal (calm_out c.args.task.now.flags (say_then (mind_of c.args.process.now) (value_too_long_line c.in-TooLong.length) turn) c.args.journal.now c.skip_value.new.journal _ _ (calm_said c.args.task.now.flags (mind_of c.args.process.now) _ turn) out)) c.skip_value.ensures.carries.1

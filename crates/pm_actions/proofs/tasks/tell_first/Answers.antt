@@ -2,7 +2,7 @@ use Rattle.std.proofs.Common.{refl, sym, ◌∙◌}
 use Rattle.pm_journal.proofs.WantsMemory.{on_err, out_anywhere}
 use Rattle.pm_meaning.specs.Minds.{mind_of}
 use Rattle.pm_actions.specs.Errands.{task_of}
-use Rattle.pm_actions.proofs.Choices.{ok_map, err_map}
+use Rattle.pm_meaning.proofs.Choices.{ok_map, err_map}
 use Rattle.pm_actions.proofs.TaskLemmas.{was_told, wasnt_told, needs_no_line}
 use Rattle.pm_actions.proofs.tasks.tell_first.Goals as goal
 

@@ -2,7 +2,7 @@ use Rattle.pm_meaning.specs.Minds.{mind_of}
 use Rattle.std.proofs.Common.{refl, rules, sym, ◌∙◌, w64}
 use Rattle.std.proofs.Math.Facts.{to_z-of_z}
 use Rattle.pm_journal.proofs.WantsMemory.{on_err, out_anywhere}
-use Rattle.pm_actions.proofs.Choices.{ok_map}
+use Rattle.pm_meaning.proofs.Choices.{ok_map}
 use Rattle.pm_run.proofs.ArriveLemmas.{arrived_whole, arrived_dated, dating_wants, dated_then_wants}
 use Rattle.pm_run.proofs.arriving.arrive.Goals as goal
 

@@ -4,7 +4,7 @@ use Rattle.pm_meaning.specs.FirstValues.{home_folder}
 use Rattle.pm_meaning.specs.Minds.{mind_of}
 use Rattle.pm_meaning.specs.Running.{home_by, rcfiles_of, sets_folder}
 use Rattle.pm_meaning.specs.declared.command_line.CommandLine.{CommandLine}
-use Rattle.pm_actions.proofs.Choices.{ok_map, err_map}
+use Rattle.pm_meaning.proofs.Choices.{ok_map, err_map}
 use Rattle.pm_run.proofs.ArriveLemmas.{begins_opening, begins_wanting, words_want}
 use Rattle.pm_run.proofs.arriving.begin_rcfiles.Goals as goal
 

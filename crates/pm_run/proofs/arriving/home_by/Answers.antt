@@ -1,6 +1,6 @@
 use Rattle.std.proofs.Common.{refl}
 use Rattle.std.proofs.lemmas.List.{at_drop_all}
-use Rattle.pm_actions.proofs.FileLemmas.{front_of_rest}
+use Rattle.pm_meaning.proofs.Sequences.{front_of_rest}
 use Rattle.pm_run.proofs.ArriveLemmas.{home_step, home_over}
 use Rattle.pm_run.proofs.arriving.home_by.Goals as goal
 

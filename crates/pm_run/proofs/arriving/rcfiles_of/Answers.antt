@@ -1,8 +1,8 @@
 use Rattle.std.proofs.Common.{◌∙◌, sym, rules}
 use Rattle.std.proofs.lemmas.List.{at_drop_all}
 use Rattle.pm_meaning.specs.Running.{named_rcfile}
-use Rattle.pm_actions.proofs.Choices.{ok_map}
-use Rattle.pm_actions.proofs.FileLemmas.{front_of_rest}
+use Rattle.pm_meaning.proofs.Choices.{ok_map}
+use Rattle.pm_meaning.proofs.Sequences.{front_of_rest}
 use Rattle.pm_run.proofs.ArriveLemmas.{rcfile_implied, rcfiles_named, words_named, word_named}
 use Rattle.pm_run.proofs.arriving.rcfiles_of.Goals as goal
 

@@ -2,7 +2,7 @@ use Rattle.std.proofs.Common.{◌≡◌, ◌∙◌, refl, sym, ap, rules}
 use Rattle.std.specs.Prelude.{bytes_eq, codes, ◌||◌}
 use Rattle.pm_journal.proofs.WantsMemory.{on_err, out_anywhere}
 use Rattle.pm_meaning.specs.Minds.{mind_of}
-use Rattle.pm_actions.proofs.Choices.{ok_map, err_map}
+use Rattle.pm_meaning.proofs.Choices.{ok_map, err_map}
 use Rattle.pm_run.proofs.ArriveLemmas.{is_rcfile, word_skipped, word_host, word_assigned, word_out, host_set}
 use Rattle.pm_run.proofs.arriving.set_by_word.Goals as goal
 

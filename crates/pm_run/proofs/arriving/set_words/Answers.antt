@@ -5,7 +5,7 @@ use Rattle.pm_journal.proofs.WantsMemory.{on_err}
 use Rattle.pm_meaning.specs.Minds.{mind_of}
 use Rattle.pm_meaning.specs.Running.{step}
 use Rattle.pm_meaning.specs.declared.command_line.CommandLine.{CommandLine}
-use Rattle.pm_actions.proofs.FileLemmas.{front_of_rest}
+use Rattle.pm_meaning.proofs.Sequences.{front_of_rest}
 use Rattle.pm_run.proofs.ArriveLemmas.{word_set, word_wants, words_set}
 use Rattle.pm_run.proofs.arriving.set_words.Goals as goal
 

@@ -5,7 +5,7 @@ use Rattle.pm_meaning.specs.Assigning.{first_word, assign_with}
 use Rattle.pm_meaning.specs.Changes.{overflowed}
 use Rattle.pm_meaning.specs.Minds.{mind_of}
 use Rattle.pm_meaning.specs.Turns.{GoesOn, say_then}
-use Rattle.pm_actions.proofs.DeliverLemmas.{carried}
+use Rattle.pm_meaning.proofs.Choices.{carried}
 use Rattle.pm_run.proofs.AssignLemmas.{value_assigned, value_skipped}
 use Rattle.pm_run.proofs.assigning.assign_expanded.Goals as goal
 

@@ -5,8 +5,8 @@ use Rattle.pm_subst.specs.declared.kinds.Mode.TheVariants.{One}
 use Rattle.pm_meaning.specs.Assigning.{assign_with}
 use Rattle.pm_meaning.specs.Minds.{mind_of}
 use Rattle.pm_meaning.specs.Outputs.{outputs_with, outputs_of}
-use Rattle.pm_actions.proofs.DeliverLemmas.{carried}
-use Rattle.pm_actions.proofs.Sequences.{then_carries}
+use Rattle.pm_meaning.proofs.Choices.{carried}
+use Rattle.pm_meaning.proofs.Sequences.{then_carries}
 use Rattle.pm_run.proofs.AssignLemmas.{given}
 use Rattle.pm_run.proofs.assigning.assign_text.Goals as goal
 

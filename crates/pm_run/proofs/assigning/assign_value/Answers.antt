@@ -2,8 +2,8 @@ use Rattle.std.proofs.Common.{rules, refl, sym, ◌∙◌, ap}
 use Rattle.pm_journal.proofs.WantsMemory.{on_err, out_anywhere}
 use Rattle.pm_meaning.specs.Assigning.{assigned}
 use Rattle.pm_meaning.specs.Minds.{mind_of}
-use Rattle.pm_actions.proofs.DeliverLemmas.{carried}
-use Rattle.pm_actions.proofs.SkipLemmas.{set_then}
+use Rattle.pm_meaning.proofs.Choices.{carried}
+use Rattle.pm_meaning.proofs.SkipLemmas.{set_then}
 use Rattle.pm_run.proofs.AssignLemmas.{folder_changed, lock_changed, set_otherwise}
 use Rattle.pm_run.proofs.assigning.assign_value.Goals as goal
 

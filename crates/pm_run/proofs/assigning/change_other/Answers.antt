@@ -2,7 +2,7 @@ use Rattle.std.proofs.Common.{sym, ◌∙◌}
 use Rattle.pm_meaning.specs.Assigning.{change_other}
 use Rattle.pm_meaning.specs.Minds.{mind_of}
 use Rattle.pm_meaning.specs.Turns.{GoesOn}
-use Rattle.pm_actions.proofs.DeliverLemmas.{carried}
+use Rattle.pm_meaning.proofs.Choices.{carried}
 use Rattle.pm_run.proofs.AssignLemmas.{ended, logging, shifting, neither}
 use Rattle.pm_run.proofs.assigning.change_other.Goals as goal
 

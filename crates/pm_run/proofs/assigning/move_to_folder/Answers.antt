@@ -1,7 +1,7 @@
 use Rattle.pm_meaning.specs.Minds.{mind_of}
 use Rattle.std.proofs.Common.{rules, refl, sym, ◌∙◌}
 use Rattle.pm_journal.proofs.WantsMemory.{on_err, out_anywhere}
-use Rattle.pm_actions.proofs.Choices.{ok_map, err_map}
+use Rattle.pm_meaning.proofs.Choices.{ok_map, err_map}
 use Rattle.pm_run.proofs.AssignLemmas.{changed, changed_out, unusable_told, unusable_out}
 use Rattle.pm_run.proofs.assigning.move_to_folder.Goals as goal
 

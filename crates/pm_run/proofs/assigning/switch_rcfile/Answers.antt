@@ -4,7 +4,7 @@ use Rattle.pm_journal.proofs.WantsMemory.{on_err, out_anywhere}
 use Rattle.pm_meaning.specs.Assigning.{switch_rcfile}
 use Rattle.pm_meaning.specs.Minds.{mind_of}
 use Rattle.pm_meaning.specs.Turns.{Turn, Switches, EndsFile}
-use Rattle.pm_actions.proofs.DeliverLemmas.{carried}
+use Rattle.pm_meaning.proofs.Choices.{carried}
 use Rattle.pm_run.proofs.AssignLemmas.{ended, named_nothing, named_so, named_badly}
 use Rattle.pm_run.proofs.assigning.switch_rcfile.Goals as goal
 

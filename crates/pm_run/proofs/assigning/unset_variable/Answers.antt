@@ -3,7 +3,7 @@ use Rattle.pm_meaning.specs.Assigning.{unset}
 use Rattle.pm_meaning.specs.GlobalLock.{drop_lock}
 use Rattle.pm_meaning.specs.Minds.{mind_of}
 use Rattle.pm_meaning.specs.Turns.{GoesOn, EndsFile}
-use Rattle.pm_actions.proofs.DeliverLemmas.{carried}
+use Rattle.pm_meaning.proofs.Choices.{carried}
 use Rattle.pm_run.proofs.AssignLemmas.{ended, switch_unset, lock_unset, unset_plainly}
 use Rattle.pm_run.proofs.assigning.unset_variable.Goals as goal
 

@@ -4,7 +4,7 @@ use Rattle.pm_journal.specs.Walking.{Next, Go}
 use Rattle.pm_journal.proofs.WantsMemory.{on_err, out_anywhere}
 use Rattle.pm_meaning.specs.Minds.{mind_of}
 use Rattle.pm_meaning.specs.Running.{State, Event, Running, Refusing, step}
-use Rattle.pm_actions.proofs.Choices.{ok_map, err_map, line_told, line_out}
+use Rattle.pm_meaning.proofs.Choices.{ok_map, err_map, line_told, line_out}
 use Rattle.pm_run.proofs.cloning.refuse_clone.Goals as goal
 
 pub returns-in_err-line-clause-carries : goal.returns-in_err-line-clause-carries

@@ -2,7 +2,7 @@ use Rattle.std.proofs.Common.{refl, sym, ◌∙◌}
 use Rattle.pm_meaning.specs.Ends.{tell_delivery}
 use Rattle.pm_meaning.specs.Abstracts.{abstract_of}
 use Rattle.pm_meaning.specs.Minds.{mind_of}
-use Rattle.pm_actions.proofs.DeliverLemmas.{carried}
+use Rattle.pm_meaning.proofs.Choices.{carried}
 use Rattle.pm_run.proofs.EndLemmas.{untold, abstract_told}
 use Rattle.pm_run.proofs.ends.tell_delivery.Goals as goal
 

@@ -5,8 +5,8 @@ use Rattle.pm_journal.proofs.WantsMemory.{on_err, out_anywhere}
 use Rattle.pm_meaning.specs.Ends.{trapped_with}
 use Rattle.pm_meaning.specs.Changes.{overflowed}
 use Rattle.pm_meaning.specs.Minds.{mind_of}
-use Rattle.pm_actions.proofs.Choices.{line_out, line_then_out}
-use Rattle.pm_actions.proofs.SkipLemmas.{set_copy}
+use Rattle.pm_meaning.proofs.Choices.{line_out, line_then_out}
+use Rattle.pm_meaning.proofs.SkipLemmas.{set_copy}
 use Rattle.pm_run.proofs.EndLemmas.{long_told}
 use Rattle.pm_run.proofs.ends.tell_long.Goals as goal
 

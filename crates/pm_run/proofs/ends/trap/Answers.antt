@@ -2,7 +2,7 @@ use Rattle.std.proofs.Common.{rules, refl, sym, ◌∙◌}
 use Rattle.pm_journal.proofs.WantsMemory.{on_err, out_anywhere}
 use Rattle.pm_meaning.specs.Ends.{trap}
 use Rattle.pm_meaning.specs.Minds.{mind_of}
-use Rattle.pm_actions.proofs.DeliverLemmas.{carried}
+use Rattle.pm_meaning.proofs.Choices.{carried}
 use Rattle.pm_run.proofs.EndLemmas.{not_trapped, trap_runs}
 use Rattle.pm_run.proofs.ends.trap.Goals as goal
 

@@ -2,7 +2,7 @@ use Rattle.std.proofs.Common.{rules}
 use Rattle.pm_journal.proofs.WantsMemory.{on_err, out_front}
 use Rattle.pm_meaning.specs.Minds.{mind_of}
 use Rattle.pm_meaning.specs.Outputs.{read_with, read_line}
-use Rattle.pm_actions.proofs.Sequences.{then_carries}
+use Rattle.pm_meaning.proofs.Sequences.{then_carries}
 use Rattle.pm_run.proofs.EndLemmas.{by_read}
 use Rattle.pm_run.proofs.ends.trap_line.Goals as goal
 

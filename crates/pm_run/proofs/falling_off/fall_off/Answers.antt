@@ -3,7 +3,7 @@ use Rattle.pm_journal.proofs.WalkJoin.{reaches_after, interrupted_at_once, inter
 use Rattle.pm_journal.proofs.WantsMemory.{on_err, out_anywhere}
 use Rattle.pm_meaning.specs.Minds.{mind_of}
 use Rattle.pm_meaning.specs.Running.{Running, FallingOff, Over, step}
-use Rattle.pm_actions.proofs.Choices.{ok_map, err_map}
+use Rattle.pm_meaning.proofs.Choices.{ok_map, err_map}
 use Rattle.pm_run.proofs.FallLemmas.{falls}
 use Rattle.pm_run.proofs.falling_off.fall_off.Goals as goal
 
@@ -17,7 +17,7 @@ returns-clause-walks g c =
     let p = mind_of c.args.process.now in
     let start = Running [] p in
     let left = FallingOff c.in_ok-mailboxes.mailboxes.items p in
-    let fell = falls p c.in_ok-mailboxes.mailboxes.items c.args.journal.now (g.D.Outside.told c.args.outside.now) c.in_ok-mailboxes.ensures in (
+    let fell = falls p c.in_ok-mailboxes.mailboxes.items c.args.journal.now (g.D.Asks.told c.args.outside.now) c.in_ok-mailboxes.ensures in (
       ok_map _ _ _ (λ end h. reaches_after step start left (Over end (mind_of c.try_each.new.process)) c.args.journal.now c.args.journal.now c.try_each.new.journal _ _ _ fell h) c.try_each.ensures.walks.0,
       err_map _ _ _ (λ h. interrupted_after step start left c.args.journal.now c.args.journal.now c.try_each.new.journal _ _ _ fell h) c.try_each.ensures.walks.1,
     )

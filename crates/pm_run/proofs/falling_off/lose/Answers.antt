@@ -5,7 +5,7 @@ use Rattle.pm_journal.proofs.WantsMemory.{on_err, out_anywhere}
 use Rattle.pm_meaning.specs.Minds.{mind_of}
 use Rattle.pm_meaning.specs.Running.{State, Event, FallingOff, Over, step}
 use Rattle.pm_meaning.specs.declared.process.End.TheVariants.{FellOff}
-use Rattle.pm_actions.proofs.Choices.{line_told, line_out}
+use Rattle.pm_meaning.proofs.Choices.{line_told, line_out}
 use Rattle.pm_run.proofs.falling_off.lose.Goals as goal
 
 pub returns-in_err-line-clause-carries : goal.returns-in_err-line-clause-carries

@@ -3,7 +3,7 @@ use Rattle.pm_journal.proofs.WalkJoin.{reaches_itself}
 use Rattle.pm_journal.proofs.WantsMemory.{on_err}
 use Rattle.pm_meaning.specs.Minds.{mind_of}
 use Rattle.pm_meaning.specs.Running.{FallingOff, step}
-use Rattle.pm_actions.proofs.Choices.{ok_map, err_map}
+use Rattle.pm_meaning.proofs.Choices.{ok_map, err_map}
 use Rattle.pm_run.proofs.FallLemmas.{mailbox_on, mailbox_ends, mailbox_wants, none_on, none_wants}
 use Rattle.pm_run.proofs.falling_off.try_each.Goals as goal
 

@@ -1,7 +1,7 @@
 use Rattle.std.proofs.Common.{sym, ap, ◌∙◌}
 use Rattle.std.specs.Prelude.{bytes_eq}
 use Rattle.pm_run.proofs.EnvironmentLemmas.{found_first, missed_first}
-use Rattle.pm_actions.proofs.FileLemmas.{front_of_rest}
+use Rattle.pm_meaning.proofs.Sequences.{front_of_rest}
 use Rattle.pm_run.proofs.first_values.value_in_environment.Goals as goal
 
 pub returns-then-eq : goal.returns-then-eq

@@ -3,7 +3,7 @@ use Rattle.pm_journal.specs.Locking.{lock_reply}
 use Rattle.pm_journal.proofs.WantsMemory.{on_err, out_anywhere}
 use Rattle.pm_meaning.specs.Blocks.{got_block_lock}
 use Rattle.pm_meaning.specs.Minds.{mind_of}
-use Rattle.pm_actions.proofs.DeliverLemmas.{carried}
+use Rattle.pm_meaning.proofs.Choices.{carried}
 use Rattle.pm_run.proofs.GateLemmas.{lock_then, got_held, held_mind, got_none}
 use Rattle.pm_run.proofs.gates.ask_lock.Goals as goal
 

@@ -6,7 +6,7 @@ use Rattle.pm_meaning.specs.Blocks.{lock_block, enter_with}
 use Rattle.pm_meaning.specs.Changes.{overflowed}
 use Rattle.pm_meaning.specs.Minds.{mind_of}
 use Rattle.pm_meaning.specs.Turns.{GoesOn, say_then}
-use Rattle.pm_actions.proofs.DeliverLemmas.{carried}
+use Rattle.pm_meaning.proofs.Choices.{carried}
 use Rattle.pm_run.proofs.GateLemmas.{text_long, text_value, gate_of_end, gate_out}
 use Rattle.pm_run.proofs.gates.enter_expanded.Goals as goal
 

@@ -9,9 +9,9 @@ use Rattle.pm_meaning.specs.Minds.{mind_of}
 use Rattle.pm_meaning.specs.Outputs.{outputs_with, outputs_of}
 use Rattle.pm_meaning.specs.Texts.{is_empty}
 use Rattle.pm_meaning.specs.Turns.{Enters}
-use Rattle.pm_actions.proofs.Choices.{line_told, line_out}
-use Rattle.pm_actions.proofs.DeliverLemmas.{carried}
-use Rattle.pm_actions.proofs.Sequences.{then_carries}
+use Rattle.pm_meaning.proofs.Choices.{line_told, line_out}
+use Rattle.pm_meaning.proofs.Choices.{carried}
+use Rattle.pm_meaning.proofs.Sequences.{then_carries}
 use Rattle.pm_run.proofs.GateLemmas.{locks_with, no_text, text_runs, gate_in, gate_out}
 use Rattle.pm_run.proofs.gates.enter_under.Goals as goal
 

@@ -6,7 +6,7 @@ use Rattle.pm_journal.proofs.WantsMemory.{on_err, out_anywhere}
 use Rattle.pm_meaning.specs.Blocks.{got_block_lock, lock_block}
 use Rattle.pm_meaning.specs.Locks.{rule_of}
 use Rattle.pm_meaning.specs.Minds.{mind_of}
-use Rattle.pm_actions.proofs.DeliverLemmas.{carried}
+use Rattle.pm_meaning.proofs.Choices.{carried}
 use Rattle.pm_run.proofs.AssignLemmas.{usable_then}
 use Rattle.pm_run.proofs.GateLemmas.{is_held, is_free, gate_of_end, gate_out}
 use Rattle.pm_run.proofs.gates.lock_block.Goals as goal

@@ -5,7 +5,7 @@ use Rattle.pm_journal.specs.Plan.{Ends}
 use Rattle.pm_journal.proofs.WantsMemory.{on_err, out_anywhere, executes_nothing}
 use Rattle.pm_meaning.specs.Minds.{mind_of}
 use Rattle.pm_meaning.specs.Turns.{Enters, say_then}
-use Rattle.pm_actions.proofs.Choices.{then_out, choose_then, choose_else, line_told, line_out}
+use Rattle.pm_meaning.proofs.Choices.{then_out, choose_then, choose_else, line_told, line_out}
 use Rattle.pm_run.proofs.gates.tell_forced.Goals as goal
 
 pub returns-in_err-line-clause-carries : goal.returns-in_err-line-clause-carries

@@ -3,7 +3,7 @@ use Rattle.pm_journal.specs.Locking.{lock_reply}
 use Rattle.pm_journal.proofs.WantsMemory.{on_err, out_anywhere}
 use Rattle.pm_meaning.specs.GlobalLock.{got_lock}
 use Rattle.pm_meaning.specs.Minds.{mind_of}
-use Rattle.pm_actions.proofs.DeliverLemmas.{carried}
+use Rattle.pm_meaning.proofs.Choices.{carried}
 use Rattle.pm_run.proofs.GlobalLemmas.{lock_then, got_held, global_mind, got_none}
 use Rattle.pm_run.proofs.global_lock.ask_lock.Goals as goal
 

@@ -4,7 +4,7 @@ use Rattle.pm_journal.proofs.WantsMemory.{on_err, out_anywhere}
 use Rattle.pm_meaning.specs.GlobalLock.{give_named, take_lock, change_lock}
 use Rattle.pm_meaning.specs.Minds.{mind_of}
 use Rattle.pm_meaning.specs.Texts.{is_empty}
-use Rattle.pm_actions.proofs.DeliverLemmas.{carried}
+use Rattle.pm_meaning.proofs.Choices.{carried}
 use Rattle.pm_run.proofs.AssignLemmas.{usable_then}
 use Rattle.pm_run.proofs.GlobalLemmas.{named_value, given_out, given_then}
 use Rattle.pm_run.proofs.global_lock.change_lock.Goals as goal

@@ -3,7 +3,7 @@ use Rattle.pm_journal.specs.LogText.{couldnt_lock_line}
 use Rattle.pm_journal.proofs.WantsMemory.{on_err, out_anywhere}
 use Rattle.pm_meaning.specs.Minds.{mind_of}
 use Rattle.pm_meaning.specs.Turns.{GoesOn}
-use Rattle.pm_actions.proofs.Choices.{line_told, line_out}
+use Rattle.pm_meaning.proofs.Choices.{line_told, line_out}
 use Rattle.pm_run.proofs.global_lock.tell_not_got.Goals as goal
 
 pub returns-in_err-line-clause-carries : goal.returns-in_err-line-clause-carries

@@ -1,5 +1,5 @@
 use Rattle.std.proofs.Common.{inl, inr, refl}
-use Rattle.pm_meaning.specs.declared.question.Verdict.TheVariants.{Matched, Unmatched}
+use Rattle.pm_meaning.specs.declared.question.Judgement.TheVariants.{Matched, Unmatched}
 use Rattle.pm_meaning.specs.Minds.{mind_of}
 use Rattle.pm_meaning.specs.Turns.{GoesOn}
 use Rattle.pm_run.proofs.JudgeLemmas.{told_as}

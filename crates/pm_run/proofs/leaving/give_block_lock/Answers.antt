@@ -4,7 +4,7 @@ use Rattle.pm_journal.specs.declared.acts.Act.TheVariants.{Unlock}
 use Rattle.pm_meaning.specs.Blocks.{without_lock, give_block_lock}
 use Rattle.pm_meaning.specs.GlobalLock.{after_giving}
 use Rattle.pm_meaning.specs.Minds.{mind_of}
-use Rattle.pm_actions.proofs.DeliverLemmas.{carried}
+use Rattle.pm_meaning.proofs.Choices.{carried}
 use Rattle.pm_run.proofs.LeaveLemmas.{free_given, held_given}
 use Rattle.pm_run.proofs.leaving.give_block_lock.Goals as goal
 

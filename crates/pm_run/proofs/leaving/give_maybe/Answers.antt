@@ -1,6 +1,6 @@
 use Rattle.pm_meaning.specs.Blocks.{give_block_lock, give_maybe}
 use Rattle.pm_meaning.specs.Minds.{mind_of}
-use Rattle.pm_actions.proofs.DeliverLemmas.{carried}
+use Rattle.pm_meaning.proofs.Choices.{carried}
 use Rattle.pm_run.proofs.LeaveLemmas.{none_given, named_given}
 use Rattle.pm_run.proofs.leaving.give_maybe.Goals as goal
 

@@ -9,7 +9,7 @@ use Rattle.pm_run.proofs.leaving.leave_file.Given as goal
 abbrev pub invariant-loop-open : goal.invariant-loop-open
 invariant-loop-open g l = record {
   reaches : (items : List Item) → Reaches {X = Event} step (LeavingFile (block_locks l.fn.blocks.items) items (mind_of l.fn.process)) (LeavingFile (block_locks l.blocks.items) items (mind_of l.process))
-      l.fn.journal l.journal (g.D.Outside.told l.fn.outside) (g.D.Outside.told l.outside);
+      l.fn.journal l.journal (g.D.Asks.told l.fn.outside) (g.D.Asks.told l.outside);
   keeping : Keeping l.journal l.process.locks.names;
   count : l.process.openings ≡ l.fn.process.openings;
 }

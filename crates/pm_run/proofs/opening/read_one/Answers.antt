@@ -1,6 +1,6 @@
 use Rattle.pm_journal.proofs.WantsMemory.{on_err}
 use Rattle.pm_meaning.specs.Minds.{mind_of}
-use Rattle.pm_actions.proofs.Choices.{ok_map, err_map}
+use Rattle.pm_meaning.proofs.Choices.{ok_map, err_map}
 use Rattle.pm_run.specs.Ends.{rule_of_opening}
 use Rattle.pm_run.proofs.OpeningLemmas.{reads_code, read_then_wants, reads_none, reads_none_out, reading_out, reading_wants_first}
 use Rattle.pm_run.proofs.opening.read_one.Goals as goal

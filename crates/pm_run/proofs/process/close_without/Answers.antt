@@ -2,7 +2,7 @@ use Rattle.std.proofs.Common.{[], rules}
 use Rattle.pm_journal.proofs.WalkJoin.{interrupted_reached}
 use Rattle.pm_meaning.specs.Minds.{mind_of}
 use Rattle.pm_meaning.specs.Running.{Running, Over, Closing, step}
-use Rattle.pm_actions.proofs.Choices.{ok_map, err_map}
+use Rattle.pm_meaning.proofs.Choices.{ok_map, err_map}
 use Rattle.pm_run.proofs.RunLemmas.{reaches_on}
 use Rattle.pm_run.proofs.process.close_without.Goals as goal
 

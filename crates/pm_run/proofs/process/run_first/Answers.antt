@@ -6,7 +6,7 @@ use Rattle.pm_meaning.specs.FirstValues.{home_folder}
 use Rattle.pm_meaning.specs.Minds.{mind_of}
 use Rattle.pm_meaning.specs.Courses.{now_at, advance}
 use Rattle.pm_meaning.specs.Running.{Event, Setting, Running, Over, Closing, home_by, step}
-use Rattle.pm_actions.proofs.Choices.{ok_map, err_map}
+use Rattle.pm_meaning.proofs.Choices.{ok_map, err_map}
 use Rattle.pm_run.specs.Copies.{others_of}
 use Rattle.pm_run.specs.Frames.{items_of}
 use Rattle.pm_run.proofs.RunLemmas.{reaches_on, lifted, lifted_out, runs_walk, runs_out}
@@ -28,9 +28,9 @@ returns-in-Read-clause-proceeds g c =
     let p = mind_of c.begin_rcfiles.new.process in
     let left = Running (items_of c.begin_frame-frame.result) p in
     let items = c.begin_frame-frame.ensures.whole opens.trees opens.is_code in
-    let reaches : Reaches {X = Event} step start left c.args.journal.now c.begin_rcfiles.new.journal (g.D.Outside.told c.args.outside.now) (g.D.Outside.told c.begin_rcfiles.new.outside) =
-    subst (λ l. Reaches {X = Event} step start (Running l p) c.args.journal.now c.begin_rcfiles.new.journal (g.D.Outside.told c.args.outside.now) (g.D.Outside.told c.begin_rcfiles.new.outside)) (sym items) opens.reaches in
-    let runs = lifted queue start left c.args.journal.now c.begin_rcfiles.new.journal (g.D.Outside.told c.args.outside.now) (g.D.Outside.told c.begin_rcfiles.new.outside) reaches in
+    let reaches : Reaches {X = Event} step start left c.args.journal.now c.begin_rcfiles.new.journal (g.D.Asks.told c.args.outside.now) (g.D.Asks.told c.begin_rcfiles.new.outside) =
+    subst (λ l. Reaches {X = Event} step start (Running l p) c.args.journal.now c.begin_rcfiles.new.journal (g.D.Asks.told c.args.outside.now) (g.D.Asks.told c.begin_rcfiles.new.outside)) (sym items) opens.reaches in
+    let runs = lifted queue start left c.args.journal.now c.begin_rcfiles.new.journal (g.D.Asks.told c.args.outside.now) (g.D.Asks.told c.begin_rcfiles.new.outside) reaches in
     λ first. (
       ok_map c.run_to_end.result _ _ (λ ending h. reaches_on advance (now_at (others_of queue first) start) (now_at (others_of queue first) left) (now_at (others_of later first) (Closing ending (mind_of c.run_to_end.new.process))) c.args.journal.now c.begin_rcfiles.new.journal c.run_to_end.new.journal _ _ _ (runs first) h) (c.run_to_end.ensures.proceeds first).0,
       err_map c.run_to_end.result _ _ (λ h. interrupted_reached advance (now_at (others_of queue first) start) (now_at (others_of queue first) left) c.args.journal.now c.begin_rcfiles.new.journal c.run_to_end.new.journal _ _ _ (runs first) h) (c.run_to_end.ensures.proceeds first).1,
@@ -43,7 +43,7 @@ returns-in-Ended-clause-proceeds g c =
     let queue = c.args.queue.now in
     let over = Over c.in-Ended.end (mind_of c.begin_rcfiles.new.process) in
     let opens = rw c.in-Ended.is at c.in_ok-code.ensures.opens in
-    let runs = lifted queue start over c.args.journal.now c.begin_rcfiles.new.journal (g.D.Outside.told c.args.outside.now) (g.D.Outside.told c.begin_rcfiles.new.outside) opens in
+    let runs = lifted queue start over c.args.journal.now c.begin_rcfiles.new.journal (g.D.Asks.told c.args.outside.now) (g.D.Asks.told c.begin_rcfiles.new.outside) opens in
     λ first. (
       ok_map c.close.result _ _ (λ ending h. runs_walk queue queue start over (Closing ending (mind_of c.close.new.process)) c.args.journal.now c.begin_rcfiles.new.journal c.close.new.journal _ _ _ runs h first) c.close.ensures.walks.0,
       err_map c.close.result _ _ (λ h. runs_out queue queue start over c.args.journal.now c.begin_rcfiles.new.journal c.close.new.journal _ _ _ runs h first) c.close.ensures.walks.1,
@@ -56,7 +56,7 @@ returns-in-Nothing-clause-proceeds g c =
     let queue = c.args.queue.now in
     let left = Running [] (mind_of c.begin_rcfiles.new.process) in
     let opens = rw c.in-Nothing.is at c.in_ok-code.ensures.opens in
-    let runs = lifted queue start left c.args.journal.now c.begin_rcfiles.new.journal (g.D.Outside.told c.args.outside.now) (g.D.Outside.told c.begin_rcfiles.new.outside) opens in
+    let runs = lifted queue start left c.args.journal.now c.begin_rcfiles.new.journal (g.D.Asks.told c.args.outside.now) (g.D.Asks.told c.begin_rcfiles.new.outside) opens in
     λ first. (
       ok_map c.close_without.result _ _ (λ ending h. runs_walk queue queue start left (Closing ending (mind_of c.close_without.new.process)) c.args.journal.now c.begin_rcfiles.new.journal c.close_without.new.journal _ _ _ runs h first) c.close_without.ensures.walks.0,
       err_map c.close_without.result _ _ (λ h. runs_out queue queue start left c.args.journal.now c.begin_rcfiles.new.journal c.close_without.new.journal _ _ _ runs h first) c.close_without.ensures.walks.1,

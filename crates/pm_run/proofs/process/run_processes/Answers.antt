@@ -7,7 +7,7 @@ use Rattle.pm_meaning.specs.Minds.{mind_of}
 use Rattle.pm_meaning.specs.Courses.{now_at, alone, advance}
 use Rattle.pm_meaning.specs.Running.{Arrived, Setting, Closing, home_by, step}
 use Rattle.pm_meaning.proofs.Lifting.{interrupted_in_run}
-use Rattle.pm_actions.proofs.Choices.{ok_map, err_map}
+use Rattle.pm_meaning.proofs.Choices.{ok_map, err_map}
 use Rattle.pm_run.proofs.OtherLemmas.{first_wants, all_ran, others_want}
 use Rattle.pm_run.proofs.process.run_processes.Goals as goal
 

@@ -2,7 +2,7 @@ use Rattle.std.proofs.Common.{[], rules}
 use Rattle.pm_journal.proofs.WantsMemory.{on_err}
 use Rattle.pm_meaning.specs.Minds.{mind_of}
 use Rattle.pm_meaning.specs.Running.{Running, Over, Closing}
-use Rattle.pm_actions.proofs.Choices.{ok_map, err_map}
+use Rattle.pm_meaning.proofs.Choices.{ok_map, err_map}
 use Rattle.pm_run.specs.Frames.{items_of}
 use Rattle.pm_run.proofs.RunLemmas.{RunsOn, runs_walk, runs_out}
 use Rattle.pm_run.proofs.process.run_to_end.Goals as goal
@@ -16,7 +16,7 @@ returns-in-Some-clause-proceeds g c =
     let later = c.run_frame.new.queue in
     let start = Running (items_of c.args.frame.now) (mind_of c.args.process.now) in
     let over = Over c.in-Some.end (mind_of c.run_frame.new.process) in
-    let runs : RunsOn queue later start over c.args.journal.now c.run_frame.new.journal (g.D.Outside.told c.args.outside.now) (g.D.Outside.told c.run_frame.new.outside) =
+    let runs : RunsOn queue later start over c.args.journal.now c.run_frame.new.journal (g.D.Asks.told c.args.outside.now) (g.D.Asks.told c.run_frame.new.outside) =
     λ first. rw c.in-Some.is at (c.in_ok-end.ensures.proceeds first).0 in
     λ first. (
       ok_map c.close.result _ _ (λ ending h. runs_walk queue later start over (Closing ending (mind_of c.close.new.process)) c.args.journal.now c.run_frame.new.journal c.close.new.journal _ _ _ runs h first) c.close.ensures.walks.0,
@@ -29,7 +29,7 @@ returns-in-None-clause-proceeds g c =
     let later = c.run_frame.new.queue in
     let start = Running (items_of c.args.frame.now) (mind_of c.args.process.now) in
     let left = Running [] (mind_of c.run_frame.new.process) in
-    let runs : RunsOn queue later start left c.args.journal.now c.run_frame.new.journal (g.D.Outside.told c.args.outside.now) (g.D.Outside.told c.run_frame.new.outside) =
+    let runs : RunsOn queue later start left c.args.journal.now c.run_frame.new.journal (g.D.Asks.told c.args.outside.now) (g.D.Asks.told c.run_frame.new.outside) =
     λ first. rw c.in-None.is at (c.in_ok-end.ensures.proceeds first).0 in
     λ first. (
       ok_map c.close_without.result _ _ (λ ending h. runs_walk queue later start left (Closing ending (mind_of c.close_without.new.process)) c.args.journal.now c.run_frame.new.journal c.close_without.new.journal _ _ _ runs h first) c.close_without.ensures.walks.0,

@@ -17,7 +17,7 @@ returns-in-Ok-clause-walks g c =
     let long : length f.code.steps.items ≤ c.len-frame.result = omega (arith, place) in
     let items = outer_items f.outer.items in
     let start = LeavingFile (block_locks f.blocks.items) items (mind_of c.args.process.now) in (
-      subst (λ l. Reaches {X = Event} step start (Running l (mind_of c.leave_file.new.process)) c.args.journal.now c.leave_file.new.journal (g.D.Outside.told c.args.outside.now) (g.D.Outside.told c.leave_file.new.outside))
+      subst (λ l. Reaches {X = Event} step start (Running l (mind_of c.leave_file.new.process)) c.args.journal.now c.leave_file.new.journal (g.D.Asks.told c.args.outside.now) (g.D.Asks.told c.leave_file.new.outside))
           (ended_items f after refl long c.in-Ok.ensures.empty refl) (c.in-Ok.ensures.walks items).0,
       tt,
     )

@@ -3,7 +3,7 @@ use Rattle.pm_journal.proofs.WalkJoin.{interrupted_at_once}
 use Rattle.pm_journal.proofs.WantsMemory.{on_err}
 use Rattle.pm_meaning.specs.Minds.{mind_of}
 use Rattle.pm_meaning.specs.Running.{Including, included, step}
-use Rattle.pm_actions.proofs.Choices.{ok_map}
+use Rattle.pm_meaning.proofs.Choices.{ok_map}
 use Rattle.pm_run.specs.Frames.{items_of}
 use Rattle.pm_run.proofs.RcfileLemmas.{none_included, none_falls, some_wants, some_included, some_falls}
 use Rattle.pm_run.proofs.rcfiles.include.Goals as goal

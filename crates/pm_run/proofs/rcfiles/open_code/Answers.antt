@@ -2,7 +2,7 @@ use Rattle.std.proofs.Common.{◌+◌, List, refl}
 use Rattle.pm_meaning.specs.Changes.{with_openings}
 use Rattle.pm_meaning.specs.Minds.{mind_of}
 use Rattle.pm_meaning.specs.Running.{Item, Reading}
-use Rattle.pm_actions.proofs.Choices.{ok_map, err_map}
+use Rattle.pm_meaning.proofs.Choices.{ok_map, err_map}
 use Rattle.pm_run.proofs.RcfileLemmas.{ok_both, ok_every, err_every, many_told, many_out, opens_by, opens_out, is_many, is_few}
 use Rattle.pm_run.proofs.rcfiles.open_code.Goals as goal
 

@@ -5,7 +5,7 @@ use Rattle.pm_journal.specs.declared.acts.Act.TheVariants.{ReadFile}
 use Rattle.pm_journal.proofs.WantsMemory.{on_err, out_anywhere}
 use Rattle.pm_meaning.specs.Minds.{mind_of}
 use Rattle.pm_meaning.specs.Running.{Item, Reading, with_statements}
-use Rattle.pm_actions.proofs.Choices.{ok_map, err_map}
+use Rattle.pm_meaning.proofs.Choices.{ok_map, err_map}
 use Rattle.pm_run.proofs.RcfileLemmas.{ok_both, ok_every, err_every, told_for, reads_some, reads_then_wants, reads_none, reads_none_out, reading_out}
 use Rattle.pm_run.proofs.rcfiles.read_code.Goals as goal
 

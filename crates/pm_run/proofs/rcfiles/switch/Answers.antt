@@ -5,7 +5,7 @@ use Rattle.pm_meaning.specs.Blocks.{begun_block}
 use Rattle.pm_meaning.specs.Changes.{with_rcfile}
 use Rattle.pm_meaning.specs.Minds.{mind_of}
 use Rattle.pm_meaning.specs.Running.{Running, Switching, LeavingFile, switched, ahead, step, Event}
-use Rattle.pm_actions.proofs.Choices.{ok_map, err_map}
+use Rattle.pm_meaning.proofs.Choices.{ok_map, err_map}
 use Rattle.pm_run.specs.Frames.{items_of, outer_items, block_locks}
 use Rattle.pm_run.proofs.RunLemmas.{reaches_on}
 use Rattle.pm_run.proofs.RcfileLemmas.{ok_both, none_switched, none_falls, some_switched, place_taken, place_falls}
@@ -39,9 +39,9 @@ returns-in-Some-clause-walks g c =
     let items = ahead opens.trees (outer_items f.outer.items) in
     let start = Switching name (items_of f) p in
     let middle = LeavingFile (block_locks f.blocks.items) items (begun_block (with_rcfile name q)) in
-    let first = some_switched name code f p q c.args.journal.now c.open_code.new.journal (g.D.Outside.told c.args.outside.now) (g.D.Outside.told c.open_code.new.outside) opens in (
-      ok_both c.take_place.result _ _ _ (λ _ h takes. subst (λ l. Reaches {X = Event} step start (Running l r) c.args.journal.now c.take_place.new.journal (g.D.Outside.told c.args.outside.now) (g.D.Outside.told c.take_place.new.outside))
-          (place_taken name code f p q c.args.journal.now c.open_code.new.journal (g.D.Outside.told c.args.outside.now) (g.D.Outside.told c.open_code.new.outside) opens c.take_place.new.frame takes)
+    let first = some_switched name code f p q c.args.journal.now c.open_code.new.journal (g.D.Asks.told c.args.outside.now) (g.D.Asks.told c.open_code.new.outside) opens in (
+      ok_both c.take_place.result _ _ _ (λ _ h takes. subst (λ l. Reaches {X = Event} step start (Running l r) c.args.journal.now c.take_place.new.journal (g.D.Asks.told c.args.outside.now) (g.D.Asks.told c.take_place.new.outside))
+          (place_taken name code f p q c.args.journal.now c.open_code.new.journal (g.D.Asks.told c.args.outside.now) (g.D.Asks.told c.open_code.new.outside) opens c.take_place.new.frame takes)
           (reaches_on step start middle (Running items r) _ _ _ _ _ _ first h)) (c.take_place.ensures.walks items).0 c.take_place.ensures.takes,
       err_map c.take_place.result _ _ (λ h. interrupted_reached step start middle _ _ _ _ _ _ first h) (c.take_place.ensures.walks items).1,
     )

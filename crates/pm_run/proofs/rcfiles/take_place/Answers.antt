@@ -20,7 +20,7 @@ returns-in-Err-leave_file-clause-walks g c = λ items.
     let locks = block_locks c.args.frame.now.blocks.items in (
       tt,
       taken c.args.name (mind_of c.args.process.now) c.set_rcfile.new.self c.new_chain-process.result
-          (λ m. Interrupted {X = Event} step (LeavingFile locks items m) c.args.journal.now c.leave_file.new.journal (g.D.Outside.told c.args.outside.now) (g.D.Outside.told c.leave_file.new.outside))
+          (λ m. Interrupted {X = Event} step (LeavingFile locks items m) c.args.journal.now c.leave_file.new.journal (g.D.Asks.told c.args.outside.now) (g.D.Asks.told c.leave_file.new.outside))
           c.in-Ok.ensures.ok c.new_chain-process.ensures (c.in-Err-leave_file.ensures.walks items).1,
     )
 
@@ -29,7 +29,7 @@ returns-in-Ok-leave_file-clause-walks g c = λ items.
     let locks = block_locks c.args.frame.now.blocks.items in
     let end = Running items (mind_of c.leave_file.new.process) in (
       taken c.args.name (mind_of c.args.process.now) c.set_rcfile.new.self c.new_chain-process.result
-          (λ m. Reaches {X = Event} step (LeavingFile locks items m) end c.args.journal.now c.leave_file.new.journal (g.D.Outside.told c.args.outside.now) (g.D.Outside.told c.leave_file.new.outside))
+          (λ m. Reaches {X = Event} step (LeavingFile locks items m) end c.args.journal.now c.leave_file.new.journal (g.D.Asks.told c.args.outside.now) (g.D.Asks.told c.leave_file.new.outside))
           c.in-Ok.ensures.ok c.new_chain-process.ensures (c.in-Ok-leave_file.ensures.walks items).0,
       tt,
     )

@@ -3,7 +3,7 @@ use Rattle.pm_journal.specs.LogText.{couldnt_read_line}
 use Rattle.pm_journal.proofs.WantsMemory.{out_anywhere}
 use Rattle.pm_meaning.specs.Minds.{mind_of}
 use Rattle.pm_meaning.specs.Turns.{say_then}
-use Rattle.pm_actions.proofs.Choices.{line_told, line_out}
+use Rattle.pm_meaning.proofs.Choices.{line_told, line_out}
 use Rattle.pm_run.proofs.rcfiles.tell_unread.Goals as goal
 
 pub returns-in-Err-clause-carries : goal.returns-in-Err-clause-carries

@@ -1,7 +1,7 @@
 use Rattle.std.proofs.Common.{refl, ap}
 use Rattle.pm_code.specs.Flat.{flat_of}
 use Rattle.pm_meaning.specs.Minds.{mind_of}
-use Rattle.pm_actions.proofs.Choices.{ok_map, err_map}
+use Rattle.pm_meaning.proofs.Choices.{ok_map, err_map}
 use Rattle.pm_run.proofs.WalkLemmas.{by_step, by_step_out, no_statement}
 use Rattle.pm_run.proofs.statements.run_statement.Goals as goal
 

@@ -5,7 +5,7 @@ use Rattle.pm_journal.proofs.WantsMemory.{on_err}
 use Rattle.pm_meaning.specs.Chains.{with_chain}
 use Rattle.pm_meaning.specs.Minds.{mind_of}
 use Rattle.pm_meaning.specs.Running.{Running, step, Event}
-use Rattle.pm_actions.proofs.Choices.{ok_map}
+use Rattle.pm_meaning.proofs.Choices.{ok_map}
 use Rattle.pm_run.specs.Frames.{weave, steps_of, items_of, outer_items, left_outside, left_in}
 use Rattle.pm_run.specs.Walk.{less_by, stands}
 use Rattle.pm_run.proofs.WalkLemmas.{block_wants, block_reaches, back_reaches, back_wants, back_falls, back_behind, over_falls}
@@ -19,7 +19,7 @@ returns-in-None-clause-walks g c =
     let same : old.blocks.items ≡ c.pop_front.new.self.items = search rules in
     let none : f.blocks.items ≡ [] = search rules in
     let items : items_of f ≡ items_of old = ap (λ l. weave (lists_of (drop old.place (steps_of old))) l (outer_items old.outer.items)) (sym same) in (
-      ok_map c.come_back.result _ _ (λ s h. subst (λ l. Reaches {X = Event} step (Running l p) (stands s c.come_back.new.frame (mind_of c.come_back.new.process)) c.args.journal.now c.args.journal.now (g.D.Outside.told c.args.outside.now) (g.D.Outside.told c.args.outside.now))
+      ok_map c.come_back.result _ _ (λ s h. subst (λ l. Reaches {X = Event} step (Running l p) (stands s c.come_back.new.frame (mind_of c.come_back.new.process)) c.args.journal.now c.args.journal.now (g.D.Asks.told c.args.outside.now) (g.D.Asks.told c.args.outside.now))
           items (back_reaches s f c.come_back.new.frame c.args.next p (mind_of c.come_back.new.process) _ _ c.requires.ends none h)) c.come_back.ensures.back,
       on_err c.come_back.result _ (back_wants old p _ _),
     )

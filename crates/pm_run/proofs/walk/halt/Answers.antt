@@ -4,7 +4,7 @@ use Rattle.pm_journal.proofs.WantsMemory.{on_err}
 use Rattle.pm_meaning.specs.Minds.{mind_of}
 use Rattle.pm_meaning.specs.declared.process.End.TheVariants.{HostOff}
 use Rattle.pm_meaning.specs.Running.{Leaving, left_by, step}
-use Rattle.pm_actions.proofs.Choices.{ok_map, err_map}
+use Rattle.pm_meaning.proofs.Choices.{ok_map, err_map}
 use Rattle.pm_run.specs.Frames.{all_locks}
 use Rattle.pm_run.specs.Ends.{halted}
 use Rattle.pm_run.proofs.LeaveLemmas.{halts_over, halts_off, same_left}
@@ -15,7 +15,7 @@ pub returns-in-HostOff-clause-walks : goal.returns-in-HostOff-clause-walks
 returns-in-HostOff-clause-walks g c =
     let start = Leaving (all_locks c.args.frame.now) c.args.end (mind_of c.args.process.now) in
     let left = left_by HostOff (mind_of c.leave_blocks.new.process) in
-    let off = halts_off start c.args.end (mind_of c.leave_blocks.new.process) c.args.journal.now c.leave_blocks.new.journal (g.D.Outside.told c.args.outside.now) (g.D.Outside.told c.leave_blocks.new.outside) c.in-HostOff.is c.in_ok-leave_blocks.ensures.walks.0 in (
+    let off = halts_off start c.args.end (mind_of c.leave_blocks.new.process) c.args.journal.now c.leave_blocks.new.journal (g.D.Asks.told c.args.outside.now) (g.D.Asks.told c.leave_blocks.new.outside) c.in-HostOff.is c.in_ok-leave_blocks.ensures.walks.0 in (
       ok_map c.open_later.result _ _ (λ way h. reaches_on step start left (halted way c.open_later.new.frame (mind_of c.open_later.new.process)) _ _ _ _ _ _ off h) c.open_later.ensures.walks.0,
       err_map c.open_later.result _ _ (λ h. interrupted_reached step start left _ _ _ _ _ _ off h) c.open_later.ensures.walks.1,
     )

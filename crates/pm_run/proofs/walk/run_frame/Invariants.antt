@@ -10,7 +10,7 @@ use Rattle.pm_run.proofs.walk.run_frame.Given as goal
 abbrev pub invariant-loop-end : goal.invariant-loop-end
 invariant-loop-end g l = record {
   runs : RunsOn l.fn.queue l.queue (Running (items_of l.fn.frame) (mind_of l.fn.process)) (Running (items_of l.frame) (mind_of l.process))
-      l.fn.journal l.journal (g.D.Outside.told l.fn.outside) (g.D.Outside.told l.outside);
+      l.fn.journal l.journal (g.D.Asks.told l.fn.outside) (g.D.Asks.told l.outside);
   few : copies_left l.queue ≤ copies_left l.fn.queue;
   keeping : Keeping l.journal l.process.locks.names;
 }

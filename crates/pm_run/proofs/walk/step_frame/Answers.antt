@@ -4,7 +4,7 @@ use Rattle.pm_journal.specs.Walking.{Reaches}
 use Rattle.pm_meaning.specs.Changes.{with_openings}
 use Rattle.pm_meaning.specs.Minds.{mind_of}
 use Rattle.pm_meaning.specs.Running.{Running, step, Event}
-use Rattle.pm_actions.proofs.Choices.{ok_map}
+use Rattle.pm_meaning.proofs.Choices.{ok_map}
 use Rattle.pm_run.specs.Frames.{steps_of, items_of}
 use Rattle.pm_run.specs.Walk.{stands, gate_turn, less_by}
 use Rattle.pm_journal.proofs.WantsMemory.{on_err}
@@ -57,9 +57,9 @@ returns-in-Ok-clause-walks g c =
     let q = mind_of c.pass_gate.new.process in
     let jump = jump_at f top c.in-Enter.end e in (
       ok_map c.enter_block.result _ _ (λ s h. gate_reaches f top c.in-Enter.end p e c.in-Ok.gate s c.enter_block.new.frame q (mind_of c.enter_block.new.process)
-          c.args.journal.now c.pass_gate.new.journal (g.D.Outside.told c.args.outside.now) (g.D.Outside.told c.pass_gate.new.outside) jump h c.in-Ok.ensures.carries.0) c.enter_block.ensures.entered,
+          c.args.journal.now c.pass_gate.new.journal (g.D.Asks.told c.args.outside.now) (g.D.Asks.told c.pass_gate.new.outside) jump h c.in-Ok.ensures.carries.0) c.enter_block.ensures.entered,
       on_err c.enter_block.result _ (gate_then_wants f top c.in-Enter.end p e (gate_turn c.in-Ok.gate q) c.args.journal.now c.pass_gate.new.journal
-          (g.D.Outside.told c.args.outside.now) (g.D.Outside.told c.pass_gate.new.outside) c.in-Ok.ensures.carries.0),
+          (g.D.Asks.told c.args.outside.now) (g.D.Asks.told c.pass_gate.new.outside) c.in-Ok.ensures.carries.0),
     )
 
 pub returns-in-Ok-clause-falls : goal.returns-in-Ok-clause-falls
@@ -106,7 +106,7 @@ returns-in-Ok-run_statement goals c =
     let r = with_openings c.args.process.now.openings q in
     record {
       walks = (
-        subst (λ s. Reaches {X = Event} step (Running (items_of f) p) (stands s g r) c.args.journal.now c.run_statement.new.journal (goals.D.Outside.told c.args.outside.now) (goals.D.Outside.told c.run_statement.new.outside))
+        subst (λ s. Reaches {X = Event} step (Running (items_of f) p) (stands s g r) c.args.journal.now c.run_statement.new.journal (goals.D.Asks.told c.args.outside.now) (goals.D.Asks.told c.run_statement.new.outside))
             (sym c.stepped_by.ensures) (one_reaches f c.in-Some.step.now p at d c.in-Ok-run_statement.turned q _ _ _ _ c.in-Ok-run_statement.ensures.carries.0),
         tt,
       );

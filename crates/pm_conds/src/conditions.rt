@@ -1,0 +1,227 @@
+//! The conditions of a recipe, with the programs that they ask (procmailrc(5), "Conditions").
+ghost use Rattle.std.specs.Prelude.{◌≡◌};
+ghost use Rattle.pm_journal.specs.Executed.{Carries};
+ghost use Rattle.pm_journal.specs.Held.{Keeping};
+ghost use Rattle.pm_meaning.specs.Leads.{asking_of};
+ghost use Rattle.pm_meaning.specs.Judging.{judge as judged, judged_with, comes_of, comes_within, come_with};
+ghost use Rattle.pm_meaning.specs.Judging.{tested, ask_line as line_asked, ask_program as program_asked};
+ghost use Rattle.pm_meaning.specs.Minds.{mind_of};
+
+use crate::judging::{exited, has_weight, judge_one, question_of, test};
+use crate::leads::read_lead;
+use crate::scoring::{end_of_all, note_score};
+use crate::searching::program_input;
+use pm_bytes::Memory;
+use pm_host::Command;
+use pm_journal::{Asks, Journal, run};
+use pm_meaning::question::{Judgement, Outcome, Question};
+use pm_meaning::{
+    Expansion, Process, ProgramLine, code_of, expand_text, first_word, note_code, outputs_of,
+    past_blanks, read_line, tell_run,
+};
+use pm_recipe::{Condition, Flags};
+use pm_subst::Mode;
+use std::alloc::Global;
+
+/// How often the text of a condition is expanded at most.
+const MOST_DOLLARS: u64 = 8;
+
+/// Judges the conditions in order, up to one that ends it. MATCH is set by each that matches after a `\/`, `$?` by each
+/// program, and `$=` where one of them has a weight.
+pub fn judge<D: Asks>(
+    alloc: Global,
+    conditions: &[Condition],
+    flags: Flags,
+    process: &mut Process,
+    outside: &mut D,
+    journal: &mut Journal,
+) -> Result<Judgement, Memory>
+    requires keeping { Keeping journal.old process.old.locks.names }
+    ensures carries { Carries (judged conditions.now flags (mind_of process.old))
+        (λ verdict. judged_with verdict (mind_of process.new)) result
+        journal.old journal.new (D.told outside.old) (D.told outside.new) }
+    ensures keeping { Keeping journal.new process.new.locks.names }
+{
+    let weighted = has_weight(conditions);
+    let mut total = 0;
+    for condition in conditions {
+        let outcome = outcome(alloc, condition, flags, process, outside, journal)?;
+        let text = &condition.text;
+        if let Some(end) = judge_one(alloc, text, outcome, &mut total, &mut process.vars)? {
+            note_score(weighted, total, &mut process.vars);
+            return Ok(end);
+        }
+    }
+    note_score(weighted, total, &mut process.vars);
+    Ok(end_of_all(weighted, total))
+}
+
+// What comes of a condition. A weight with a number out of its range makes it a defect.
+fn outcome<D: Asks>(
+    alloc: Global,
+    condition: &Condition,
+    flags: Flags,
+    process: &mut Process,
+    outside: &mut D,
+    journal: &mut Journal,
+) -> Result<Outcome, Memory>
+    requires keeping { Keeping journal.old process.old.locks.names }
+    ensures carries { Carries (comes_of condition.now flags (mind_of process.old))
+        (λ outcome. come_with outcome (mind_of process.new)) result
+        journal.old journal.new (D.told outside.old) (D.told outside.new) }
+    ensures keeping { Keeping journal.new process.new.locks.names }
+{
+    match question_of(condition.weight) {
+        None => Ok(Outcome::Defective),
+        Some(question) => {
+            let text = condition.text.as_slice();
+            ask(
+                alloc,
+                text,
+                question,
+                MOST_DOLLARS,
+                flags,
+                process,
+                outside,
+                journal,
+            )
+        }
+    }
+}
+
+// What comes of a text after a question; a `$` expands the rest, which is read again, `left` times at most.
+fn ask<D: Asks>(
+    alloc: Global,
+    text: &[u8],
+    question: Question,
+    left: u64,
+    flags: Flags,
+    process: &mut Process,
+    outside: &mut D,
+    journal: &mut Journal,
+) -> Result<Outcome, Memory>
+    requires keeping { Keeping journal.old process.old.locks.names }
+    ensures carries { Carries (comes_within left flags (asking_of text.now question) (mind_of process.old))
+        (λ outcome. come_with outcome (mind_of process.new)) result
+        journal.old journal.new (D.told outside.old) (D.told outside.new) }
+    ensures keeping { Keeping journal.new process.new.locks.names }
+{
+    let mut question = question;
+    let rest = read_lead(alloc, text, &mut question)?;
+    if !rest.starts_with(b"$") {
+        return ask_rest(alloc, rest, &question, flags, process, outside, journal);
+    }
+    if left == 0 {
+        return Ok(Outcome::Defective);
+    }
+    let rest = &rest[1..];
+    let outputs = outputs_of(alloc, rest, Mode::Quoted, process, outside, journal)?;
+    match expand_text(alloc, rest, Mode::Quoted, &process.vars, outputs.as_slice())? {
+        Expansion::TooLong(length) => Ok(Outcome::TooLong(length)),
+        Expansion::Words(words) => {
+            let value = first_word(alloc, words);
+            let text = past_blanks(value.as_slice());
+            ask(
+                alloc,
+                text,
+                question,
+                left - 1,
+                flags,
+                process,
+                outside,
+                journal,
+            )
+        }
+    }
+}
+
+// What comes of the test that the text is: `?` asks a program.
+fn ask_rest<D: Asks>(
+    alloc: Global,
+    text: &[u8],
+    question: &Question,
+    flags: Flags,
+    process: &mut Process,
+    outside: &mut D,
+    journal: &mut Journal,
+) -> Result<Outcome, Memory>
+    requires keeping { Keeping journal.old process.old.locks.names }
+    ensures carries { Carries (tested flags (asking_of text.now question.now) (mind_of process.old))
+        (λ outcome. come_with outcome (mind_of process.new)) result
+        journal.old journal.new (D.told outside.old) (D.told outside.new) }
+    ensures keeping { Keeping journal.new process.new.locks.names }
+{
+    if text.starts_with(b"?") {
+        let line = past_blanks(&text[1..]);
+        return ask_line(alloc, line, question, flags, process, outside, journal);
+    }
+    test(
+        alloc,
+        text,
+        question,
+        flags,
+        &mut process.message,
+        &process.vars,
+    )
+}
+
+// What comes of a program's line. One that can't be run makes the condition a defect.
+fn ask_line<D: Asks>(
+    alloc: Global,
+    line: &[u8],
+    question: &Question,
+    flags: Flags,
+    process: &mut Process,
+    outside: &mut D,
+    journal: &mut Journal,
+) -> Result<Outcome, Memory>
+    requires keeping { Keeping journal.old process.old.locks.names }
+    ensures carries { Carries (line_asked line.now flags question.now (mind_of process.old))
+        (λ outcome. come_with outcome (mind_of process.new)) result
+        journal.old journal.new (D.told outside.old) (D.told outside.new) }
+    ensures keeping { Keeping journal.new process.new.locks.names }
+{
+    match read_line(alloc, line, process, outside, journal)? {
+        ProgramLine::Runs(command) => {
+            ask_program(
+                alloc, command, line, question, flags, process, outside, journal,
+            )
+        }
+        ProgramLine::NoWords => Ok(Outcome::Defective),
+        ProgramLine::Unusable => Ok(Outcome::Defective),
+        ProgramLine::TooLong(length) => Ok(Outcome::TooLong(length)),
+    }
+}
+
+// What comes of a program, which gets what the condition names.
+fn ask_program<D: Asks>(
+    alloc: Global,
+    command: Command,
+    line: &[u8],
+    question: &Question,
+    flags: Flags,
+    process: &mut Process,
+    outside: &mut D,
+    journal: &mut Journal,
+) -> Result<Outcome, Memory>
+    requires keeping { Keeping journal.old process.old.locks.names }
+    ensures carries { Carries (program_asked command line.now flags question.now (mind_of process.old))
+        (λ outcome. come_with outcome (mind_of process.new)) result
+        journal.old journal.new (D.told outside.old) (D.told outside.new) }
+    ensures keeping { Keeping journal.new process.new.locks.names }
+{
+    let scope = &question.scope;
+    let input = program_input(alloc, scope, flags, &process.message, &process.vars)?;
+    let end = run(
+        alloc,
+        &process.locks,
+        command,
+        input,
+        false,
+        outside,
+        journal,
+    )?;
+    note_code(end, process);
+    tell_run(alloc, end, line, process, outside, journal)?;
+    Ok(exited(question, code_of(end)))
+}

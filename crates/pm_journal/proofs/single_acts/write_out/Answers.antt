@@ -1,0 +1,14 @@
+use Rattle.std.proofs.Common.{rules}
+use Rattle.pm_journal.proofs.FirstActs.{act_after_room}
+use Rattle.pm_journal.proofs.KeepingActs.{keeping_plain}
+use Rattle.pm_journal.proofs.WantsMemory.{on_err, out_anywhere}
+use Rattle.pm_journal.proofs.single_acts.write_out.Goals as goal
+
+pub returns-in_err-reserve-clause-carries : goal.returns-in_err-reserve-clause-carries
+returns-in_err-reserve-clause-carries g c = (search rules, on_err _ _ (out_anywhere _ _ _ _ c.reserve.ensures.same))
+
+pub returns-clause-carries : goal.returns-clause-carries
+returns-clause-carries g c = (act_after_room _ _ c.args.journal.now c.reserve.new.self c.write_out.new.journal _ _ c.reserve.ensures.same c.write_out.ensures, tt)
+
+pub returns-clause-keeping : goal.returns-clause-keeping
+returns-clause-keeping g c = keeping_plain _ _ c.args.journal.now c.reserve.new.self c.write_out.new.journal _ _ _ tt c.requires.keeping c.reserve.ensures.same (search rules) c.write_out.ensures

@@ -1,0 +1,21 @@
+use Rattle.std.proofs.Common.{[], refl, rules}
+use Rattle.pm_journal.specs.LogText.{unusable_name_line}
+use Rattle.pm_journal.proofs.WantsMemory.{on_err, out_anywhere}
+use Rattle.pm_meaning.specs.Minds.{mind_of}
+use Rattle.pm_meaning.specs.Outputs.{output_with}
+use Rattle.pm_meaning.proofs.Choices.{line_out}
+use Rattle.pm_meaning.proofs.OutputLemmas.{nothing_came}
+use Rattle.pm_meaning.proofs.outputs.tell_unusable.Goals as goal
+
+pub returns-in_err-line-clause-carries : goal.returns-in_err-line-clause-carries
+returns-in_err-line-clause-carries g c = (search rules, on_err _ _ (out_anywhere _ _ _ _ refl))
+
+pub returns-in_err-tell-clause-carries : goal.returns-in_err-tell-clause-carries
+returns-in_err-tell-clause-carries g c =
+    let p = mind_of c.args.process.now in
+    (search rules, on_err _ _ (line_out p (unusable_name_line c.args.text.now) _ (output_with [] p) _ _ _ _ c.in_ok-line.ensures c.in_err-tell.ensures.carries.1))
+
+pub returns-clause-carries : goal.returns-clause-carries
+returns-clause-carries g c =
+    let p = mind_of c.args.process.now in
+    (nothing_came (unusable_name_line c.args.text.now) _ c.empty.result p p p _ _ _ _ c.in_ok-line.ensures c.empty.ensures refl c.in_ok-tell.ensures.carries.0, tt)

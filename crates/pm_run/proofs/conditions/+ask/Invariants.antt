@@ -1,4 +1,0 @@
-use Rattle.pm_run.proofs.conditions.+ask.Given as goal
-
-abbrev pub decreases-ask : goal.decreases-ask
-decreases-ask g l = l.left
