@@ -20,7 +20,8 @@ use Rattle.pm_meaning.specs.Logging.{log, logged}
 use Rattle.pm_meaning.specs.Minds.{Mind}
 use Rattle.pm_meaning.specs.Turns.{say_then}
 use Rattle.pm_meaning.proofs.Choices.{line_told}
-use Rattle.pm_conds.specs.Holding.{held_with, holding, Holds, verdict_of}
+use Rattle.pm_meaning.specs.Judging.{held_with, holding}
+use Rattle.pm_conds.specs.Holding.{Holds, verdict_of}
 
 -- what was done, whoever holds the objects
 accounts_held : (refs : List ℕ) (es : List Entry) (a b : HostView) (out err s : StreamView) → Accounts es (view_of a out err) (view_of b out s) → Accounts es (seen_by refs a out err) (seen_by refs b out s)

@@ -25,7 +25,7 @@ use Rattle.pm_meaning.specs.Judging.{come_with, seen, by_line, ask_line, tested,
 use Rattle.pm_meaning.specs.declared.process.ProgramLine.{ProgramLine}
 use Rattle.pm_meaning.specs.declared.process.ProgramLine.TheVariants as line
 use Rattle.pm_meaning.specs.declared.question.Judgement.TheVariants.{Matched, Unmatched, Defective, TooLong}
-use Rattle.pm_conds.specs.Holding.{told_judgement, behind_judgement, holding}
+use Rattle.pm_meaning.specs.Judging.{told_judgement, behind_judgement, holding}
 use Rattle.pm_conds.proofs.Beside.{WritesNothing, nothing_then}
 
 quiet_if : {R : Type 0} (b : Bool) (x y : Plan R) → WritesNothing x → WritesNothing y → WritesNothing (if b then x else y)

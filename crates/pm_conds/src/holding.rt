@@ -6,9 +6,10 @@ ghost use Rattle.pm_journal.specs.Executed.{Carries};
 ghost use Rattle.pm_journal.specs.Held.{Keeping};
 ghost use Rattle.pm_journal.specs.LogText.{defective_condition_line, value_too_long_line};
 ghost use Rattle.pm_meaning.specs.Changes.{overflowed};
+ghost use Rattle.pm_meaning.specs.Judging.{holding, held_with, told_judgement};
 ghost use Rattle.pm_meaning.specs.Minds.{mind_of};
 ghost use Rattle.pm_meaning.specs.Turns.{say_then};
-ghost use Rattle.pm_conds.specs.Holding.{Holds, holding, held_with, told_judgement, verdict_of};
+ghost use Rattle.pm_conds.specs.Holding.{Holds, verdict_of};
 
 use crate::asked::Asked;
 use crate::conditions::judge;
@@ -78,11 +79,11 @@ fn hold_lent<'a, H: Host, E: Sink>(
     ensures host { asked.new.host.ghost_name ≡ asked.old.host.ghost_name }
     ensures err { asked.new.err.ghost_name ≡ asked.old.err.ghost_name }
 {
-    answered(hold(alloc, conditions, flags, mind, asked, journal))
+    answered(conditions_hold(alloc, conditions, flags, mind, asked, journal))
 }
 
-// Judges the conditions, and tells a defect.
-fn hold<D: Asks>(
+/// The same as [`holds`] for a caller that asks by a trait of its own: whether the conditions hold; a defect is told.
+pub fn conditions_hold<D: Asks>(
     alloc: Global,
     conditions: &[Condition],
     flags: Flags,

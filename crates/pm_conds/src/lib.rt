@@ -12,8 +12,7 @@ mod scoring;
 mod searching;
 mod sizes;
 
-pub use conditions::judge;
-pub use holding::{Verdict, holds};
+pub use holding::{Verdict, conditions_hold, holds};
 pub use judging::{exited, has_weight, judge_one, question_of, test};
 pub use leads::read_lead;
 pub use scoring::{end_of_all, note_score};

@@ -1,5 +1,5 @@
 -- A worked run in which nothing stands in the way: a mail filter that writes each mail to standard output.
-use Rattle.std.proofs.Common.{◌≡◌, ℕ, zero, suc, Bool, true, false, List, [], ◌∷◌, ◌++◌, Option, Some, None, refl, sym, ap, ◌∙◌, subst}
+use Rattle.std.proofs.Common.{◌≡◌, inl, inr, ℕ, zero, suc, Bool, true, false, List, [], ◌∷◌, ◌++◌, Option, Some, None, refl, sym, ap, ◌∙◌, subst}
 use Rattle.std.specs.Prelude.{codes, length}
 use Rattle.pm_bytes.specs.declared.environment.Environ.{Environ}
 use Rattle.pm_message.specs.Split.{split_of}
@@ -13,15 +13,17 @@ use Rattle.pm_journal.specs.declared.acts.Reply.{Reply}
 use Rattle.pm_journal.specs.declared.acts.Reply.TheVariants.{Content, Wrote}
 use Rattle.pm_journal.proofs.WalkJoin.{never_some}
 use Rattle.pm_meaning.specs.Delivering.{no_flags}
+use Rattle.pm_meaning.specs.Destinations.{destination_of, full_of}
 use Rattle.pm_meaning.specs.FirstValues.{first_process}
 use Rattle.pm_meaning.specs.Minds.{Mind}
 use Rattle.pm_meaning.specs.ProgramActions.{fed_piece}
 use Rattle.pm_meaning.specs.declared.process.End.TheVariants.{Delivered}
-use Rattle.pm_meaning.specs.Completeness.{IsContent, IsClear}
+use Rattle.pm_meaning.specs.Completeness.{IsContent, FoundFolder, IsClear}
 use Rattle.pm_meaning.specs.Courses.{Others, Course, now_at, advance, run_of}
 use Rattle.pm_meaning.specs.Running.{Running}
 use Rattle.pm_meaning.specs.declared.command_line.CommandLine.{CommandLine}
 use Rattle.pm_meaning.specs.declared.ending.Ending.{Ending}
+use Rattle.pm_meaning.proofs.DefaultDelivered.{found_rest}
 
 -- procmail -m rc
 abbrev words : CommandLine
@@ -136,6 +138,12 @@ never_came mail (suc (suc (suc (suc n)))) (suc zero) o p h = h.2
 never_came mail (suc (suc (suc (suc n)))) (suc (suc k)) o p h =
     never_behind mail n o p (subst (λ l. Came mail (suc (suc (suc (suc n)))) (noted_then mail l) o p) (front_none k) h)
 
+-- nothing was found to be a folder
+never_folder : (mail file : List ℕ) → FoundFolder file (noted_of mail) → ⊥
+never_folder mail file (inl here) = here
+never_folder mail file (inr (inl here)) = here
+never_folder mail file (inr (inr none)) = none
+
 clear_row : (mail : List ℕ) → IsClear (run_of words bare mail) (noted_of mail)
 clear_row mail = record {
   served = (tt, (tt, tt));
@@ -144,4 +152,7 @@ clear_row mail = record {
       let arrives : ArrivesAt {X = Ending} advance (run_of words bare mail) before (now_at comes.0 (Running [] p)) = comes.2 in
       absurd (never_came mail arrives.steps (length before) comes.0 p
       (subst (λ l. Came mail arrives.steps l comes.0 p) (front_is (noted_of mail) before later is) arrives.plays));
+  prefixed = λ before later mailbox others p is comes found.
+      let file = full_of p.base (destination_of mailbox) in
+      absurd (never_folder mail file (subst (λ l. FoundFolder file l) (sym is) (found_rest file before later found)));
 }

@@ -1,6 +1,7 @@
 -- Where nothing stands in its way a first process ends as delivered, or on another host.
 use Rattle.std.proofs.Common.{◌≡◌, ℕ, zero, suc, Bool, true, false, ◌&&◌, List, [], ◌∷◌, ◌++◌, Some, None, refl, sym, ap, ◌∙◌, subst, append_assoc}
 use Rattle.std.specs.Prelude.{if◌then◌else◌, nat_le}
+use Rattle.pm_bytes.specs.Name.{is_usable}
 use Rattle.pm_bytes.specs.declared.environment.Environ.{Environ}
 use Rattle.pm_recipe.specs.Listed.{rc_of}
 use Rattle.pm_recipe.specs.Tree.{Tree, Trees}
@@ -15,14 +16,15 @@ use Rattle.pm_journal.proofs.WalkJoin.{arrives_go, arrives_here}
 use Rattle.pm_meaning.specs.Blocks.{begun_block, closed, give_maybe}
 use Rattle.pm_meaning.specs.Changes.{opened, with_rcfile}
 use Rattle.pm_meaning.specs.Chains.{succeeded}
-use Rattle.pm_meaning.specs.Delivering.{deliver_default}
+use Rattle.pm_meaning.specs.Delivering.{plain_prefix, deliver_default}
+use Rattle.pm_meaning.specs.Destinations.{destination_of, full_of}
 use Rattle.pm_meaning.specs.GlobalLock.{give_named}
 use Rattle.pm_meaning.specs.Logging.{log}
 use Rattle.pm_meaning.specs.Minds.{Mind}
 use Rattle.pm_meaning.specs.Turns.{Turn, GoesOn, Halts, Enters, Includes, Switches, EndsFile, Clones, say_then}
 use Rattle.pm_meaning.specs.declared.process.End.{End}
 use Rattle.pm_meaning.specs.declared.process.End.TheVariants.{Delivered, FellOff, NoRc, HostOff}
-use Rattle.pm_meaning.specs.Completeness.{AllServed, IsContent, HasDefault, IsClear, IsWell, EndsWell}
+use Rattle.pm_meaning.specs.Completeness.{AllServed, IsContent, FoundFolder, HasDefault, IsClear, IsWell, EndsWell}
 use Rattle.pm_meaning.specs.EndStatus.{EndHasStatus}
 use Rattle.pm_meaning.specs.Courses.{Others, Course, now_at, with_copy, onward, advance, alone, run_of}
 use Rattle.pm_meaning.specs.Ends.{tell_delivery, trap}
@@ -30,7 +32,7 @@ use Rattle.pm_meaning.specs.Running.{State, Arrived, Setting, Opening, Running, 
 use Rattle.pm_meaning.specs.declared.command_line.CommandLine.{CommandLine}
 use Rattle.pm_meaning.specs.declared.ending.Ending.{Ending}
 use Rattle.pm_meaning.proofs.Closings.{given_end}
-use Rattle.pm_meaning.proofs.DefaultDelivered.{served_front, served_rest, default_delivers}
+use Rattle.pm_meaning.proofs.DefaultDelivered.{served_front, served_rest, found_front, default_delivers}
 use Rattle.pm_meaning.proofs.DeliveredLast.{advanced}
 use Rattle.pm_meaning.proofs.EndStatus.{well_is_success}
 use Rattle.pm_meaning.proofs.FirstKept.{parts_through, on_with, over_own}
@@ -164,6 +166,11 @@ ReadsOwn s es = (later : List Entry) (e : Entry) (o : OpeningRule) (name : List 
 abbrev NamesOwn : State → Type 0
 NamesOwn s = (p : Mind) → s ≡ Running [] p → HasDefault (default_mailboxes p.vars) p
 
+-- where the default mailbox is found to be a folder, the names of its files can begin with MSGPREFIX
+abbrev PrefixesOwn : State → List Entry → Type 0
+PrefixesOwn s es = (mailbox : List ℕ) (others : List (List ℕ)) (p : Mind) → s ≡ FallingOff (mailbox ∷ others) p → FoundFolder (full_of p.base (destination_of mailbox)) es
+    → is_usable (plain_prefix p) ≡ true
+
 asked_read : (o : OpeningRule) (name : List ℕ) (names : List (List ℕ)) (p : Mind) (last : Next State Event) (es : List Entry) → ReadsOwn (Opening o (name ∷ names) p) es
     → Plays (and_then (ask (ReadFile name)) (after_read o name names (opened p))) es last → FaresOn last
 asked_read o name names p last [] reads h = absurd h
@@ -184,36 +191,37 @@ fares_running (BlockEnd saved lock ∷ rest) p next es h named =
     let k = then_end (give_maybe lock p) (λ q. Go (Running rest (closed saved q))) es next h in fares_at (Go (Running rest (closed saved k.0))) next k.2 tt
 fares_running (FileEnd name ∷ rest) p next es h named = ended_at (Go (Running rest (with_rcfile name p))) next es h tt
 
-fares_falling : (mailboxes : List (List ℕ)) (p : Mind) (next : Next State Event) (es : List Entry) → Plays (step (FallingOff mailboxes p)) es next → AllServed es → HasDefault mailboxes p → FaresOn next
-fares_falling [] p next es h served fares = absurd fares
-fares_falling (mailbox ∷ rest) p next es h served fares =
+fares_falling : (mailboxes : List (List ℕ)) (p : Mind) (next : Next State Event) (es : List Entry) → Plays (step (FallingOff mailboxes p)) es next → AllServed es
+    → PrefixesOwn (FallingOff mailboxes p) es → HasDefault mailboxes p → FaresOn next
+fares_falling [] p next es h served prefixes fares = absurd fares
+fares_falling (mailbox ∷ rest) p next es h served prefixes fares =
     let k = then_end (deliver_default mailbox p) (λ turn. next_default rest turn) es next h in
-    fares_at (next_default rest k.0) next k.2 (fares_default rest k.0 (default_delivers mailbox p es k.0 fares served k.1))
+    fares_at (next_default rest k.0) next k.2 (fares_default rest k.0 (default_delivers mailbox p es k.0 fares (prefixes mailbox rest p refl) served k.1))
 
 -- one step
-fares_on : (s : State) (next : Next State Event) (es : List Entry) → Plays (step s) es next → AllServed es → ReadsOwn s es → NamesOwn s → Fares s → FaresOn next
-fares_on (Arrived line env bytes) next es h served reads named fares = fares_by next (λ stray. never_prepared is_astray not_astray line env bytes es next h stray)
-fares_on (Setting pairs line home p) next es h served reads named fares = fares_by next (λ stray. never_setting is_astray not_astray pairs line home p es next h stray)
-fares_on (Opening o [] p) next es h served reads named fares = ended_at (Go (without_rcfile p)) next es h (fares_without (is_first p) p)
-fares_on (Opening o (name ∷ names) p) next es h served reads named fares = fares_opening (nat_le 256 p.openings) o name names p next es reads h
-fares_on (Running items p) next es h served reads named fares = fares_running items p next es h named
-fares_on (Including name rest p) next es h served reads named fares = fares_by next (λ stray. never_opened is_astray not_astray name rest p (included name rest) (λ trees q. refl) es next h stray)
-fares_on (Switching name rest p) next es h served reads named fares = fares_by next (λ stray. never_opened is_astray not_astray name rest p (switched name rest) (λ trees q. refl) es next h stray)
-fares_on (LeavingFile locks items p) next es h served reads named fares = fares_by next (λ stray. never_left is_astray not_astray locks items p es next h stray)
-fares_on (Cloning trees items p) next es h served reads named fares = ended_at (Stop (WantsClone trees items p)) next es h tt
-fares_on (Refusing items p) next es h served reads named fares = fares_by next (λ stray. never_refused is_astray not_astray items p es next h stray)
-fares_on (FallingOff mailboxes p) next es h served reads named fares = fares_falling mailboxes p next es h served fares
-fares_on (Leaving [] end p) next es h served reads named fares = ended_at (Go (left_by end p)) next es h (fares_left end p fares)
-fares_on (Leaving (lock ∷ locks) end p) next es h served reads named fares =
+fares_on : (s : State) (next : Next State Event) (es : List Entry) → Plays (step s) es next → AllServed es → ReadsOwn s es → NamesOwn s → PrefixesOwn s es → Fares s → FaresOn next
+fares_on (Arrived line env bytes) next es h served reads named prefixes fares = fares_by next (λ stray. never_prepared is_astray not_astray line env bytes es next h stray)
+fares_on (Setting pairs line home p) next es h served reads named prefixes fares = fares_by next (λ stray. never_setting is_astray not_astray pairs line home p es next h stray)
+fares_on (Opening o [] p) next es h served reads named prefixes fares = ended_at (Go (without_rcfile p)) next es h (fares_without (is_first p) p)
+fares_on (Opening o (name ∷ names) p) next es h served reads named prefixes fares = fares_opening (nat_le 256 p.openings) o name names p next es reads h
+fares_on (Running items p) next es h served reads named prefixes fares = fares_running items p next es h named
+fares_on (Including name rest p) next es h served reads named prefixes fares = fares_by next (λ stray. never_opened is_astray not_astray name rest p (included name rest) (λ trees q. refl) es next h stray)
+fares_on (Switching name rest p) next es h served reads named prefixes fares = fares_by next (λ stray. never_opened is_astray not_astray name rest p (switched name rest) (λ trees q. refl) es next h stray)
+fares_on (LeavingFile locks items p) next es h served reads named prefixes fares = fares_by next (λ stray. never_left is_astray not_astray locks items p es next h stray)
+fares_on (Cloning trees items p) next es h served reads named prefixes fares = ended_at (Stop (WantsClone trees items p)) next es h tt
+fares_on (Refusing items p) next es h served reads named prefixes fares = fares_by next (λ stray. never_refused is_astray not_astray items p es next h stray)
+fares_on (FallingOff mailboxes p) next es h served reads named prefixes fares = fares_falling mailboxes p next es h served prefixes fares
+fares_on (Leaving [] end p) next es h served reads named prefixes fares = ended_at (Go (left_by end p)) next es h (fares_left end p fares)
+fares_on (Leaving (lock ∷ locks) end p) next es h served reads named prefixes fares =
     let k = then_end (give_maybe lock p) (λ q. Go (Leaving locks end q)) es next h in fares_at (Go (Leaving locks end k.0)) next k.2 fares
-fares_on (Over end p) next es h served reads named fares =
+fares_on (Over end p) next es h served reads named prefixes fares =
     let k = then_end (tell_delivery end p) (λ done. Go (Trapping end p)) es next h in fares_at (Go (Trapping end p)) next k.2 fares
-fares_on (Trapping end p) next es h served reads named fares =
+fares_on (Trapping end p) next es h served reads named prefixes fares =
     let k = then_end (trap end p) (λ t. Go (Unlocking (ending_of end t.code t.mind) t.mind)) es next h in
     fares_at (Go (Unlocking (ending_of end k.0.code k.0.mind) k.0.mind)) next k.2 fares
-fares_on (Unlocking ending p) next es h served reads named fares =
+fares_on (Unlocking ending p) next es h served reads named prefixes fares =
     let k = then_end (give_named p.global p) (λ q. Go (Closing ending q)) es next h in fares_at (Go (Closing ending k.0)) next k.2 fares
-fares_on (Closing ending p) next es h served reads named fares =
+fares_on (Closing ending p) next es h served reads named prefixes fares =
     let last : Next State Event = Stop (Ended ending p) in fares_at last next (given_end p.locks last es next h) fares
 
 -- after a step nothing stands in the way either
@@ -226,6 +234,9 @@ clear_go c d front rest es whole h clear = record {
   named = λ before later p is comes.
       clear.named (front ++ before) later p (whole ∙ ap (λ l. front ++ l) is ∙ sym (append_assoc front before later))
       (comes.0, comes.1, arrives_go {X = Ending} advance c d (now_at comes.0 (Running [] p)) front before h comes.2);
+  prefixed = λ before later mailbox others p is comes.
+      clear.prefixed (front ++ before) later mailbox others p (whole ∙ ap (λ l. front ++ l) is ∙ sym (append_assoc front before later))
+      (comes.0, comes.1, arrives_go {X = Ending} advance c d (now_at comes.0 (FallingOff (mailbox ∷ others) p)) front before h comes.2);
 }
 
 -- the run stands where its process does
@@ -239,6 +250,11 @@ reads_own o s front rest es none whole clear later e rule name names p is at fil
 
 names_own : (o : Others) (s : State) (es : List Entry) → o.first ≡ None → IsClear (now_at o s) es → NamesOwn s
 names_own o s es none clear p at = clear.named [] es p refl (o, none, subst (λ t. ArrivesHere o s t) at (arrives_here {X = Ending} advance (now_at o s)))
+
+prefixes_own : (o : Others) (s : State) (front rest es : List Entry) → o.first ≡ None → es ≡ front ++ rest → IsClear (now_at o s) es → PrefixesOwn s front
+prefixes_own o s front rest es none whole clear mailbox others p at found =
+    clear.prefixed [] (front ++ rest) mailbox others p whole (o, none, subst (λ t. ArrivesHere o s t) at (arrives_here {X = Ending} advance (now_at o s)))
+    (found_front (full_of p.base (destination_of mailbox)) front rest found)
 
 -- with so many steps
 abbrev Walks : ℕ → Type 0
@@ -268,7 +284,8 @@ walks_well zero o s es z none fares clear h = absurd (not_over es z h)
 walks_well (suc n) o s es z none fares clear h =
     let k = parts_through (step s) (onward o) (on_with n) es (Some z) h in
     let served = served_front k.front k.rest (subst AllServed k.whole clear.served) in
-    let on = fares_on s k.middle k.front k.plays_front served (reads_own o s k.front k.rest es none k.whole clear) (names_own o s es none clear) fares in
+    let on = fares_on s k.middle k.front k.plays_front served (reads_own o s k.front k.rest es none k.whole clear) (names_own o s es none clear)
+    (prefixes_own o s k.front k.rest es none k.whole clear) fares in
     elim k.middle as (λ m. Plays (step s) k.front m → FaresOn m → Plays (on_with n (onward o m)) k.rest (Some z) → IsWell z.end) [
       | Stop event ↦ λ a f b. by_event n o s event k.front k.rest es z (walks_well n) none k.whole clear a f b
       | Go t ↦ λ a f b. walks_well n o t k.rest z none f (clear_go (now_at o s) (now_at o t) k.front k.rest es k.whole (advanced o s k.front (Go t) a) clear) b

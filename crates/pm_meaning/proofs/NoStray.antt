@@ -7,7 +7,7 @@ use Rattle.pm_recipe.specs.declared.tree.Flags.{Flags}
 use Rattle.pm_subst.specs.Commands.{commands_in}
 use Rattle.pm_subst.specs.Words.{words_in}
 use Rattle.pm_subst.specs.declared.kinds.Mode.TheVariants.{One, Many}
-use Rattle.pm_journal.specs.LogText.{unusable_name_line, skipped_line, value_too_long_line, no_lock_line, defective_condition_line}
+use Rattle.pm_journal.specs.LogText.{unusable_name_line, skipped_line, value_too_long_line, no_lock_line}
 use Rattle.pm_journal.specs.Plan.{Plan, Ends, and_then}
 use Rattle.pm_meaning.specs.Abstracts.{copy_lines}
 use Rattle.pm_meaning.specs.Assigning.{value_in, first_word}
@@ -17,7 +17,7 @@ use Rattle.pm_meaning.specs.Changes.{overflowed}
 use Rattle.pm_meaning.specs.Delivering.{filed_turn, attempt_turn, attempt_lines, say_each, is_done, settled, after_attempt, file_and_say, attempt, deliver_at, deliver_named, is_without, deliver_to, deliver_text, Ready, deliver_with, make_ready, deliver}
 use Rattle.pm_meaning.specs.Destinations.{destination_of, full_of, are_file_texts}
 use Rattle.pm_meaning.specs.Forwards.{forward_reading}
-use Rattle.pm_meaning.specs.Judging.{judge, by_verdict, behind_conditions, judge_first}
+use Rattle.pm_meaning.specs.Judging.{holding, behind_conditions, judge_first}
 use Rattle.pm_meaning.specs.Locks.{text_or, lock_word, blamed_text, is_lock_word, full_lock, is_taken, any_held}
 use Rattle.pm_meaning.specs.Logging.{log}
 use Rattle.pm_meaning.specs.Minds.{Mind}
@@ -34,8 +34,6 @@ use Rattle.pm_meaning.specs.declared.process.Filed.TheVariants.{Stored}
 use Rattle.pm_meaning.specs.declared.process.ProgramLine.{ProgramLine}
 use Rattle.pm_meaning.specs.declared.process.ProgramLine.TheVariants.{Runs, NoWords, Unusable, TooLong as LineTooLong}
 use Rattle.pm_meaning.specs.declared.process.Trial.{Trial}
-use Rattle.pm_meaning.specs.declared.question.Judgement.{Judgement}
-use Rattle.pm_meaning.specs.declared.question.Judgement.TheVariants.{Matched, Unmatched, Defective, TooLong}
 use Rattle.pm_meaning.specs.Running.{statement}
 use Rattle.pm_meaning.proofs.NoDelivery.{Never, never_ends, never_then, never_said, never_if, FailsElsewhere, never_goes, never_told, never_skipped, never_entered, never_assign, never_unset}
 
@@ -191,19 +189,14 @@ never_acted top (Forward text) p = never_program (forward_task top.flags top.loc
 never_acted top WriteOut p = never_written top.flags top.lock p
 never_acted top (Block trees) p = never_entered strays no_stray top p
 
-never_by : (verdict : Judgement) (p : Mind) (acts : Plan Turn) → Never strays acts → Never strays (by_verdict verdict p acts)
-never_by Matched p acts never = never
-never_by Unmatched p acts never = never_goes strays no_stray p
-never_by (Defective text) p acts never = never_told strays no_stray p (defective_condition_line text)
-never_by (TooLong size) p acts never = never_said strays p (value_too_long_line size) (GoesOn (overflowed p)) refl
-
 never_recipe : (top : Top) (act : Act) (p : Mind) → Never strays (judge_first top (λ q. carry_out top act q) p)
 never_recipe top act p =
     let acts : Mind → Plan Turn = λ q. carry_out top act q in
-    let judged : Plan Turn = and_then (judge top.conditions top.flags p) (λ j. behind_conditions top.flags acts j) in
+    let judged : Plan Turn = and_then (holding top.conditions top.flags p) (λ held. behind_conditions top.flags acts held) in
     never_if strays (not (is_admitted top.flags p.chain)) (Ends (GoesOn (passed top.flags p))) judged (never_goes strays no_stray (passed top.flags p))
-    (never_then strays (judge top.conditions top.flags p) (λ j. behind_conditions top.flags acts j)
-    (λ j. never_by j.verdict (passed top.flags j.mind) (acts (executed top.flags j.mind)) (never_acted top act (executed top.flags j.mind))))
+    (never_then strays (holding top.conditions top.flags p) (λ held. behind_conditions top.flags acts held)
+    (λ held. never_if strays held.holds (acts (executed top.flags held.mind)) (Ends (GoesOn (passed top.flags held.mind))) (never_acted top act (executed top.flags held.mind))
+    (never_goes strays no_stray (passed top.flags held.mind))))
 
 pub never_statement : (tree : Tree) (p : Mind) → Never strays (statement tree p)
 never_statement (Assign name text) p = never_assign strays no_stray name text p

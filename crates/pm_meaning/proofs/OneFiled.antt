@@ -11,12 +11,12 @@ use Rattle.pm_journal.specs.declared.acts.Reply.TheVariants.{Done, IsFolder, Tor
 use Rattle.pm_journal.specs.declared.acts.Entry.{Entry}
 use Rattle.pm_journal.specs.declared.placing.FolderKind.{FolderKind}
 use Rattle.pm_journal.specs.declared.placing.FolderKind.TheVariants.{Plain}
-use Rattle.pm_journal.specs.Plan.{Plan, Ends, and_then, ask, Plays}
+use Rattle.pm_journal.specs.Plan.{Ends, and_then, ask, Plays}
 use Rattle.pm_journal.specs.Replies.{IsReplyTo}
 use Rattle.pm_vars.specs.Table.{Table}
 use Rattle.pm_vars.specs.Variables.{Variable, with_value}
 use Rattle.pm_meaning.specs.Changes.{counted, stored_in}
-use Rattle.pm_meaning.specs.Delivering.{Filing, mailbox_piece, folder_piece, next_stamp, placed_by, placed_at, in_folder, plain_prefix, in_plain, appended_by, to_file, file_size, file_as, file_one}
+use Rattle.pm_meaning.specs.Delivering.{Filing, mailbox_piece, folder_piece, next_stamp, placed_by, placed_at, in_folder, plain_prefix, appended_by, file_size, file_as, file_one}
 use Rattle.pm_meaning.specs.Destinations.{full_of}
 use Rattle.pm_meaning.specs.Laws.{IsPlaced, IsAppended, HasMail}
 use Rattle.pm_meaning.specs.Locks.{is_nothing}

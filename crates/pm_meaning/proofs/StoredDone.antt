@@ -1,5 +1,5 @@
 -- Destinations have the mail only by done appends and placed pieces.
-use Rattle.std.proofs.Common.{◌≡◌, ℕ, Bool, true, false, List, [], ◌∷◌, ◌++◌, refl, sym, ap, ◌∙◌, subst}
+use Rattle.std.proofs.Common.{◌≡◌, ℕ, true, false, List, [], ◌∷◌, refl, sym, ap, ◌∙◌, subst}
 use Rattle.std.specs.Prelude.{if◌then◌else◌}
 use Rattle.pm_message.specs.Piece.{piece_of}
 use Rattle.pm_message.specs.declared.head.Message.{Message}

@@ -1,7 +1,8 @@
 -- Where a statement ends a process as delivered, it is a recipe that delivers.
-use Rattle.std.proofs.Common.{◌≡◌, ℕ, true, false, not, List, [], ◌∷◌, ◌++◌, refl, sym, ap, ◌∙◌, subst, append_assoc}
+use Rattle.std.proofs.Common.{◌≡◌, ℕ, Bool, true, false, not, List, [], ◌∷◌, ◌++◌, refl, sym, ap, ◌∙◌, subst, append_assoc, append-nil}
 use Rattle.std.specs.Prelude.{if◌then◌else◌}
 use Rattle.pm_recipe.specs.Tree.{Top, Act as Action, Mailbox, Pipe, Capture, Forward, WriteOut, Block, Tree, Assign, Unset, Recipe, Defect}
+use Rattle.pm_recipe.specs.declared.tree.Condition.{Condition}
 use Rattle.pm_recipe.specs.declared.tree.Flags.{Flags}
 use Rattle.pm_subst.specs.Commands.{commands_in}
 use Rattle.pm_subst.specs.Words.{words_in}
@@ -15,7 +16,7 @@ use Rattle.pm_meaning.specs.Blocks.{carry_out}
 use Rattle.pm_meaning.specs.Chains.{is_admitted, passed, executed}
 use Rattle.pm_meaning.specs.Changes.{overflowed}
 use Rattle.pm_meaning.specs.Forwards.{forward_reading}
-use Rattle.pm_meaning.specs.Judging.{Judged, judge, judged_with, behind_conditions, by_verdict, judge_first}
+use Rattle.pm_meaning.specs.Judging.{Judged, judge, judged_with, Held, held_with, told_judgement, behind_judgement, holding, behind_conditions, judge_first}
 use Rattle.pm_meaning.specs.Locks.{text_or}
 use Rattle.pm_meaning.specs.Minds.{Mind}
 use Rattle.pm_meaning.specs.ProgramActions.{lock_commands, pipe_task, forward_task, write_task}
@@ -27,7 +28,7 @@ use Rattle.pm_meaning.specs.Running.{State, Running, Item, Do, statement}
 use Rattle.pm_meaning.proofs.MailboxDelivered.{DeliversReady, delivered_by}
 use Rattle.pm_meaning.proofs.ProgramDelivered.{PipeMade, pipe_made, never_captured, ForwardMade, forward_made, OutputMade, output_made}
 use Rattle.pm_meaning.proofs.RecipeReady.{IsExecuted, ready_of, read_of}
-use Rattle.pm_meaning.proofs.NoDelivery.{delivers, no_delivery, never_goes, never_entered, never_said, never_told, never_assign, never_unset}
+use Rattle.pm_meaning.proofs.NoDelivery.{delivers, no_delivery, never_ends, never_goes, never_entered, never_said, never_told, never_assign, never_unset}
 
 -- the action of a recipe delivered so, after its conditions
 pub data DeliversBy (top : Top) (act : Action) (p : Mind) (es : List Entry) : Type 0 where
@@ -64,42 +65,65 @@ by_act top (Forward text) p es turn h passes = to_sendmail text refl (forward_ma
 by_act top WriteOut p es turn h passes = to_output refl (output_made top.flags top.lock p es turn h passes)
 by_act top (Block trees) p es turn h passes = absurd (never_entered delivers no_delivery top p es turn h passes)
 
+-- a test of whether conditions hold
+abbrev are_met : Held → Bool
+are_met held = held.holds
+
+matched_judged : (conditions : List Condition) (flags : Flags) (p : Mind) (es : List Entry) (held : Held) (judged : Judged) (front rest : List Entry) → judged.verdict ≡ Matched → es ≡ front ++ rest
+    → Plays (judge conditions flags p) front judged → Plays (Ends (held_with true judged.mind)) rest held → Plays (judge conditions flags p) es (judged_with Matched held.mind)
+matched_judged conditions flags p es held judged front [] is whole h l =
+    let same : es ≡ front = whole ∙ append-nil front in
+    subst (λ l. Plays (judge conditions flags p) l (judged_with Matched held.mind)) (sym same)
+    (subst (λ q. Plays (judge conditions flags p) front (judged_with Matched q)) (ap (λ x. x.mind) (sym l)) (subst (λ v. Plays (judge conditions flags p) front (judged_with v judged.mind)) is h))
+matched_judged conditions flags p es held judged front (e ∷ rest) is whole h l = absurd l
+
+-- conditions that hold were judged so
+held_judged : (conditions : List Condition) (flags : Flags) (p : Mind) (es : List Entry) (held : Held) → Plays (holding conditions flags p) es held → held.holds ≡ true
+    → Plays (judge conditions flags p) es (judged_with Matched held.mind)
+held_judged conditions flags p es held h met =
+    let k = parts_of (judge conditions flags p) behind_judgement es held h in
+    let q = k.middle.mind in
+    elim k.middle.verdict as (λ v. k.middle.verdict ≡ v → Plays (told_judgement v q) k.rest held → Plays (judge conditions flags p) es (judged_with Matched held.mind)) [
+      | Matched ↦ λ is l. matched_judged conditions flags p es held k.middle k.front k.rest is k.whole k.plays_front l
+      | Unmatched ↦ λ is l. absurd (never_ends are_met (held_with false q) refl k.rest held l met)
+      | Defective text ↦ λ is l. absurd (never_said are_met q (defective_condition_line text) (held_with false q) refl k.rest held l met)
+      | TooLong size ↦ λ is l. absurd (never_said are_met q (value_too_long_line size) (held_with false (overflowed q)) refl k.rest held l met)
+    ] refl k.plays_rest
+
 -- the conditions hold, and then the action delivered so
-with_conditions : (top : Top) (act : Action) (p : Mind) (judged : Judged) (front rest es : List Entry) → is_admitted top.flags p.chain ≡ true → judged.verdict ≡ Matched → es ≡ front ++ rest
-    → Plays (judge top.conditions top.flags p) front judged → DeliversBy top act (executed top.flags judged.mind) rest → DeliversTree (Recipe top act) p es
-with_conditions top act p judged front rest es admitted matched whole h d = record {
+with_conditions : (top : Top) (act : Action) (p : Mind) (held : Held) (front rest es : List Entry) → is_admitted top.flags p.chain ≡ true → held.holds ≡ true → es ≡ front ++ rest
+    → Plays (holding top.conditions top.flags p) front held → DeliversBy top act (executed top.flags held.mind) rest → DeliversTree (Recipe top act) p es
+with_conditions top act p held front rest es admitted met whole h d = record {
   top = top;
   act = act;
   is = refl;
   judged = front;
   last = rest;
   whole = whole;
-  mind = executed top.flags judged.mind;
+  mind = executed top.flags held.mind;
   executed_is = record {
     admitted = admitted;
-    judged = judged.mind;
-    holds = subst (λ v. Plays (judge top.conditions top.flags p) front (judged_with v judged.mind)) matched h;
+    judged = held.mind;
+    holds = held_judged top.conditions top.flags p front held h met;
     mind_is = refl;
   };
   by = d;
 }
 
 by_judgement : (top : Top) (act : Action) (p : Mind) (es : List Entry) (turn : Turn) → is_admitted top.flags p.chain ≡ true
-    → Plays (and_then (judge top.conditions top.flags p) (λ judged. behind_conditions top.flags (λ q. carry_out top act q) judged)) es turn → delivers turn ≡ true → DeliversTree (Recipe top act) p es
+    → Plays (and_then (holding top.conditions top.flags p) (λ held. behind_conditions top.flags (λ q. carry_out top act q) held)) es turn → delivers turn ≡ true → DeliversTree (Recipe top act) p es
 by_judgement top act p es turn admitted h passes =
-    let k = parts_of (judge top.conditions top.flags p) (λ judged. behind_conditions top.flags (λ q. carry_out top act q) judged) es turn h in
+    let k = parts_of (holding top.conditions top.flags p) (λ held. behind_conditions top.flags (λ q. carry_out top act q) held) es turn h in
     let q = passed top.flags k.middle.mind in
     let r = executed top.flags k.middle.mind in
-    elim k.middle.verdict as (λ v. k.middle.verdict ≡ v → Plays (by_verdict v q (carry_out top act r)) k.rest turn → DeliversTree (Recipe top act) p es) [
-      | Matched ↦ λ holds l. with_conditions top act p k.middle k.front k.rest es admitted holds k.whole k.plays_front (by_act top act r k.rest turn l passes)
-      | Unmatched ↦ λ holds l. absurd (never_goes delivers no_delivery q k.rest turn l passes)
-      | Defective text ↦ λ holds l. absurd (never_told delivers no_delivery q (defective_condition_line text) k.rest turn l passes)
-      | TooLong size ↦ λ holds l. absurd (never_said delivers q (value_too_long_line size) (GoesOn (overflowed q)) refl k.rest turn l passes)
+    elim k.middle.holds as (λ b. k.middle.holds ≡ b → Plays (if b then carry_out top act r else Ends (GoesOn q)) k.rest turn → DeliversTree (Recipe top act) p es) [
+      | true ↦ λ holds l. with_conditions top act p k.middle k.front k.rest es admitted holds k.whole k.plays_front (by_act top act r k.rest turn l passes)
+      | false ↦ λ holds l. absurd (never_goes delivers no_delivery q k.rest turn l passes)
     ] refl k.plays_rest
 
 by_conditions : (top : Top) (act : Action) (p : Mind) (es : List Entry) (turn : Turn) → Plays (judge_first top (λ q. carry_out top act q) p) es turn → delivers turn ≡ true → DeliversTree (Recipe top act) p es
 by_conditions top act p es turn h passes =
-    let judged = and_then (judge top.conditions top.flags p) (λ j. behind_conditions top.flags (λ q. carry_out top act q) j) in
+    let judged = and_then (holding top.conditions top.flags p) (λ held. behind_conditions top.flags (λ q. carry_out top act q) held) in
     elim (is_admitted top.flags p.chain) as (λ b. is_admitted top.flags p.chain ≡ b → Plays (if not b then Ends (GoesOn (passed top.flags p)) else judged) es turn → DeliversTree (Recipe top act) p es) [
       | true ↦ λ admitted k. by_judgement top act p es turn admitted k passes
       | false ↦ λ admitted k. absurd (never_goes delivers no_delivery (passed top.flags p) es turn k passes)

@@ -3,7 +3,6 @@ use Rattle.std.specs.Prelude.{ℕ, ◌==◌, Bool, not, ◌&&◌, List, [], ◌�
 use Rattle.std.specs.List.{starts_with, before_first}
 use Rattle.pm_bytes.specs.Letter.{lower_case}
 use Rattle.pm_message.specs.Field.{texts_of}
-use Rattle.pm_message.specs.declared.head.Message.{Message}
 use Rattle.pm_meaning.specs.Leads.{behind_blanks}
 use Rattle.pm_journal.specs.LogText.{quoted}
 use Rattle.pm_recipe.specs.declared.tree.Flags.{Flags}

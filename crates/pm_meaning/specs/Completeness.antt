@@ -1,5 +1,5 @@
 -- What a run comes to where nothing stands in its way.
-use Rattle.std.specs.Prelude.{◌≡◌, ℕ, true, false, List, [], ◌∷◌, ◌++◌, Option, Some}
+use Rattle.std.specs.Prelude.{◌≡◌, ◌⊎◌, ℕ, true, false, List, [], ◌∷◌, ◌++◌, Option, Some}
 use Rattle.pm_bytes.specs.Name.{is_usable}
 use Rattle.pm_bytes.specs.declared.environment.Environ.{Environ}
 use Rattle.pm_journal.specs.Walking.{Means}
@@ -16,7 +16,7 @@ use Rattle.pm_meaning.specs.declared.process.End.{End}
 use Rattle.pm_meaning.specs.declared.process.End.TheVariants.{Delivered, HostOff}
 use Rattle.pm_meaning.specs.Courses.{Course, advance, run_of}
 use Rattle.pm_meaning.specs.EndStatus.{ComesTo, EndsBy, SetsNoStatus}
-use Rattle.pm_meaning.specs.Running.{Opening, Running, OpeningRule, default_mailboxes}
+use Rattle.pm_meaning.specs.Running.{Opening, Running, FallingOff, OpeningRule, default_mailboxes}
 use Rattle.pm_meaning.specs.declared.command_line.CommandLine.{CommandLine}
 use Rattle.pm_meaning.specs.declared.ending.Ending.{Ending}
 
@@ -61,12 +61,21 @@ file_of mailbox p = full_of p.base (destination_of mailbox) ∷ []
 abbrev pub lock_of : List ℕ → Mind → Option (List ℕ)
 lock_of mailbox p = lock_word (Some []) [] (mailbox ∷ []) p
 
--- The process can deliver to this default mailbox: it, its lock file and new files in a folder can have such names; the lock file is
--- another file and isn't held already, and the mailbox is no lock file that is held.
+-- this file was found to be a folder where a piece was to be appended to it
+abbrev pub IsFolderAt : List ℕ → Act → Reply → Type 0
+IsFolderAt file (Append name piece) IsFolder = name ≡ file
+IsFolderAt file act reply = ⊥
+
+-- at one of these it was
+abbrev pub FoundFolder : List ℕ → List Entry → Type 0
+FoundFolder file [] = ⊥
+FoundFolder file (e ∷ es) = IsFolderAt file e.act e.reply ⊎ FoundFolder file es
+
+-- The process can deliver to this default mailbox: it and its lock file can have such names; the lock file is another file and isn't
+-- held already, and the mailbox is no lock file that is held.
 pub record CanTake (mailbox : List ℕ) (p : Mind) : Type 0 where
   pub named : are_file_texts (mailbox ∷ []) ≡ true
   pub lock_named : is_lock_word (lock_of mailbox p) ≡ true
-  pub prefix_named : is_usable (plain_prefix p) ≡ true
   pub lock_free : is_taken (full_lock p.base (lock_of mailbox p)) (file_of mailbox p) p.locks ≡ false
   pub no_lock : any_held (file_of mailbox p) p.locks ≡ false
 
@@ -75,13 +84,15 @@ abbrev pub HasDefault : List (List ℕ) → Mind → Type 0
 HasDefault [] p = ⊥
 HasDefault (mailbox ∷ others) p = CanTake mailbox p
 
--- Nothing stands in the way: each lock was got, and each mailbox and folder took its piece; a mail filter's rcfile was read; and
--- where nothing is left to do there is a default mailbox.
+-- Nothing stands in the way: each lock was got, and each mailbox and folder took its piece; a mail filter's rcfile was read; where
+-- nothing is left to do there is a default mailbox; and where that is found to be a folder, the names of its files can begin with MSGPREFIX.
 pub record IsClear (c : Course) (entries : List Entry) : Type 0 where
   pub served : AllServed entries
   pub read : (before later : List Entry) (e : Entry) (o : OpeningRule) (name : List ℕ) (names : List (List ℕ)) (p : Mind) → entries ≡ before ++ e ∷ later
       → ComesTo c before (Opening o (name ∷ names) p) → p.filter ≡ true → e.act ≡ ReadFile name → IsContent e.reply
   pub named : (before later : List Entry) (p : Mind) → entries ≡ before ++ later → ComesTo c before (Running [] p) → HasDefault (default_mailboxes p.vars) p
+  pub prefixed : (before later : List Entry) (mailbox : List ℕ) (others : List (List ℕ)) (p : Mind) → entries ≡ before ++ later → ComesTo c before (FallingOff (mailbox ∷ others) p)
+      → FoundFolder (full_of p.base (destination_of mailbox)) later → is_usable (plain_prefix p) ≡ true
 
 -- the mail was delivered, or the process went off on another host
 abbrev pub IsWell : End → Type 0

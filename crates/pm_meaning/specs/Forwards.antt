@@ -1,5 +1,5 @@
 -- How mail is forwarded: the program and its words.
-use Rattle.std.specs.Prelude.{ℕ, ◌-◌, ◌^◌, Bool, not, min, nat_lt, List, [], ◌∷◌, ◌++◌, filter, codes, if◌then◌else◌}
+use Rattle.std.specs.Prelude.{ℕ, ◌-◌, ◌^◌, not, min, nat_lt, List, [], ◌∷◌, ◌++◌, filter, codes, if◌then◌else◌}
 use Rattle.pm_bytes.specs.Letter.{is_blank_byte}
 use Rattle.pm_vars.specs.Table.{Table}
 use Rattle.pm_subst.specs.Commands.{commands_in}

@@ -1,5 +1,5 @@
 -- What comes of a recipe's conditions before its action.
-use Rattle.std.specs.Prelude.{ℕ, zero, suc, ℤ, pos, Bool, false, not, drop, List, [], ◌∷◌, Option, Some, None, if◌then◌else◌}
+use Rattle.std.specs.Prelude.{ℕ, zero, suc, ℤ, pos, Bool, true, false, not, drop, List, [], ◌∷◌, Option, Some, None, if◌then◌else◌}
 use Rattle.std.specs.List.{list_any}
 use Rattle.pm_host.specs.declared.command.Command.{Command}
 use Rattle.pm_recipe.specs.Tree.{Top}
@@ -129,19 +129,36 @@ judge_each weighted flags (condition ∷ rest) total p =
 abbrev pub judge : List Condition → Flags → Mind → Plan Judged
 judge conditions flags p = judge_each (list_any is_weighted conditions) flags conditions (pos 0) p
 
--- where the conditions hold this comes; what is no condition, and a value that is too long, is told
-abbrev pub by_verdict : Judgement → Mind → Plan Turn → Plan Turn
-by_verdict Matched p acts = acts
-by_verdict Unmatched p acts = Ends (GoesOn p)
-by_verdict (Defective text) p acts = say_then p (defective_condition_line text) (GoesOn p)
-by_verdict (TooLong size) p acts = say_then p (value_too_long_line size) (GoesOn (overflowed p))
+-- whether the conditions hold, and the process then
+pub record Held : Type 0 where
+  pub holds : Bool
+  pub mind : Mind
 
--- what comes after the conditions
-abbrev pub behind_conditions : Flags → (Mind → Plan Turn) → Judged → Plan Turn
-behind_conditions flags acts judged = by_verdict judged.verdict (passed flags judged.mind) (acts (executed flags judged.mind))
+-- the same by its parts
+abbrev pub held_with : Bool → Mind → Held
+held_with holds p = record { holds = holds; mind = p }
+
+-- they hold only where all match; what is no condition, and a value that is too long, is told
+abbrev pub told_judgement : Judgement → Mind → Plan Held
+told_judgement Matched p = Ends (held_with true p)
+told_judgement Unmatched p = Ends (held_with false p)
+told_judgement (Defective text) p = say_then p (defective_condition_line text) (held_with false p)
+told_judgement (TooLong size) p = say_then p (value_too_long_line size) (held_with false (overflowed p))
+
+-- what comes after they were judged
+abbrev pub behind_judgement : Judged → Plan Held
+behind_judgement judged = told_judgement judged.verdict judged.mind
+
+-- the conditions of a recipe are judged, and a defect among them is told
+abbrev pub holding : List Condition → Flags → Mind → Plan Held
+holding conditions flags p = and_then (judge conditions flags p) behind_judgement
+
+-- what comes after the conditions: this where they hold
+abbrev pub behind_conditions : Flags → (Mind → Plan Turn) → Held → Plan Turn
+behind_conditions flags acts held = if held.holds then acts (executed flags held.mind) else Ends (GoesOn (passed flags held.mind))
 
 -- a recipe that its flags admit is judged, and acted on only where its conditions hold
 abbrev pub judge_first : Top → (Mind → Plan Turn) → Mind → Plan Turn
 judge_first top acts p =
     if not (is_admitted top.flags p.chain) then Ends (GoesOn (passed top.flags p))
-    else and_then (judge top.conditions top.flags p) (λ judged. behind_conditions top.flags acts judged)
+    else and_then (holding top.conditions top.flags p) (λ held. behind_conditions top.flags acts held)

@@ -1,5 +1,5 @@
 -- Where the lines of a process are logged: on `err`, or in the file of LOGFILE.
-use Rattle.std.specs.Prelude.{ℕ, Bool, not, ◌&&◌, List, [], Option, Some, None, codes, if◌then◌else◌}
+use Rattle.std.specs.Prelude.{ℕ, not, ◌&&◌, List, [], Option, Some, None, codes, if◌then◌else◌}
 use Rattle.pm_bytes.specs.Path.{full_name}
 use Rattle.pm_journal.specs.Held.{holds_name}
 use Rattle.pm_journal.specs.declared.acts.Act.TheVariants.{SayErr, SayFile}

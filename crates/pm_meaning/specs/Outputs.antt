@@ -7,7 +7,6 @@ use Rattle.pm_subst.specs.declared.kinds.Mode.TheVariants.{Many}
 use Rattle.pm_journal.specs.LogText.{couldnt_start_line, lost_contact_line, output_too_long_line, unusable_name_line, value_too_long_line}
 use Rattle.pm_journal.specs.Outcomes.{run_end, output_in}
 use Rattle.pm_journal.specs.declared.acts.Act.TheVariants.{Run}
-use Rattle.pm_journal.specs.declared.acts.Reply.{Reply}
 use Rattle.pm_journal.specs.declared.children.RunEnd.{RunEnd}
 use Rattle.pm_journal.specs.declared.children.RunEnd.TheVariants.{Ended, NotStarted, Broken, TooLong}
 use Rattle.pm_journal.specs.Plan.{Plan, Ends, and_then, ask}

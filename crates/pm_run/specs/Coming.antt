@@ -1,8 +1,5 @@
 -- What comes of a recipe before its action.
-use Rattle.std.specs.Prelude.{Bool, true, false}
 use Rattle.pm_recipe.specs.Tree.{Top}
-use Rattle.pm_meaning.specs.declared.question.Judgement.{Judgement}
-use Rattle.pm_meaning.specs.declared.question.Judgement.TheVariants.{Matched}
 use Rattle.pm_journal.specs.JournalState.{JournalState}
 use Rattle.pm_journal.specs.Entries.{View}
 use Rattle.pm_journal.specs.Executed.{Executes, LeadsTo}
@@ -13,11 +10,6 @@ use Rattle.pm_meaning.specs.Turns.{Turn}
 use Rattle.pm_meaning.specs.Turning.{turn_of}
 use Rattle.pm_run.specs.declared.judging.Come.{Come}
 use Rattle.pm_run.specs.declared.judging.Come.TheVariants.{Acts, Ended}
-
--- the conditions hold
-abbrev pub is_matched : Judgement → Bool
-is_matched Matched = true
-is_matched other = false
 
 -- whatever the action is: it is what is left to do, or the recipe is over
 abbrev pub ComesTo : Come → Top → Mind → Mind → JournalState → JournalState → View → View → Type 0

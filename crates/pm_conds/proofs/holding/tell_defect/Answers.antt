@@ -3,7 +3,7 @@ use Rattle.pm_journal.specs.LogText.{defective_condition_line}
 use Rattle.pm_journal.proofs.WantsMemory.{on_err, out_anywhere}
 use Rattle.pm_meaning.specs.Minds.{mind_of}
 use Rattle.pm_meaning.proofs.Choices.{line_told, line_out}
-use Rattle.pm_conds.specs.Holding.{held_with}
+use Rattle.pm_meaning.specs.Judging.{held_with}
 use Rattle.pm_conds.proofs.holding.tell_defect.Goals as goal
 
 pub returns-in_err-line-clause-carries : goal.returns-in_err-line-clause-carries

@@ -1,7 +1,7 @@
 use Rattle.std.proofs.Common.{true, false, refl}
 use Rattle.pm_meaning.specs.Minds.{mind_of}
 use Rattle.pm_journal.proofs.WantsMemory.{executes_nothing}
-use Rattle.pm_conds.specs.Holding.{held_with}
+use Rattle.pm_meaning.specs.Judging.{held_with}
 use Rattle.pm_conds.proofs.holding.tell_judgement.Goals as goal
 
 pub returns-in-Matched-clause-carries : goal.returns-in-Matched-clause-carries

@@ -6,7 +6,7 @@ use Rattle.pm_meaning.specs.Changes.{overflowed}
 use Rattle.pm_meaning.specs.Minds.{mind_of}
 use Rattle.pm_meaning.proofs.Choices.{line_out, line_then_out}
 use Rattle.pm_meaning.proofs.SkipLemmas.{set_copy}
-use Rattle.pm_conds.specs.Holding.{held_with}
+use Rattle.pm_meaning.specs.Judging.{held_with}
 use Rattle.pm_conds.proofs.HoldLemmas.{defect_told}
 use Rattle.pm_conds.proofs.holding.tell_long.Goals as goal
 

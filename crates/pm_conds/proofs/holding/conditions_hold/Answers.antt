@@ -1,10 +1,9 @@
 use Rattle.std.proofs.Common.{rules}
 use Rattle.pm_journal.proofs.WantsMemory.{on_err, out_front}
-use Rattle.pm_meaning.specs.Judging.{judge, judged_with}
+use Rattle.pm_meaning.specs.Judging.{judge, judged_with, behind_judgement}
 use Rattle.pm_meaning.specs.Minds.{mind_of}
 use Rattle.pm_meaning.proofs.Sequences.{then_carries}
-use Rattle.pm_conds.specs.Holding.{behind_judgement}
-use Rattle.pm_conds.proofs.holding.hold.Goals as goal
+use Rattle.pm_conds.proofs.holding.conditions_hold.Goals as goal
 
 pub returns-in_err-judgement-clause-carries : goal.returns-in_err-judgement-clause-carries
 returns-in_err-judgement-clause-carries g c =
