@@ -15,6 +15,11 @@ use std::alloc::Global;
 // How many names are tried.
 const MOST: u32 = 100;
 
+// How long the mark of a name is at most, and the number of a file in an MH folder.
+const MARK: usize = 3;
+
+const DIGITS: usize = 20;
+
 /// The names in a plain folder.
 pub fn plain_candidates(
     alloc: Global,
@@ -24,9 +29,10 @@ pub fn plain_candidates(
 ) -> Result<Vec<Candidate>, Memory>
     ensures { IfOk result (λ all. Numbered (plain_candidate folder.now prefix.now stamp.now) all.items) }
 {
+    let front = plain_front(alloc, folder, prefix, stamp)?;
     let mut all = Vec::new(alloc);
     for k in 0..MOST {
-        let at = plain_name(alloc, folder, prefix, stamp, k)?;
+        let at = plain_name(alloc, &front, k)?;
         all.push(Candidate { at, to: None })?;
     }
     Ok(all)
@@ -40,10 +46,13 @@ pub fn maildir_candidates(
 ) -> Result<Vec<Candidate>, Memory>
     ensures { IfOk result (λ all. Numbered (maildir_candidate folder.now stamp.now) all.items) }
 {
+    let made = maildir_front(alloc, folder, "tmp", stamp)?;
+    let moved = maildir_front(alloc, folder, "new", stamp)?;
+    let back = maildir_back(alloc, stamp)?;
     let mut all = Vec::new(alloc);
     for k in 0..MOST {
-        let at = maildir_name(alloc, folder, "tmp", stamp, k)?;
-        let to = maildir_name(alloc, folder, "new", stamp, k)?;
+        let at = maildir_name(alloc, &made, k, &back)?;
+        let to = maildir_name(alloc, &moved, k, &back)?;
         all.push(Candidate { at, to: Some(to) })?;
     }
     Ok(all)
@@ -66,46 +75,60 @@ pub fn mh_candidates(alloc: Global, folder: &Name, first: u64) -> Result<Vec<Can
     requires { first ≤ 10 ^ 18 }
     ensures { IfOk result (λ all. Numbered (mh_candidate folder.now first) all.items) }
 {
+    let front = Path::inside(alloc, folder)?;
     let mut all = Vec::new(alloc);
     for k in 0..MOST {
-        let at = mh_name(alloc, folder, first + k as u64)?;
+        let at = mh_name(alloc, &front, first + k as u64)?;
         all.push(Candidate { at, to: None })?;
     }
     Ok(all)
 }
 
-fn plain_name(
-    alloc: Global,
-    folder: &Name,
-    prefix: &Name,
-    stamp: &Stamp,
-    k: u32,
-) -> Result<Name, Memory>
-    ensures { IfOk result (λ name. name ≡ inside folder.now (prefix.now ++ stem stamp.now ++ mark k)) }
+// What the names in a plain folder begin with.
+fn plain_front(alloc: Global, folder: &Name, prefix: &Name, stamp: &Stamp) -> Result<Path, Memory>
+    ensures { IfOk result (λ path. path ≡ inside folder.now (prefix.now ++ stem stamp.now)) }
 {
     let mut path = Path::inside(alloc, folder)?;
     path.push(prefix.as_str())?;
     push_stem(&mut path, stamp)?;
+    Ok(path)
+}
+
+fn plain_name(alloc: Global, front: &Path, k: u32) -> Result<Name, Memory>
+    ensures { IfOk result (λ name. name ≡ front.now ++ mark k) }
+{
+    let mut path = front.copy(alloc, MARK)?;
     push_mark(&mut path, k)?;
     Ok(path.into_name())
 }
 
-fn maildir_name(
-    alloc: Global,
-    folder: &Name,
-    place: &str,
-    stamp: &Stamp,
-    k: u32,
-) -> Result<Name, Memory>
+// What the names in this folder of a maildir begin with.
+fn maildir_front(alloc: Global, folder: &Name, place: &str, stamp: &Stamp) -> Result<Path, Memory>
     requires { has_zero place.now ≡ false }
-    ensures { IfOk result (λ name. name ≡ inside (inside folder.now place.now) (maildir_part stamp.now k)) }
+    ensures { IfOk result (λ path. path ≡ inside (inside folder.now place.now) (stem stamp.now)) }
 {
     let mut path = part_of(alloc, folder, place)?;
     path.push("/")?;
     push_stem(&mut path, stamp)?;
-    push_mark(&mut path, k)?;
-    path.push(".")?;
+    Ok(path)
+}
+
+// What the names in a maildir end with.
+fn maildir_back(alloc: Global, stamp: &Stamp) -> Result<Path, Memory>
+    ensures { IfOk result (λ path. path ≡ codes "." ++ map unslashed stamp.now.host_name) }
+{
+    let mut path = Path::begin(alloc, ".")?;
     push_unslashed(&mut path, stamp.host_name.as_str())?;
+    Ok(path)
+}
+
+fn maildir_name(alloc: Global, front: &Path, k: u32, back: &Path) -> Result<Name, Memory>
+    ensures { IfOk result (λ name. name ≡ front.now ++ mark k ++ back.now) }
+{
+    let back = back.as_str();
+    let mut path = front.copy(alloc, back.len().saturating_add(MARK))?;
+    push_mark(&mut path, k)?;
+    path.push(back)?;
     Ok(path.into_name())
 }
 
@@ -134,10 +157,10 @@ fn part_of(alloc: Global, folder: &Name, part: &str) -> Result<Path, Memory>
     Ok(path)
 }
 
-fn mh_name(alloc: Global, folder: &Name, number: u64) -> Result<Name, Memory>
-    ensures { IfOk result (λ name. name ≡ inside folder.now (decimal number)) }
+fn mh_name(alloc: Global, front: &Path, number: u64) -> Result<Name, Memory>
+    ensures { IfOk result (λ name. name ≡ front.now ++ decimal number) }
 {
-    let mut path = Path::inside(alloc, folder)?;
+    let mut path = front.copy(alloc, DIGITS)?;
     push_count(&mut path, number)?;
     Ok(path.into_name())
 }

@@ -24,6 +24,33 @@ impl Model for Path {
 }
 
 impl Path {
+    /// This text.
+    pub fn begin(alloc: Global, text: &str) -> Result<Path, Memory>
+        requires { has_zero text.now ≡ false }
+        ensures { IfOk result (λ path. path ≡ text.now) }
+    {
+        Ok(Path {
+            text: String::from_str(alloc, text)?,
+        })
+    }
+
+    /// A copy, with room for so many bytes more.
+    pub fn copy(&self, alloc: Global, room: usize) -> Result<Path, Memory>
+        ensures { IfOk result (λ path. path ≡ self.now) }
+    {
+        let text = self.text.as_str();
+        let mut copy = String::with_capacity(alloc, text.len().saturating_add(room))?;
+        copy.push_str(text)?;
+        Ok(Path { text: copy })
+    }
+
+    pub fn as_str(&self) -> &str
+        ensures same { result.now ≡ self.now }
+        ensures plain { has_zero result.now ≡ false }
+    {
+        self.text.as_str()
+    }
+
     /// The folder's name and a slash.
     pub fn inside(alloc: Global, folder: &Name) -> Result<Path, Memory>
         ensures { IfOk result (λ path. path ≡ folder.now ++ codes "/") }

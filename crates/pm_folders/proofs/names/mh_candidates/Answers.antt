@@ -2,6 +2,7 @@ use Rattle.std.proofs.Common.{◌≡◌, ◌+◌, List, [], ◌∷◌, ℕ, leng
 use Rattle.pm_journal.specs.Naming.{mh_candidate}
 use Rattle.pm_journal.specs.declared.placing.Candidate.{Candidate}
 use Rattle.pm_folders.proofs.NamesLemmas.{one_more}
+use Rattle.pm_folders.proofs.NameText.{mh_is}
 use Rattle.pm_folders.proofs.names.mh_candidates.Goals as goal
 
 pub loop-k-preserved : goal.loop-k-preserved
@@ -9,7 +10,8 @@ loop-k-preserved c =
     let inv = c.loop-k.invariant in
     let n : c.loop-k.k ≡ 0 + length c.loop-k.all.items = omega (arith, inv.count) in
     let named : Candidate = record { at = c.in_ok-at.at; to = None } in
-    let e : named ≡ mh_candidate c.args.folder.now c.args.first (0 + length c.loop-k.all.items) = ap (λ (x : List ℕ). record { at = x; to = None }) c.in_ok-at.ensures ∙ ap (mh_candidate c.args.folder.now c.args.first) n in
+    let at = c.in_ok-at.ensures ∙ mh_is c.args.folder.now _ _ c.in_ok-front.ensures in
+    let e : named ≡ mh_candidate c.args.folder.now c.args.first (0 + length c.loop-k.all.items) = ap (λ (x : List ℕ). record { at = x; to = None }) at ∙ ap (mh_candidate c.args.folder.now c.args.first) n in
     record {
       within = omega (arith, c.loop-k-test.true);
       count = ap length c.in_ok-push.ensures.items ∙ omega (arith, length-append c.loop-k.all.items (named ∷ []), inv.count);
