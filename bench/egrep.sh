@@ -188,6 +188,7 @@ if [ "$counts" = yes ]; then
     echo "Instructions of lists of words on $large bytes of ordinary lines, and of deep expressions on $small bytes:"
     for count in 10 50 100; do
         states "$count words" "$(first_words "$count")" text "$large"
+        states "$count words between boundaries" "\\<($(first_words "$count"))\\>" text "$large"
     done
     states '900 times *' "a$(repeated '*' 900)b" a "$small"
     states '100 times a?' "$(repeated 'a?' 100)c" a "$small"

@@ -24,4 +24,5 @@ pub mod BackwardLemmas
 pub mod CacheLemmas
 pub mod ForwardLemmas
 pub mod RunLemmas
+pub mod AnywhereLemmas
 pub mod MarkLemmas

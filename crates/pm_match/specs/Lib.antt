@@ -14,4 +14,5 @@ pub mod Backward
 pub mod Cache
 pub mod Forward
 pub mod Begins
+pub mod Anywhere
 pub mod Checkpoints

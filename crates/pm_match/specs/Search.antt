@@ -9,6 +9,7 @@ use Rattle.pm_match.specs.Automaton.{Built}
 use Rattle.pm_match.specs.Automata.{AreWhole, Fits}
 use Rattle.pm_match.specs.Cache.{AreReady}
 use Rattle.pm_match.specs.Checkpoints.{HasRoom}
+use Rattle.pm_match.specs.Anywhere.{IsAnywhere}
 
 -- the automaton stands for the expression
 pub record IsProgram (g : Program) (e : Re) (fold : Bool) : Type 0 where
@@ -21,6 +22,7 @@ pub record Runs (g : Search) (l r : Re) (fold : Bool) : Type 0 where
   pub room : Fits g.automata g.room
   pub marks : IfSome g.marks (HasRoom g.automata.left.steps.items g.automata.left.entry g.automata.left.exit)
   pub cache : IfSome g.cache (AreReady false g.automata.left.steps.items g.automata.left.exit)
+  pub anywhere : IfSome g.anywhere (IsAnywhere g.automata.left)
   pub left : IsProgram g.automata.left l fold
   pub right : IsProgram g.automata.right r fold
 

@@ -24,4 +24,6 @@ pub struct Room {
     pub last: usize,
     /// How many places the last search visited.
     pub visits: usize,
+    /// How many labels of the left part it had there.
+    pub labels: usize,
 }

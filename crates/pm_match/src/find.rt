@@ -174,11 +174,13 @@ pub fn find(automata: &Automata, room: &mut Room, area: &[u8], from: usize) -> O
     let mut base = from;
     let mut place = from;
     room.visits = 0;
+    room.labels = 0;
     clear(&mut room.left);
     clear(&mut room.right);
     while place < area.len() {
         room.visits = room.visits.saturating_add(1);
         let met = visit(automata, room, area, base, place);
+        room.labels = room.labels.saturating_add(room.left.states.len());
         best = better(best, met, place);
         if is_final(best, &room.left, &room.right) {
             room.last = place;

@@ -199,7 +199,7 @@ fn meet_first(forward: &mut Forward, program: &Program, area: &[u8], start: usiz
 }
 
 /// The number of the set that a run begins with.
-fn first_number(forward: &mut Forward, program: &Program, area: &[u8], start: usize) -> usize
+pub fn first_number(forward: &mut Forward, program: &Program, area: &[u8], start: usize) -> usize
     requires program { InRange program.now.steps.items }
     requires entry { program.now.entry < length program.now.steps.items }
     requires start { start < length area.now }
@@ -249,7 +249,7 @@ fn meet_next(
 }
 
 /// The number of the set of the next place, by that of a place.
-fn next_number(
+pub fn next_number(
     forward: &mut Forward,
     program: &Program,
     area: &[u8],

@@ -2,6 +2,7 @@
 #![tactic(auto)]
 
 mod advancing;
+mod anywhere;
 mod atoms;
 mod automata;
 mod backward;

@@ -3,7 +3,9 @@ ghost use Rattle.std.specs.Prelude.{◌<◌, false, IfSome, length};
 ghost use Rattle.pm_match.specs.Labels.{InRange};
 ghost use Rattle.pm_match.specs.Starts.{AreStarts};
 ghost use Rattle.pm_match.specs.Cache.{AreReady};
+ghost use Rattle.pm_match.specs.Anywhere.{IsSound, IsAnywhere};
 
+use crate::anywhere::{Anywhere, ends_nowhere, make_anywhere};
 use crate::automata::{Automata, Room};
 use crate::build::{Program, build};
 use crate::cache::{Cache, least_start, make_cache};
@@ -30,6 +32,15 @@ const SAMPLE: usize = 1024;
 
 /// How many bytes for each state an area must have to pay for sets of states.
 const STATE: usize = 1024;
+
+/// How many states a large automaton has: as many as that of a list of some fifteen words.
+const MANY: usize = 256;
+
+/// How many bytes for each state of a large automaton an area must have to pay for a pass from the front.
+const FEWER: usize = 32;
+
+/// How many labels a place has where they cost more than sets of states.
+const CROWD: usize = 3;
 
 /// The length of areas that the cache of a search for the first match has room for sets by.
 const REACH: usize = 16384;
@@ -71,6 +82,17 @@ fn spare_cache(alloc: Global, program: &Program) -> Option<Cache>
     }
 }
 
+/// An empty cache for passes from the front. Where there is no memory for it the search goes on without.
+fn spare_anywhere(alloc: Global, program: &Program) -> Option<Anywhere>
+    requires { IsSound program.now }
+    ensures { IfSome result (IsAnywhere program.now) }
+{
+    match make_anywhere(alloc, program) {
+        Err(_) => None,
+        Ok(anywhere) => Some(anywhere),
+    }
+}
+
 /// Two automata, and the room to search by them.
 #[derive(Drop)]
 pub struct Search {
@@ -81,6 +103,8 @@ pub struct Search {
     marks: Option<Marks>,
     /// Sets for a pass from the end, once one was worth it.
     cache: Option<Cache>,
+    /// Sets for a pass from the front that tells whether anything matches, once one was worth it.
+    anywhere: Option<Anywhere>,
 }
 
 impl Search {
@@ -117,6 +141,7 @@ impl Search {
             right_next,
             last: 0,
             visits: 0,
+            labels: 0,
         };
         Ok(Search {
             alloc,
@@ -124,6 +149,7 @@ impl Search {
             room,
             marks: None,
             cache: None,
+            anywhere: None,
         })
     }
 
@@ -204,8 +230,73 @@ impl Search {
         }
     }
 
-    /// The first match in the area.
-    pub fn first_of_all(&mut self, area: &[u8]) -> Option<Match>
+    /// How many labels of the left part a search of so many of the area's first bytes has at all of their places.
+    fn labels_of(&mut self, area: &[u8], first: usize) -> usize
+        requires { (l : Re) × (r : Re) × (fold : Bool) × Runs self.old l r fold }
+        ensures { (l r : Re) (fold : Bool) → Runs self.old l r fold → Runs self.new l r fold }
+    {
+        if area.len() < first {
+            return 0;
+        }
+        self.prepare(area);
+        let _found = self.first(&area[..first], 0);
+        self.room.labels
+    }
+
+    /// Whether a pass from the front is worth it: a large automaton, for which the area is long enough, has many labels at
+    /// most of the first places.
+    fn is_crowded(&mut self, area: &[u8]) -> bool
+        requires { (l : Re) × (r : Re) × (fold : Bool) × Runs self.old l r fold }
+        ensures kept { (l r : Re) (fold : Bool) → Runs self.old l r fold → Runs self.new l r fold }
+        ensures front { IsTrue result → 0 < length area.now }
+    {
+        let size = self.automata.left.steps.len();
+        if area.len() < VERY_LONG || size < MANY || area.len() / FEWER < size {
+            return false;
+        }
+        self.labels_of(area, SAMPLE) / SAMPLE >= CROWD
+    }
+
+    /// Makes the sets for a pass from the front.
+    fn prepare_anywhere(&mut self)
+        requires { (l : Re) × (r : Re) × (fold : Bool) × Runs self.old l r fold }
+        ensures { (l r : Re) (fold : Bool) → Runs self.old l r fold → Runs self.new l r fold }
+    {
+        if self.anywhere.is_none() {
+            self.anywhere = spare_anywhere(self.alloc, &self.automata.left);
+        }
+    }
+
+    /// Whether a pass from the front tells that nothing matches.
+    fn is_nowhere(&mut self, area: &[u8]) -> bool
+        requires runs { (l : Re) × (r : Re) × (fold : Bool) × Runs self.old l r fold }
+        requires front { 0 < length area.now }
+        ensures kept { (l r : Re) (fold : Bool) → Runs self.old l r fold → Runs self.new l r fold }
+        ensures nowhere { (l r : Re) (fold : Bool) → Runs self.old l r fold → IsTrue result
+            → IsFirst fold l r area.now 0 None }
+    {
+        match &mut self.anywhere {
+            None => false,
+            Some(anywhere) => ends_nowhere(&anywhere.program, &mut anywhere.forward, area),
+        }
+    }
+
+    /// Whether labels are likely to cost much, and a pass from the front tells that nothing matches.
+    fn has_none(&mut self, area: &[u8]) -> bool
+        requires { (l : Re) × (r : Re) × (fold : Bool) × Runs self.old l r fold }
+        ensures kept { (l r : Re) (fold : Bool) → Runs self.old l r fold → Runs self.new l r fold }
+        ensures nowhere { (l r : Re) (fold : Bool) → Runs self.old l r fold → IsTrue result
+            → IsFirst fold l r area.now 0 None }
+    {
+        if !self.is_crowded(area) {
+            return false;
+        }
+        self.prepare_anywhere();
+        self.is_nowhere(area)
+    }
+
+    /// The first match in the area, by labels.
+    fn first_by_labels(&mut self, area: &[u8]) -> Option<Match>
         requires { (l : Re) × (r : Re) × (fold : Bool) × Runs self.old l r fold }
         ensures kept { (l r : Re) (fold : Bool) → Runs self.old l r fold → Runs self.new l r fold }
         ensures first { (l r : Re) (fold : Bool) → Runs self.old l r fold → IsFirst fold l r area.now 0 result }
@@ -216,6 +307,18 @@ impl Search {
         self.prepare_cache();
         let from = self.before_all(area);
         self.first(area, from)
+    }
+
+    /// The first match in the area.
+    pub fn first_of_all(&mut self, area: &[u8]) -> Option<Match>
+        requires { (l : Re) × (r : Re) × (fold : Bool) × Runs self.old l r fold }
+        ensures kept { (l r : Re) (fold : Bool) → Runs self.old l r fold → Runs self.new l r fold }
+        ensures first { (l r : Re) (fold : Bool) → Runs self.old l r fold → IsFirst fold l r area.now 0 result }
+    {
+        if self.has_none(area) {
+            return None;
+        }
+        self.first_by_labels(area)
     }
 
     /// Whether there is room to count by marks in an area of this length.

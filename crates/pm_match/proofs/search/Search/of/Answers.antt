@@ -24,6 +24,7 @@ returns c = λ l r a b.
       };
       marks = tt;
       cache = tt;
+      anywhere = tt;
       left = record { stop = c.in_ok-left.ensures.exit; built = c.in_ok-left.ensures.built l a };
       right = record { stop = c.in_ok-right.ensures.exit; built = c.in_ok-right.ensures.built r b };
     }

@@ -9,6 +9,7 @@ returns-in_ok-marks c = record {
     marks = c.in_ok-marks.ensures.room c.args.self.now.automata.left.steps.items c.args.self.now.automata.left.entry c.args.self.now.automata.left.exit
         (omega (arith, c.len.ensures, c.args.self.now.automata.left.steps.ok.0));
     cache = h.cache;
+    anywhere = h.anywhere;
     left = h.left;
     right = h.right;
   };
