@@ -16,10 +16,11 @@ use Rattle.pm_message.specs.declared.pieces.Feed.TheVariants.{Both, Head, Body}
 use Rattle.pm_message.specs.declared.pieces.Kind.TheVariants.{MailboxFile}
 use Rattle.pm_message.proofs.LineLemmas.{lines-break, lines-on}
 use Rattle.pm_message.proofs.HeadLemmas.{head_len, head_len-first, head_len-break, head_len-on, head_at, body_at}
+use Rattle.formail_edit.proofs.EmptyLines.{Filled}
 use Rattle.formail_split.specs.Parts.{comes_from_line, in_first, parts_of_lines, parts_of}
 use Rattle.formail_split.specs.Mailboxes.{IsBetween, StandsAlone, IsDelivered, PiecesStandAlone, DeliveriesAddOne, DeliveriesAreMails, ReadyMailsHaveLines}
 use Rattle.formail_split.proofs.PartLemmas.{from_line-text}
-use Rattle.formail_split.proofs.Quiet.{sign, Quiet, Calm, Filled, one_part, quiet-calm, quiet-filled, quiet-tail, is_ended, IsEnded, Shields, calm-shielded}
+use Rattle.formail_split.proofs.Quiet.{sign, Quiet, Calm, one_part, quiet-calm, quiet-filled, quiet-tail, is_ended, IsEnded, Shields, calm-shielded}
 
 -- lines that an empty one ends, and others after it
 onto-append : (b : ℕ) (xs ys : List (List ℕ)) → (xs ≡ [] → ⊥) → onto b (xs ++ ys) ≡ onto b xs ++ ys
@@ -210,7 +211,7 @@ some_text : (text : List ℕ) → has_from_line text ≡ true → 0 < length tex
 some_text [] from = absurd (false≢true from)
 some_text (b ∷ text) from = omega arith
 
-from_more : (text tail : List ℕ) → has_from_line text ≡ true → has_from_line (text ++ tail) ≡ true
+pub from_more : (text tail : List ℕ) → has_from_line text ≡ true → has_from_line (text ++ tail) ≡ true
 from_more text tail from =
     let is = (starts_is Decides-eqb text sign (starts_with nat_eq text sign) refl).0 from in
     ap (λ t. has_from_line (t ++ tail)) is

@@ -8,6 +8,7 @@ use Rattle.std.specs.List.{starts_with, ends_with, flat_map}
 use Rattle.pm_message.specs.Lines.{onto, lines}
 use Rattle.pm_message.specs.Piece.{with_newline, ended}
 use Rattle.pm_message.proofs.LineLemmas.{lines-break, lines-on}
+use Rattle.formail_edit.proofs.EmptyLines.{Filled}
 use Rattle.formail_split.specs.Parts.{is_from_line, comes_from_line, parts_of}
 use Rattle.formail_split.proofs.PartLemmas.{one, begins, part_len, NoBreak, from_line-text, part_len-later, first_is}
 
@@ -23,11 +24,6 @@ Quiet fresh (b ∷ bs) = (fresh ≡ true → begins (b ∷ bs) one ≡ false) ×
 abbrev pub Calm : Bool → List ℕ → Type 0
 Calm fresh [] = Unit {0}
 Calm fresh (b ∷ bs) = (fresh ≡ true → begins (b ∷ bs) sign ≡ false) × Calm (b == 10) bs
-
--- no line is empty
-abbrev pub Filled : Bool → List ℕ → Type 0
-Filled fresh [] = Unit {0}
-Filled fresh (b ∷ bs) = (fresh ≡ true → b ≡ 10 → ⊥) × Filled (b == 10) bs
 
 -- each byte is a newline
 abbrev pub Newlines : List ℕ → Type 0
@@ -209,7 +205,7 @@ calm-more [] bs none c = c
 calm-more (q ∷ prefix) bs none c =
     ((λ t. absurd (false≢true t)), subst (λ x. Calm x (prefix ++ bs)) (sym (ne_eqb q 10 none.0)) (calm-more prefix bs none.1 c))
 
-begins_long : (needle bs rest : List ℕ) → length needle ≤ length bs → begins (bs ++ rest) needle ≡ begins bs needle
+pub begins_long : (needle bs rest : List ℕ) → length needle ≤ length bs → begins (bs ++ rest) needle ≡ begins bs needle
 begins_long [] bs rest long = refl
 begins_long (c ∷ needle) [] rest long = absurd (omega (arith, long))
 begins_long (c ∷ needle) (b ∷ bs) rest long = ap (λ t. nat_eq c b && t) (begins_long needle bs rest (omega (arith, long)))

@@ -3,6 +3,7 @@ ghost use Rattle.formail_split.specs.Examples.{Examples};
 ghost use Rattle.formail_split.specs.Laws.{FineTookAll, FailuresHaveCalls};
 ghost use Rattle.formail_split.specs.Mailboxes.{PiecesStandAlone, DeliveriesAddOne, DeliveriesAreMails};
 ghost use Rattle.formail_split.specs.Mailboxes.{ReadyMailsHaveLines};
+ghost use Rattle.formail_split.specs.Written.{EditedStandAlone, EditedAreMails};
 
 use pm_journal::child_laws::{child_faults_have_calls, children_run_right};
 
@@ -46,6 +47,20 @@ pub fn deliveries_are_mails()
 pub fn ready_mails_have_lines()
     ensures { ReadyMailsHaveLines }
 {}
+
+/// What formail writes of a mail is one mail, whatever the mail says: without `-x`, `-X`, `-r`, `-f` and `-b`, with a
+/// text of `-p` that hides a line `From `, and if no text of its edits brings an empty line.
+pub fn edited_stand_alone()
+    ensures { EditedStandAlone }
+{}
+
+/// So what it writes of several mails is cut into just what it wrote of each, in their order, also where it is appended
+/// to a mailbox.
+pub fn edited_are_mails()
+    ensures { EditedAreMails }
+{
+    edited_stand_alone();
+}
 
 /// The definitions cut some short mailboxes as the manual says, and tell the worst of some children.
 pub fn examples()

@@ -1,9 +1,14 @@
--- What the arguments ask of a cache is within its bounds.
-use Rattle.std.proofs.Common.{◌≡◌, ◌≤◌, ℕ, Bool, true, false, ◌&&◌, ◌==◌, nat_le, nat_lt, Option, Some, None, option_map, option_and_then, List, [], ◌∷◌, ◌++◌, take, length, codes, refl, subst, arith, All, IfSome, length-take, if◌then◌else◌}
+-- What the arguments ask for is within bounds: a cache's bound, and new fields that bring no empty line.
+use Rattle.std.proofs.Common.{◌≡◌, ◌≤◌, ℕ, suc, Bool, true, false, ◌&&◌, ◌||◌, not, ◌==◌, nat_le, nat_lt, Option, Some, None, option_map, option_and_then, List, [], ◌∷◌, ◌++◌, take, length, codes, refl, subst, arith, All, IfSome, length-take, if◌then◌else◌}
 use Rattle.std.specs.List.{fold}
+use Rattle.std.proofs.lemmas.Bool.{false≢true, and_right, or_from}
 use Rattle.std.proofs.lemmas.Bool.Decides.{nat_tests}
 use Rattle.std.proofs.lemmas.List.Elements.{All-nil, All-cons}
 use Rattle.pm_message.specs.Split.{split_of}
+use Rattle.pm_message.specs.Field.{is_named}
+use Rattle.formail_edit.proofs.EmptyLines.{Filled, none_from}
+use Rattle.formail_edit.specs.Laws.{has_empty_line}
+use Rattle.formail_edit.specs.declared.edits.Put.{Put}
 use Rattle.formail_extra.specs.Cache.{IsShortId}
 use Rattle.formail_extra.specs.Reply.{envelope_of}
 use Rattle.formail_extra.specs.Seen.{identifier_of}
@@ -11,18 +16,23 @@ use Rattle.formail_edit.specs.declared.edits.PutKind.{PutKind}
 use Rattle.formail_edit.specs.declared.edits.PutKind.TheVariants.{Old, Replace, IfNone, Always}
 use Rattle.formail_top.specs.Asked.{nothing, asked, is_sound, request_of, request_in, request_for}
 use Rattle.formail_top.specs.Outputs.{id_of, ids_of}
-use Rattle.formail_top.specs.Words.{is_folded, is_put, put_for, take_for, unique_for, setting_for, rename_for, usable_name, bound_in, bound_for, cache_of, cache_named, cache_for, setting_for_both, setting_of, takes_text, takes_more, Words, waiting, with_setting, with_text, with_rest, with_split, letters, number_for, with_total, with_skip, behind_minus, group, program_for, argument_for, one_word, then_word, closed, settings_of}
-use Rattle.pm_bytes.specs.Letter.{is_digit_byte}
+use Rattle.formail_top.specs.Words.{is_folded, is_bare_name, may_be_bare, is_put, put_for, take_for, unique_for, setting_for, rename_for, usable_name, bound_in, bound_for, cache_of, cache_named, cache_for, setting_for_both, setting_of, takes_text, takes_more, Words, waiting, with_setting, with_text, with_rest, with_split, letters, number_for, with_total, with_skip, behind_minus, group, program_for, argument_for, one_word, then_word, closed, settings_of}
+use Rattle.pm_bytes.specs.Letter.{is_blank_byte, is_digit_byte}
 use Rattle.pm_bytes.specs.Number.{count_of}
 use Rattle.formail_top.specs.declared.request.Request.{Request}
 use Rattle.formail_top.specs.declared.settings.Setting.{Setting}
-use Rattle.formail_top.specs.declared.settings.Setting.TheVariants.{Rename as RenameOf, Skip, Total, Program as ProgramOf, Argument as ArgumentOf, Cache as CacheOf}
+use Rattle.formail_top.specs.declared.settings.Setting.TheVariants.{Put as PutOf, Rename as RenameOf, Skip, Total, Program as ProgramOf, Argument as ArgumentOf, Cache as CacheOf}
 use Rattle.formail_top.specs.declared.settings.Waits.{Waits}
 use Rattle.formail_top.specs.declared.settings.Waits.TheVariants.{Ready, ForText, ForMore, Program, Argument, Unread}
 
--- a setting is no cache, or one within its bound
+-- a new field brings no empty line
+abbrev BringsNone : Put → Type 0
+BringsNone put = has_empty_line (put.text ++ codes "\n") ≡ false
+
+-- a cache is within its bound, and a new field brings no empty line
 abbrev IsBound : Setting → Type 0
 IsBound (CacheOf cache) = cache.most ≤ 1048576
+IsBound (PutOf put) = BringsNone put
 IsBound setting = Unit {0}
 
 abbrev IfBound : Option Setting → Type 0
@@ -44,11 +54,58 @@ if_words false x y h k = k
 take_bound : (whole : Bool) (name : List ℕ) → IfBound (take_for whole name)
 take_bound whole name = if_both (nat_lt 0 (length name)) _ None tt tt
 
+-- where each newline is followed by a blank, and the first byte is no newline, no line is empty
+or_true : (a b : Bool) → (not a || b) ≡ true → a ≡ true → b ≡ true
+or_true true b h is = h
+or_true false b h is = absurd (false≢true is)
+
+and_true : (a b : Bool) → (a && b) ≡ true → (a ≡ true) × (b ≡ true)
+and_true true b h = (refl, h)
+and_true false b h = absurd (false≢true h)
+
+blank_is_no_break : (b : ℕ) → is_blank_byte b ≡ true → b ≡ 10 → ⊥
+blank_is_no_break b blank e = false≢true (subst (λ (x : ℕ). is_blank_byte x ≡ true) e blank)
+
+not_true : (a : Bool) → not a ≡ true → a ≡ true → ⊥
+not_true true h is = false≢true h
+not_true false h is = false≢true is
+
+folded_filled : (fresh : Bool) (b : ℕ) (text : List ℕ) → (fresh ≡ true → b ≡ 10 → ⊥) → is_folded (b ∷ text) ≡ true → Filled fresh ((b ∷ text) ++ codes "\n")
+folded_filled fresh b [] first is = (first, ((λ t _. not_true (b == 10) is t), tt))
+folded_filled fresh b (c ∷ text) first is =
+    let both = and_true (not (b == 10) || is_blank_byte c) (is_folded (c ∷ text)) is in
+    (first, folded_filled (b == 10) c text (λ t e. blank_is_no_break c (or_true (b == 10) (is_blank_byte c) both.0 t) e) both.1)
+
+-- nor does the text of a field begin with a newline
+no_bare : (kind : PutKind) → (may_be_bare kind && false) ≡ true → ⊥
+no_bare Old h = false≢true h
+no_bare Replace h = false≢true h
+no_bare IfNone h = false≢true h
+no_bare Always h = false≢true h
+
+line_is_not_bare : (text : List ℕ) → is_bare_name (10 ∷ text) ≡ false
+line_is_not_bare text =
+    or_from (nat_lt 0 (length (10 ∷ text)) && false) false (and_right (nat_lt 0 (length (10 ∷ text))) false refl) refl
+
+line_is_no_name : (kind : PutKind) (text : List ℕ) → (is_named (10 ∷ text) || (may_be_bare kind && is_bare_name (10 ∷ text))) ≡ true → ⊥
+line_is_no_name kind text h = no_bare kind (subst (λ b. (may_be_bare kind && b) ≡ true) (line_is_not_bare text) h)
+
+put_folded : (kind : PutKind) (text : List ℕ) → is_put kind text ≡ true → has_empty_line (text ++ codes "\n") ≡ false
+put_folded kind [] is = absurd (no_bare kind is)
+put_folded kind (b ∷ text) is =
+    let both = and_true (is_folded (b ∷ text)) (is_named (b ∷ text) || (may_be_bare kind && is_bare_name (b ∷ text))) is in
+    none_from true ((b ∷ text) ++ codes "\n")
+    (folded_filled true b text (λ _ e. line_is_no_name kind text (subst (λ (x : ℕ). (is_named (x ∷ text) || (may_be_bare kind && is_bare_name (x ∷ text))) ≡ true) e both.1)) both.0)
+
 unique_bound : (last : Bool) (name : List ℕ) → IfBound (unique_for last name)
 unique_bound last name = if_both (nat_lt 0 (length name)) _ None tt tt
 
 put_bound : (kind : PutKind) (text : List ℕ) → IfBound (put_for kind text)
-put_bound kind text = if_both (is_put kind text) _ None tt tt
+put_bound kind text =
+    elim (is_put kind text) as (λ b. is_put kind text ≡ b → IfBound (if b then Some (PutOf (record { kind = kind; text = text })) else None)) [
+      | true ↦ λ is. put_folded kind text is
+      | false ↦ λ _. tt
+    ] refl
 
 setting_bound : (letter : ℕ) (text : List ℕ) → IfBound (setting_for letter text)
 setting_bound letter text =
@@ -194,20 +251,31 @@ closed_bound Unread settings h = tt
 abbrev pub IsBounded : Request → Type 0
 IsBounded request = IfSome request.cache (λ cache. cache.most ≤ 1048576)
 
-asked_bound : (request : Request) (setting : Setting) → IsBounded request → IsBound setting → IsBounded (asked request setting)
-asked_bound request (CacheOf cache) h k = k
+-- and no new field brings an empty line
+abbrev AreBounded : Request → Type 0
+AreBounded request = IsBounded request × All BringsNone request.edits.puts
+
+more_bring_none : (puts : List Put) (put : Put) → All BringsNone puts → BringsNone put → All BringsNone (puts ++ put ∷ [])
+more_bring_none [] put h k = All-cons BringsNone put [] k (All-nil BringsNone)
+more_bring_none (first ∷ puts) put h k =
+    All-cons BringsNone first (puts ++ put ∷ []) (h 0 first (omega arith))
+    (more_bring_none puts put (λ i d less. h (suc i) d (omega (arith, less))) k)
+
+asked_bound : (request : Request) (setting : Setting) → AreBounded request → IsBound setting → AreBounded (asked request setting)
+asked_bound request (CacheOf cache) h k = (k, h.1)
+asked_bound request (PutOf put) h k = (h.0, more_bring_none request.edits.puts put h.1 k)
 asked_bound request setting h k = h
 
-all_asked : (request : Request) (settings : List Setting) → IsBounded request → AllBound settings → IsBounded (fold asked request settings)
+all_asked : (request : Request) (settings : List Setting) → AreBounded request → AllBound settings → AreBounded (fold asked request settings)
 all_asked request [] h k = h
 all_asked request (setting ∷ settings) h k = all_asked (asked request setting) settings (asked_bound request setting h k.0) k.1
 
 abbrev IfBounded : Option Request → Type 0
 IfBounded None = Unit {0}
-IfBounded (Some request) = IsBounded request
+IfBounded (Some request) = AreBounded request
 
 sound_bound : (sound : Bool) (settings : List Setting) → AllBound settings → IfBounded (if sound then Some (request_of settings) else None)
-sound_bound true settings h = all_asked nothing settings tt h
+sound_bound true settings h = all_asked nothing settings (tt, All-nil BringsNone) h
 sound_bound false settings h = tt
 
 in_bound : (settings : Option (List Setting)) → IfAll settings → IfBounded (option_and_then request_in settings)
@@ -220,7 +288,10 @@ request_bound words =
     in_bound (settings_of words) (closed_bound all.waits all.settings (words_bound (waiting Ready) words tt))
 
 pub asked_within : (words : List (List ℕ)) (request : Request) → request_for words ≡ Some request → IsBounded request
-asked_within words request is = subst IfBounded is (request_bound words)
+asked_within words request is = (subst IfBounded is (request_bound words)).0
+
+pub puts_bring_none : (words : List (List ℕ)) (request : Request) → request_for words ≡ Some request → All BringsNone request.edits.puts
+puts_bring_none words request is = (subst IfBounded is (request_bound words)).1
 
 -- an identifier that was cut is short
 taken_short : (text : Option (List ℕ)) → IsShortId (option_map (take 4_096) text)

@@ -3,6 +3,7 @@ use Rattle.std.specs.Prelude.{◌≡◌, ℕ, pos, true, false, Option, Some, No
 use Rattle.pm_bytes.specs.declared.environment.Pair.{Pair}
 use Rattle.formail_edit.specs.Examples.{plain, put, rename, unique, extract}
 use Rattle.formail_edit.specs.declared.edits.PutKind.TheVariants.{Old, Replace, IfNone, Always}
+use Rattle.formail_split.specs.Parts.{parts_of}
 use Rattle.formail_split.specs.declared.feeding.Outcome.TheVariants.{Fine, Amiss, Failed}
 use Rattle.formail_top.specs.Asked.{nothing, request_for}
 use Rattle.formail_top.specs.Outputs.{mails_of, sender_of_output, wants_moment, ids_of, kept_of, outputs_of, each_output_of}
@@ -222,6 +223,10 @@ pub record Examples : Type 0 where
       ≡ Some (codes "To: j@y\nSubject: Re: hi\n\n")
   pub mailbox_written : written (codes "-s" ∷ []) a_and_b ≡ Some (codes "From a\nA: 1\n\nx\n\nFrom b\nB: 2\n\ny\n\n")
   pub taken_in_one_argument : written (codes "-zxA" ∷ []) from_a ≡ Some (codes "1\n")
+  pub dated : outputs_of nothing (pos 86_405) (codes "A: 1\n\n" ∷ [])
+      ≡ codes "From unknown Fri Jan  2 00:00:05 1970\nA: 1\n\n"
+  pub nothing_forged : option_map parts_of (written (codes "-s" ∷ []) (codes "From a\n\nx\nFrom b\n\nFrom c\n"))
+      ≡ Some (codes "From a\n\nx\n>From b\n\n" ∷ codes "From c\n\n" ∷ [])
   pub each_written : each_output_of splitting (pos 0) (from_a ∷ from_b ∷ [])
       ≡ from_a ∷ codes "From b\nB: 2\n\ny\n\n" ∷ []
   -- what a program is started with, and the status by what its children came to

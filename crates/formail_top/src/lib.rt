@@ -11,6 +11,6 @@ mod settings;
 mod words;
 
 pub use filtering::formail;
-pub use laws::{examples, failures_have_calls};
+pub use laws::{examples, failures_have_calls, outputs_are_mails};
 pub use request::Request;
 pub use settings::{Cache, Setting, Waits};

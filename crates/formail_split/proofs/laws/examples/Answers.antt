@@ -1,8 +1,23 @@
-use Rattle.std.proofs.Common.{refl}
+use Rattle.std.proofs.Common.{refl, arith}
+use Rattle.std.specs.Fmt.{digits}
+use Rattle.pm_message.specs.Calendar.{day_at}
+use Rattle.formail_edit.specs.Examples.{plain}
+use Rattle.formail_split.specs.Written.{WriteMails}
 use Rattle.formail_split.proofs.laws.examples.Goals as goal
+
+-- no text is added
+usual : WriteMails plain
+usual = record {
+  no_takes = refl;
+  from_line = refl;
+  escaped = refl;
+  prefix = record { some = λ e. cc; one_line = refl; other = refl };
+  texts = record { renames = λ k d less. absurd (omega (arith, less)); puts = λ k d less. absurd (omega (arith, less)) };
+}
 
 -- each by computing
 pub returns : goal.returns
+unfolding digits day_at
 returns c = record {
   two = refl;
   empty_bodies = refl;
@@ -23,6 +38,16 @@ returns c = record {
   first_place = refl;
   last_place = refl;
   edited_part = refl;
+  dated_part = refl;
+  usual = usual;
+  nothing_forged = refl;
+  part_of_the_sign = refl;
+  with_an_empty_prefix = refl;
+  with_a_sign_for_prefix = refl;
+  with_a_newline_in_the_prefix = refl;
+  with_the_body_kept = refl;
+  with_an_empty_line_in_a_field = refl;
+  with_an_empty_line_in_a_name = refl;
   of_none = refl;
   both_right = refl;
   second_code = refl;

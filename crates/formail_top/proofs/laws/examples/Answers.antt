@@ -1,11 +1,13 @@
 use Rattle.std.proofs.Common.{refl}
+use Rattle.std.specs.Fmt.{digits}
 use Rattle.std.specs.Str.{is_utf8, chars}
 use lib.Utf8.{encode}
+use Rattle.pm_message.specs.Calendar.{day_at}
 use Rattle.formail_top.proofs.laws.examples.Goals as goal
 
 -- each by computing
 pub returns : goal.returns
-unfolding is_utf8 chars encode
+unfolding is_utf8 chars encode digits day_at
 returns c = record {
   alone = refl;
   no_argument = refl;
@@ -133,6 +135,8 @@ returns c = record {
   reply_written = refl;
   mailbox_written = refl;
   taken_in_one_argument = refl;
+  dated = refl;
+  nothing_forged = refl;
   each_written = refl;
   started = refl;
   fine_status = refl;
