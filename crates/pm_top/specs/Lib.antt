@@ -4,6 +4,7 @@ pub mod Account
 pub mod Promise
 pub mod Traced
 pub mod WordExamples
+pub mod TrialExamples
 pub mod Words
 pub mod Reading
 pub mod TrialWords
