@@ -17,16 +17,18 @@ ends() {
     [ "$status" -eq "$wanted" ] || fail "$*: status $status, not $wanted: $(cat out said)"
 }
 
+options=()
+
 # finds CODE TEXT: the text, with \n for a newline, has a finding with this code; lacks CODE TEXT: it has none.
 finds() {
     printf '%b' "$2" > rc
-    "$check" --no-disk ./rc > out 2> said || true
+    "$check" --no-disk "${options[@]}" ./rc > out 2> said || true
     grep -q "\[$1\]\$" out || fail "$1 isn't found in '$2': $(cat out said)"
 }
 
 lacks() {
     printf '%b' "$2" > rc
-    "$check" --no-disk ./rc > out 2> said || true
+    "$check" --no-disk "${options[@]}" ./rc > out 2> said || true
     ! grep -q "\[$1\]\$" out || fail "$1 is found in '$2': $(cat out)"
 }
 
@@ -140,18 +142,239 @@ while IFS= read -r code && IFS= read -r wrong && IFS= read -r right; do
 done < rows
 [ "$count" -ge 30 ] || fail "only $count rows were read"
 
+# The forms of procmail 3.22: the old form, and what has the form no more.
+cat > old_rows <<'ROWS'
+umask
+UMASK=007\n
+MASK=007\n
+verbose
+VERBOSE=on\n
+# VERBOSE=on\n
+timeout
+TIMEOUT=60\n
+OUT=60\n
+no-effect
+LINEBUF=65536\n
+BUF=65536\n
+no-effect
+COMSAT=no\n
+# COMSAT=no\n
+host
+EXITCODE=75 HOST\n
+EXITCODE=75 HOST=\n
+exitcode
+EXITCODE=0\n
+EXITCODE=75\n
+delivered
+DELIVERED=on\n
+DELIVERED="yes"\n
+logabstract
+LOGABSTRACT=yes\n
+LOGABSTRACT=all\n
+default-program
+DEFAULT="|cat"\n
+DEFAULT=mbox\n
+lockfile
+LOCKFILE=my.lock\n
+LOCKFILE=\n
+open-brace
+X=${Y:- "z"}\n
+X="${Y:-z z}"\n
+arguments
+X="$@"\n
+X='$@'\n
+underscore
+X=$_x\n
+X="$_"x\n
+brace-form
+X=${1}\n
+X=${Y:-1}\n
+brace-form
+X=${Y%z}\n
+X='${Y%z}'\n
+brace-command
+X=${Y:-`date`}\n
+X=`date`${Y:-z}\n
+score
+:0:\n* ^Subject: x\nmbox\nX=$=\n
+:0:\n* 1^0 ^Subject: x\nmbox\nX=$=\n
+first-chain
+:0\n* ^Subject: x\n{\n:0 A:\nmbox\n}\n
+:0\n* ^Subject: x\n{\n:0:\nmbox\n:0 A:\nmbox\n}\n
+after-block
+:0\n* ^Subject: x\n{\nX=y\n}\n:0 e:\nmbox\n
+:0\n* ^Subject: x\n{\nX=y\n}\n:0:\nmbox\n:0 e:\nmbox\n
+held-lock
+LOCKFILE=g\n:0:g\nmbox\n
+LOCKFILE=g\n:0:h\nmbox\n
+block-lock
+:0:b.lock\n{\n:0\nmbox\n}\n
+:0\n{\n:0:b.lock\nmbox\n}\n
+block-auto-lock
+:0:\n{\n:0:\nmbox\n}\n
+:0\n{\n:0:\nmbox\n}\n
+block-copy
+:0 c\n{\n:0:\nmbox\n}\n
+:0\n{\n:0 c:\nmbox\n}\n
+late-weight
+:0:\n* B ?? 1^1 x\nmbox\n
+:0:\n* 1^1 B ?? x\nmbox\n
+late-weight
+:0:\n*$ 9876543210^0 ^Subject: $X\nmbox\n
+:0:\n* 2147483647^0 $ ^Subject: $X\nmbox\n
+variable-weight
+:0:\n* $ $X^0 ^Subject: x\nmbox\n
+:0:\n* 5^0 $ ^Subject: $X\nmbox\n
+variable-weight
+:0:\n* $ -${X}^1 ^Subject: x\nmbox\n
+:0:\n* $ ^Subject: ${X}^\nmbox\n
+variable-condition
+:0:\n* $ $COND\nmbox\n
+:0:\n* $ ^Subject: $COND\nmbox\n
+after-greatest
+:0:\n* 2147483647^0 ^Subject: x\n* ^From: y\nmbox\n
+:0:\n* ^From: y\n* 2147483647^0 ^Subject: x\nmbox\n
+size-weight
+:0:\n* 1^4 > 100\nmbox\n
+:0:\n* 1^3 > 100\nmbox\n
+continued
+:0:\n* $ ^Subject: \\\n  $X\nmbox\n
+:0:\n* ^Subject: \\\n  x\nmbox\n
+signal-code
+:0:\n* X ?? ^^-9^^\nmbox\n
+:0:\n* X ?? ^^137^^\nmbox\n
+first-backslash
+:0:\n* \\<joe\nmbox\n
+:0:\n* ()\\<joe\nmbox\n
+condition-quote
+:0:\n* $ ^Subject: "$X"\nmbox\n
+:0:\n* ^Subject: "x"\nmbox\n
+inverted-match
+:0:\n* ! ^Subject: \\/x\nmbox\n
+:0:\n* ^Subject: \\/x\nmbox\n
+match-end
+:0:\n* ^Subject: \\/.*$\nmbox\n
+:0:\n* ^Subject: \\/.*\\$\nmbox\n
+weighted-match
+:0:\n* 1^1 x\\/[0-9]\nmbox\n
+:0:\n* 1^0 x\\/[0-9]\nmbox\n
+two-anchors
+:0:\n* ^From:.*$^To:\nmbox\n
+:0:\n* ^From:.*$To:\nmbox\n
+two-blanks
+:0:\n* ^Subject: hi  there\nmbox\n
+:0:\n* B ?? hi  there\nmbox\n
+empty-match
+:0:\n* 1^1 B ?? x*\nmbox\n
+:0:\n* 1^1 B ?? x\nmbox\n
+line-count
+:0:\n* 1^1 B ?? ^.*$\nmbox\n
+:0:\n* 1^1 B ?? ^\nmbox\n
+mailboxes
+:0:\nmy mail\n
+:0:\n"my mail"\n
+hash
+:0:\nmbox#1\n
+:0:\nmbox #1\n
+match-name
+:0:\nlist-$MATCH\n
+:0:\n"list-$MATCH"\n
+from-line
+:0\nmd/\n
+:0 fhw\n| formail -f -I "From "\n:0\nmd/\n
+from-line
+DEFAULT=$HOME/Maildir/\n
+DEFAULT=$HOME/mbox\n
+raw
+:0 r:\nmbox\n
+:0 rw\n| cat\n
+own-lock
+:0:found\nfound\n
+:0:\nfound\n
+folder-lock
+:0:\nmd/\n
+:0\nmd/\n
+standard-error
+:0 w\n| echo x >&2\n
+:0 w\n| echo x 2>&1\n
+cache-lock
+:0 Wh: msgid.cache$LOCKEXT\n| formail -D 8192 msgid.cache\n
+:0 Wh: msgid$LOCKEXT\n| formail -D 8192 msgid.cache\n
+cache-lock
+LOCKFILE=$CACHE.lock\n:0 Wh\n| $FORMAIL -D 8192 $CACHE\n
+:0 Wh\n| $FORMAIL -D 8192 $CACHE\n
+cache-options
+:0 Wh\n| formail -D 8192 cache -xTo:\n
+:0 Wh\n| formail -r -D 8192 cache\n
+cache-length
+:0 Wh\n| formail -D 2000000 cache\n
+:0 Wh\n| formail -D 1048576 cache\n
+digest
+:0 w\n| formail +1 -ds >>digests\n
+:0 w\n| formail +1 -s >>digests\n
+old-option
+:0 fw\n| formail -B -A "X: y"\n
+:0 fw\n| formail -b -A "X: y"\n
+split-output
+:0 w\n| formail -s formail -xSubject: >>out\n
+:0 w\n| formail -s procmail\n
+from-appended
+:0 w\n| formail -f >>out\n
+:0 w\n| formail >>out\n
+reply-field
+FROM=`formail -rtzxTo:`\n
+FROM=`formail -rt | formail -zxTo:`\n
+reply-field
+FROM="`formail -rt -xTo:`"\n
+FROM=`formail -x To:`\n
+reply-keep
+:0 fw\n| formail -rk\n
+:0 fw\n| formail -r\n
+trust-alone
+:0 fw\n| formail -t -A "X: y"\n
+:0 fw\n| formail -rt -A "X: y"\n
+empty-field
+:0 fw\n| formail -X ""\n
+:0 fw\n| formail -X "To:"\n
+empty-field
+:0 fw\n| formail -I''\n
+:0 fw\n| formail -I'To:'\n
+from-removed
+:0 fw\n| formail -I "From "\n
+:0 fw\n| formail -f -I "From "\n
+from-added
+:0 fw\n| formail -a "From "\n
+:0 fw\n| formail -a "From: x"\n
+made-field
+:0 fw\n| formail -a Date:\n
+:0 fw\n| formail -a "Date: $NOW"\n
+partial-name
+:0 fw\n| formail -u S\n
+:0 fw\n| formail -u Subject:\n
+ROWS
+old_count=0
+while IFS= read -r code && IFS= read -r wrong && IFS= read -r right; do
+    options=()
+    lacks "$code" "$wrong"
+    options=(--from-3.22)
+    finds "$code" "$wrong"
+    lacks "$code" "$right"
+    old_count=$((old_count + 1))
+done < old_rows
+[ "$old_count" -ge 60 ] || fail "only $old_count rows of forms were read"
+
 # The page has these codes, and those of the disk; --allow takes each.
 awk '/^\.S[hs] / { if ($0 == ".Sh CODES") inside = 1; else if ($0 ~ /^\.Sh/) inside = 0 } inside' "$top/man/procmail-check.1" > codes
 sed -n 's/^\.It Cm //p' codes | sort > named
-{ awk 'NR % 3 == 1' rows; printf '%s\n' limit maildir path recursion unreadable writable; } | sort -u > wanted
+{ awk 'NR % 3 == 1' rows; awk 'NR % 3 == 1' old_rows; printf '%s\n' limit maildir path recursion unreadable writable; } | sort -u > wanted
 cmp -s wanted named || fail "the codes of the page aren't those of the rows: $(diff wanted named)"
 printf ':0:\nmbox\n' > rc
 while read -r code; do ends 0 --no-disk --allow "$code" rc; done < named
 
 # Each message of the page is one of the definitions, and the other way round.
-sed -n 's/^[a-z_]*_text [A-Za-z.]* =//p; s/^    codes/ codes/p' "$top/crates/check_text/specs/Messages.antt" |
-    sed -n 's/^ codes "\(.*\)"$/\1/p' | sed 's/\\\\/\\/g' | sort -u > defined
-sed -n 's/^\.\(It \)\{0,1\}Dq "\([^"]*\)".*/\2/p' codes | sed 's/\\(ha/^/g; s/\\(ti/~/g; s/\\-/-/g; s/\\e/\\/g' | sort -u > named
+sed -n 's/^[a-z_]*_text [A-Za-z.]* =//p; s/^    codes/ codes/p' "$top/crates/check_text/specs/Messages.antt" "$top/crates/check_moving/specs/Messages.antt" |
+    sed -n 's/^ codes "\(.*\)"$/\1/p' | sed 's/\\\\/\\/g; s/\\"/"/g' | sort -u > defined
+sed -n 's/^\.\(It \)\{0,1\}Dq "\([^"]*\)".*/\2/p' codes | sed 's/\\(ha/^/g; s/\\(ti/~/g; s/\\-/-/g; s/\\(aq/\x27/g; s/\\e/\\/g' | sort -u > named
 [ "$(wc -l < defined)" -ge 20 ] && cmp -s defined named || fail "the messages of the page: $(diff defined named)"
 
 # What people keep has no finding: the examples, and the rcfiles of the manual pages.
@@ -284,4 +507,4 @@ small_time=$(checks 16 small)
 large_time=$(checks 1 large)
 [ "$large_time" -lt 1000 ] || fail "1 MiB takes $large_time ms of a processor"
 [ "$large_time" -le $((small_time * 3 / 2)) ] || fail "64 KiB sixteen times take $small_time ms, 1 MiB $large_time ms"
-echo "check: passed, with $count rows; 1 MiB takes $large_time ms of a processor"
+echo "check: passed, with $count rows and $old_count of forms of 3.22; 1 MiB takes $large_time ms of a processor"

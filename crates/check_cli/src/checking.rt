@@ -2,10 +2,11 @@
 use crate::disk::{Disk, Look, is_memory};
 use crate::known::Known;
 use crate::places::{below, column_of, is_absolute};
-use crate::remarks::{Checked, Remark, of_disk, of_finding};
+use crate::remarks::{Checked, Remark, of_disk, of_finding, of_form};
 use crate::steps::{Step, steps_of};
 use crate::walk::{Next, Walk};
 use check_find::find;
+use check_moving::find_forms;
 use check_text::DiskMistake;
 use pm_bytes::Memory;
 use pm_recipe::RcRefused;
@@ -42,6 +43,8 @@ pub struct Checking {
     alloc: Global,
     /// Whether rcfiles that are named are followed, and directories looked for.
     looks: bool,
+    /// Whether forms of procmail 3.22 are reported.
+    from_old: bool,
     known: Known,
     /// To which names are relative, if that is known.
     directory: Option<String>,
@@ -51,10 +54,11 @@ pub struct Checking {
 
 impl Checking {
     /// Nothing is checked yet.
-    pub fn new(alloc: Global, looks: bool) -> Checking {
+    pub fn new(alloc: Global, looks: bool, from_old: bool) -> Checking {
         Checking {
             alloc,
             looks,
+            from_old,
             known: Known::new(alloc),
             directory: None,
             walk: Walk::new(alloc),
@@ -133,7 +137,24 @@ impl Checking {
             }
             Err(RcRefused::Memory) => return Err(Memory),
         }
+        if self.from_old {
+            self.add_forms(text, &mut remarks)?;
+        }
         Ok(remarks)
+    }
+
+    // Of an rcfile that is too long nothing more is said.
+    fn add_forms(&self, text: &[u8], remarks: &mut Vec<Remark>) -> Result<(), Memory> {
+        match find_forms(self.alloc, text) {
+            Ok(found) => {
+                for one in found.as_slice() {
+                    remarks.push(of_form(self.alloc, text, one)?)?;
+                }
+                Ok(())
+            }
+            Err(RcRefused::TooLong { .. }) => Ok(()),
+            Err(RcRefused::Memory) => Err(Memory),
+        }
     }
 
     fn take<D: Disk>(&mut self, disk: &D, file: usize, step: Step) -> Result<(), Memory> {

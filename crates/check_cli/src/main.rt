@@ -5,6 +5,7 @@ mod allowed;
 mod arguments;
 mod checking;
 mod disk;
+mod forms;
 mod known;
 mod options;
 mod places;

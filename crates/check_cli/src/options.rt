@@ -24,6 +24,8 @@ pub struct Options<'a> {
     pub allowed: Vec<&'a str>,
     /// Only the rcfiles that are named are read, and the disk is asked for nothing else.
     pub no_disk: bool,
+    /// Forms that do something else under procmail 3.22 are reported, too.
+    pub from_old: bool,
     /// The rcfile is for procmail -m.
     pub filter: bool,
     /// Assignments and names of rcfiles, in their order.
@@ -61,6 +63,7 @@ pub fn read_options<'a>(alloc: Global, words: &'a [String]) -> Parsed<'a> {
         format: format_of(matches.get_str("format")),
         allowed,
         no_disk: matches.get_flag("no-disk"),
+        from_old: matches.get_flag("from-3.22"),
         filter: matches.get_flag("filter"),
         words,
     })
@@ -114,6 +117,11 @@ fn command<'a>(alloc: Global) -> Result<Command<'a>, AllocError> {
             switch(alloc, "no-disk")
                 .long("no-disk")
                 .help("Read only the rcfiles that are named"),
+        )?
+        .arg(
+            switch(alloc, "from-3.22")
+                .long("from-3.22")
+                .help("Report what does something else under procmail 3.22"),
         )?
         .arg(
             switch(alloc, "filter")

@@ -1,7 +1,10 @@
 //! What is reported of an rcfile.
+use crate::forms::is_form_code;
+use crate::places::column_of;
 use check_find::{
     Code, Fault, Finding, Hint, Mistake, Severity, name_of, severity_of as severity_in,
 };
+use check_moving::{Finding as FoundForm, Form, form_code, form_message};
 use check_text::{DiskMistake, disk_message, disk_name, disk_severity, is_disk_code, message};
 use std::alloc::{AllocError, Global};
 
@@ -9,6 +12,7 @@ use std::alloc::{AllocError, Global};
 #[derive(Clone, Copy)]
 pub enum Source {
     Text(Code),
+    Moving(Form),
     Disk(DiskMistake),
 }
 
@@ -58,13 +62,14 @@ const CODES: [Code; 23] = [
 
 /// Whether the word is the name of a code.
 pub fn is_code(word: &str) -> bool {
-    is_disk_code(word) || CODES.iter().any(|code| name_of(*code) == word)
+    is_disk_code(word) || is_form_code(word) || CODES.iter().any(|code| name_of(*code) == word)
 }
 
 /// The name of the code.
 pub fn code_of(source: Source) -> &'static str {
     match source {
         Source::Text(code) => name_of(code),
+        Source::Moving(form) => form_code(form),
         Source::Disk(mistake) => disk_name(mistake),
     }
 }
@@ -73,6 +78,7 @@ pub fn code_of(source: Source) -> &'static str {
 pub fn severity_of(source: Source) -> Severity {
     match source {
         Source::Text(code) => severity_in(code),
+        Source::Moving(_) => Severity::Warning,
         Source::Disk(mistake) => disk_severity(mistake),
     }
 }
@@ -89,6 +95,16 @@ pub fn of_finding(alloc: Global, text: &[u8], finding: &Finding) -> Result<Remar
         line: finding.line,
         column: finding.column,
         text: with_about(alloc, message(finding.code), about.as_str())?,
+    })
+}
+
+/// A form of procmail 3.22 as a remark.
+pub fn of_form(alloc: Global, text: &[u8], found: &FoundForm) -> Result<Remark, AllocError> {
+    Ok(Remark {
+        source: Source::Moving(found.form),
+        line: found.line,
+        column: column_of(text, found.first),
+        text: String::from_str(alloc, form_message(found.form))?,
     })
 }
 

@@ -85,7 +85,7 @@ fn checked(
     name: &str,
 ) -> Result<Vec<Checked>, Stopped> {
     let alloc = rt.alloc();
-    let mut checking = Checking::new(alloc, !options.no_disk);
+    let mut checking = Checking::new(alloc, !options.no_disk, options.from_old);
     begin(rt, &mut checking, options, home, name)?;
     checking.check(&RealDisk { rt }, name)?;
     Ok(reported(alloc, options.allowed.as_slice(), checking)?)

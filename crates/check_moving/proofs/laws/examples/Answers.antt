@@ -1,0 +1,102 @@
+use Rattle.std.proofs.Common.{refl}
+use Rattle.check_moving.proofs.laws.examples.Goals as goal
+
+pub returns-clause-variables : goal.returns-clause-variables
+returns-clause-variables c = record {
+  umask = refl;
+  linebuf = refl;
+  zero = refl;
+  other = refl;
+  on = refl;
+  yes = refl;
+  off = refl;
+  bar = refl;
+  lock = refl;
+  no_lock = refl;
+  unclosed = refl;
+}
+
+pub returns-clause-expanded : goal.returns-clause-expanded
+returns-clause-expanded c = record {
+  arguments = refl;
+  single = refl;
+  underscore = refl;
+  digit = refl;
+  percent = refl;
+  default = refl;
+  command = refl;
+  score = refl;
+  weighted = refl;
+}
+
+pub returns-clause-conditions : goal.returns-clause-conditions
+returns-clause-conditions c = record {
+  late = refl;
+  first = refl;
+  variable = refl;
+  braces = refl;
+  whole = refl;
+  power = refl;
+  signal = refl;
+  backslash = refl;
+  quote = refl;
+  no_dollar = refl;
+  inverted = refl;
+  twice = refl;
+  end = refl;
+  counted = refl;
+  anchors = refl;
+  blanks = refl;
+  in_a_set = refl;
+  empty = refl;
+  lines = refl;
+  program = refl;
+}
+
+pub returns-clause-recipes : goal.returns-clause-recipes
+returns-clause-recipes c = record {
+  several = refl;
+  comment = refl;
+  hash = refl;
+  named = refl;
+  quoted = refl;
+  maildir = refl;
+  told = refl;
+  raw = refl;
+  own = refl;
+  folder = refl;
+  chain = refl;
+  no_chain = refl;
+  after = refl;
+  held = refl;
+  lock = refl;
+  automatic = refl;
+  copy = refl;
+}
+
+pub returns-clause-calls : goal.returns-clause-calls
+returns-clause-calls c = record {
+  together = refl;
+  apart = refl;
+  two = refl;
+  argument = refl;
+  quoted = refl;
+  digest = refl;
+  length = refl;
+  right = refl;
+  options = refl;
+  lock = refl;
+  other = refl;
+  output = refl;
+  no_output = refl;
+  appended = refl;
+  keep = refl;
+  trust = refl;
+  empty = refl;
+  removed = refl;
+  kept_away = refl;
+  added = refl;
+  made = refl;
+  partial = refl;
+  old = refl;
+}

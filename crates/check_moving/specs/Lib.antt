@@ -1,0 +1,17 @@
+pub mod Kept
+pub mod Text
+pub mod Quotes
+pub mod Expanded
+pub mod Variables
+pub mod Leads
+pub mod Conditions
+pub mod Searches
+pub mod Words
+pub mod Options
+pub mod Calls
+pub mod Mailboxes
+pub mod Recipes
+pub mod Standing
+pub mod Found
+pub mod Messages
+pub mod Examples

@@ -1,0 +1,94 @@
+//! Forms of colon lines and of blocks.
+ghost use Rattle.std.specs.Prelude.{◌≡◌, IfOk};
+ghost use Rattle.check_moving.specs.Kept.{kept as kept_of};
+ghost use Rattle.check_moving.specs.Recipes.{begun, opened, is_first_chain as first_chain};
+ghost use Rattle.check_moving.specs.Recipes.{is_after_block as after_block};
+ghost use Rattle.check_moving.specs.Recipes.{is_lock as lock_is, is_named as named, is_block_lock as block_lock};
+
+use crate::form::{Form, RecipeForm};
+use crate::kept::kept;
+use crate::mailboxes::is_automatic;
+use crate::text::is;
+use pm_bytes::{Blob, Memory};
+use pm_recipe::{Flags, read_flags, read_lock};
+use std::alloc::Global;
+
+/// The forms of a colon line: `fresh` as the first of a block, `closed` right after a block, and under the lock file
+/// `held`, or none.
+pub fn colon_forms(
+    alloc: Global,
+    fresh: bool,
+    closed: bool,
+    held: &[u8],
+    colon: &[u8],
+) -> Result<Vec<Form>, Memory>
+    ensures { IfOk result (λ forms. forms.items ≡ kept_of (begun fresh closed held.now colon.now)) }
+{
+    let flags = read_flags(colon);
+    let lock = read_lock(alloc, colon)?;
+    let reasons = [
+        (
+            is_first_chain(fresh, flags),
+            Form::Recipe(RecipeForm::FirstChain),
+        ),
+        (
+            is_after_block(closed, flags),
+            Form::Recipe(RecipeForm::AfterBlock),
+        ),
+        (is_lock(held, &lock), Form::Recipe(RecipeForm::HeldLock)),
+    ];
+    kept(alloc, &reasons)
+}
+
+/// The forms of a block under this colon line.
+pub fn block_forms(alloc: Global, colon: &[u8]) -> Result<Vec<Form>, Memory>
+    ensures { IfOk result (λ forms. forms.items ≡ kept_of (opened colon.now)) }
+{
+    let flags = read_flags(colon);
+    let lock = read_lock(alloc, colon)?;
+    let reasons = [
+        (
+            is_block_lock(flags, &lock),
+            Form::Recipe(RecipeForm::BlockLock),
+        ),
+        (is_automatic(&lock), Form::Recipe(RecipeForm::BlockAutoLock)),
+        (flags.copy, Form::Recipe(RecipeForm::BlockCopy)),
+    ];
+    kept(alloc, &reasons)
+}
+
+fn is_first_chain(fresh: bool, flags: Flags) -> bool
+    ensures { result ≡ first_chain fresh flags }
+{
+    fresh && (flags.and_chain || flags.and_ok || flags.on_error)
+}
+
+fn is_after_block(closed: bool, flags: Flags) -> bool
+    ensures { result ≡ after_block closed flags }
+{
+    closed && (flags.and_ok || flags.on_error)
+}
+
+fn is_lock(name: &[u8], lock: &Option<Blob>) -> bool
+    ensures { result ≡ lock_is name.now lock.now }
+{
+    match lock {
+        None => false,
+        Some(lock) => is(lock.as_slice(), name) && !is(lock.as_slice(), b""),
+    }
+}
+
+fn is_named(lock: &Option<Blob>) -> bool
+    ensures { result ≡ named lock.now }
+{
+    match lock {
+        None => false,
+        Some(lock) => !is(lock.as_slice(), b""),
+    }
+}
+
+fn is_block_lock(flags: Flags, lock: &Option<Blob>) -> bool
+    ensures { result ≡ block_lock flags lock.now }
+{
+    is_named(lock) && !flags.copy
+}
