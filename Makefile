@@ -1,9 +1,9 @@
 # Each target works on a fresh checkout with nothing built, says at once how long it may take, and keeps a log in bin/.
 
-.PHONY: build build-procmail build-lockfile build-formail build-stat build-check build-explain build-cases install uninstall dist deb demo \
-	test cases try bench plots promise layers check bugs clean
+.PHONY: build build-procmail build-lockfile build-formail build-stat build-check build-explain build-test \
+	build-cases install uninstall dist deb demo test cases try bench plots promise layers check bugs clean
 
-build: build-procmail build-lockfile build-formail build-stat build-check build-explain
+build: build-procmail build-lockfile build-formail build-stat build-check build-explain build-test
 
 # A program of bin/, built once its crates are proved, several at a time.
 build-procmail:
@@ -23,6 +23,9 @@ build-check:
 
 build-explain:
 	@bash .ci/build procmail-explain
+
+build-test:
+	@bash .ci/build procmail-test
 
 # The program that runs the cases of tests/cases.
 build-cases:

@@ -1,18 +1,15 @@
 //! The run of one mail over what is there, whose changes stay in memory.
-ghost use Rattle.std.specs.Prelude.{◌≡◌, []};
-
 use crate::Status;
 use crate::answers::{Answer, read_answer};
 use crate::options::{Format, Options};
 use crate::written::{json, text};
-use pm_bytes::{Environ, Memory, Name};
+use explain_host::Machine;
+use pm_bytes::Memory;
 use pm_journal::Journal;
-use pm_overlay::{Given, Overlay, ReadOnly, Void};
-use pm_real::{RealHost, RealSource, Setup, can_be_host_name, read_regular};
-use pm_start::{first_line, machine_name, read_environment};
+use pm_overlay::{Overlay, Void};
+use pm_real::RealSource;
 use pm_top::procmail;
 use std::alloc::Global;
-use std::fs::File;
 use std::io::{self, ErrorKind, Write};
 
 /// Prints what procmail would do with the mail on standard input.
@@ -35,48 +32,23 @@ pub fn explain_mail(rt: &HostRuntime, options: &Options<'_>) -> io::Result<Statu
             }
         }
     }
-    let setup = Setup::new(rt)?;
+    let machine = Machine::new(rt)?;
+    let mut source = enough(RealSource::stdin(rt, rt.alloc()))?;
     let mut journal = Journal::new(rt.alloc());
-    let status = enough(run(rt, &setup, options, given, &mut journal))?;
-    print(rt, options, &journal, status)
-}
-
-// Want of memory as an error of input and output, as std gives it.
-fn enough<T>(made: Result<T, Memory>) -> io::Result<T> {
-    match made {
-        Ok(value) => Ok(value),
-        Err(Memory) => Err(io::Error::from(ErrorKind::OutOfMemory)),
-    }
-}
-
-// The exit status of procmail; what it does is in the journal.
-fn run(
-    rt: &HostRuntime,
-    setup: &Setup<File>,
-    options: &Options<'_>,
-    given: Vec<Given>,
-    journal: &mut Journal,
-) -> Result<u8, Memory>
-    requires { journal.old.entries ≡ [] }
-{
-    let alloc = rt.alloc();
-    let words = owned(alloc, options.words.as_slice())?;
-    let env = surroundings(rt)?;
-    let mut source = RealSource::stdin(rt, alloc)?;
-    let base = ReadOnly::new(RealHost::new(rt, alloc, env.pid, setup)?);
-    let mut host = Overlay::new(alloc, base, given);
-    let mut out = Void::new();
-    let mut err = Void::new();
-    Ok(procmail(
-        alloc,
+    let words = enough(owned(rt.alloc(), options.words.as_slice()))?;
+    let base = enough(machine.base(rt))?;
+    let mut host = Overlay::new(rt.alloc(), base, given);
+    let status = procmail(
+        rt.alloc(),
         words.as_slice(),
-        &env,
+        machine.env(),
         &mut source,
         &mut host,
-        &mut out,
-        &mut err,
-        journal,
-    ))
+        &mut Void::new(),
+        &mut Void::new(),
+        &mut journal,
+    );
+    print(rt, options, &journal, status)
 }
 
 fn owned(alloc: Global, words: &[&str]) -> Result<Vec<String>, Memory> {
@@ -87,24 +59,11 @@ fn owned(alloc: Global, words: &[&str]) -> Result<Vec<String>, Memory> {
     Ok(owned)
 }
 
-fn surroundings(rt: &HostRuntime) -> Result<Environ, Memory> {
-    let alloc = rt.alloc();
-    Ok(Environ {
-        vars: read_environment(alloc, rt)?,
-        pid: std::process::id(rt.process()),
-        host_name: host_name(rt)?,
-    })
-}
-
-// The host has no name if `/etc/hostname` can't be read, or if its line can't be a part of the name of a maildir's file.
-fn host_name(rt: &HostRuntime) -> Result<Name, Memory> {
-    let alloc = rt.alloc();
-    match read_regular(rt, "/etc/hostname") {
-        Ok(text) if can_be_host_name(first_line(text.as_slice())) => machine_name(
-            alloc,
-            text.as_slice(),
-        ),
-        _ => machine_name(alloc, b""),
+// Want of memory as an error of input and output, as std gives it.
+fn enough<T>(made: Result<T, Memory>) -> io::Result<T> {
+    match made {
+        Ok(value) => Ok(value),
+        Err(Memory) => Err(io::Error::from(ErrorKind::OutOfMemory)),
     }
 }
 

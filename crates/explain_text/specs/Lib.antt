@@ -1,2 +1,4 @@
-pub mod Steps
+pub mod Destinations
+pub mod Examples
 pub mod Lines
+pub mod Steps

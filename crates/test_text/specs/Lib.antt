@@ -1,0 +1,6 @@
+pub mod Bags
+pub mod Examples
+pub mod Junit
+pub mod Names
+pub mod Tap
+pub mod Told
