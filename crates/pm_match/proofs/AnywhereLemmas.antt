@@ -3,20 +3,19 @@ use Rattle.std.proofs.Common.{◌≡◌, ◌⊎◌, ℕ, Bool, true, false, zero
 use Rattle.std.specs.Prelude.{slice_get}
 use Rattle.pm_regex.specs.declared.op.Atom.TheVariants.{Any, LineStart}
 use Rattle.pm_regex.specs.Re.{Re}
-use Rattle.pm_regex.specs.Matching.{At}
-use Rattle.pm_regex.specs.Found.{IsMatch}
 use Rattle.pm_match.specs.declared.step.Step.{Step}
 use Rattle.pm_match.specs.declared.step.Step.TheVariants.{Stop, Fork, Take}
 use Rattle.pm_match.specs.declared.step.Test.TheVariants.{One}
 use Rattle.pm_match.specs.declared.build.Program.{Program}
 use Rattle.pm_match.specs.Automaton.{Built, Edge}
 use Rattle.pm_match.specs.Labels.{TargetsBelow, InRange}
-use Rattle.pm_match.specs.Finding.{Reach, IsFirst}
+use Rattle.pm_match.specs.Finding.{Reach}
 use Rattle.pm_match.specs.Forward.{IsReachedFrom}
-use Rattle.pm_match.specs.Anywhere.{EndsWith, EndsNowhere, IsSound}
+use Rattle.pm_match.specs.Anywhere.{Embeds, IsSound}
 use Rattle.pm_match.proofs.Kept.{get_left, get_seam, kept_append, built_kept}
 use Rattle.pm_match.proofs.RangeLemmas.{targets_more, get_push}
 use Rattle.pm_match.proofs.CacheLemmas.{got}
+use Rattle.pm_match.proofs.ListLemmas.{reach_below}
 use Rattle.pm_match.proofs.EdgeLemmas.{fork_first, fork_second, take_on}
 use Rattle.pm_match.proofs.ForwardLemmas.{leads_more}
 use Rattle.pm_match.proofs.BackwardLemmas.{true_or_false}
@@ -71,9 +70,6 @@ module _ (p : List Step) (entry : ℕ) where
   keeps : (q : ℕ) (x : Step) → slice_get (more1 p entry) q ≡ Some x → slice_get (more4 p entry) q ≡ Some x
   keeps q x h = get_left (more3 p entry) _ q x (get_left (more2 p entry) _ q x (get_left (more1 p entry) _ q x h))
 
-  old_step : (q : ℕ) (x : Step) → slice_get p q ≡ Some x → slice_get (more4 p entry) q ≡ Some x
-  old_step q x h = keeps q x (get_left p _ q x h)
-
   step0 : slice_get (more4 p entry) (length p) ≡ Some (Fork (length p + 1) entry)
   step0 = keeps (length p) _ (get_seam p _ [])
 
@@ -127,23 +123,37 @@ module _ (p : List Step) (entry : ℕ) where
         let next : i + 1 ≡ suc i = omega arith in
         subst (λ k. Front (length p) k) next (one_more i at.0 at.1 (reads i (omega (arith, h))))
 
-    joins : (s n q i : ℕ) → Front entry s → Reach (more4 p entry) area entry s n q i → Front q i
-    joins s zero q i f h = subst (λ x. Front x i) (sym h.0) (subst (λ k. Front entry k) (sym h.1) f)
-    joins s (suc n) q i f h = on h.0 h.1 q i (joins s n h.0 h.1 f h.2) h.3
+    joins : (s n q i : ℕ) → s ≤ length area → Reach (more4 p entry) area entry s n q i → Front q i
+    joins s zero q i h r =
+        subst (λ x. Front x i) (sym r.0) (subst (λ k. Front entry k) (sym r.1)
+        (on (length p) s entry s (reads s h) (fork_second (more4 p entry) area (length p) s (length p + 1) entry step0)))
+    joins s (suc n) q i h r = on r.0 r.1 q i (joins s n r.0 r.1 h r.2) r.3
 
-    reaches : (fold : Bool) (e : Re) (exit s j : ℕ) → Built fold p e entry exit → s ≤ length area → At fold e area s j → Front exit j
-    reaches fold e exit s j built h at =
-        let to = reach_of fold (more4 p entry) area e entry exit (built4 fold e entry exit built) s j at in
-        joins s to.0 exit j (on (length p) s entry s (reads s h) (fork_second (more4 p entry) area (length p) s (length p + 1) entry step0)) to.1
+  -- whatever one of its first steps names is one of these
+  named : InRange p → (q : ℕ) (x : Step) → q < length p → slice_get (more4 p entry) q ≡ Some x → TargetsBelow x (length p)
+  named range q x lt is =
+      let old = got p q lt in
+      let e : Some old.0 ≡ Some x = sym (keeps q old.0 (get_left p _ q old.0 old.1)) ∙ is in
+      let same : old.0 ≡ x = cc in
+      subst (λ y. TargetsBelow y (length p)) same (range q old.0 old.1)
 
 -- the automaton with these steps reads any bytes before a match
 module _ (g a : Program) (steps : a.steps.items ≡ more4 g.steps.items g.entry) (entry : a.entry ≡ length g.steps.items) (exit : a.exit ≡ g.exit) where
-  pub ends4 : EndsWith g a
-  ends4 e fold area s j stop built h at =
-      subst (λ p. IsReachedFrom p area a.entry 0 a.exit j) (sym steps)
-      (subst (λ k. IsReachedFrom (more4 g.steps.items g.entry) area k 0 a.exit j) (sym entry)
-      (subst (λ k. IsReachedFrom (more4 g.steps.items g.entry) area (length g.steps.items) 0 k j) (sym exit)
-      (reaches g.steps.items g.entry area fold e g.exit s j built h at)))
+  pub embeds4 : IsSound g → Embeds g a
+  embeds4 is = record {
+    joins = λ area s n q i h r.
+        subst (λ p. IsReachedFrom p area a.entry 0 q i) (sym steps)
+        (subst (λ k. IsReachedFrom (more4 g.steps.items g.entry) area k 0 q i) (sym entry)
+        (joins g.steps.items g.entry area s n q i h (subst (λ p. Reach p area g.entry s n q i) steps r)));
+    inner = λ area s n q i r.
+        subst (λ k. q < k) (sym entry)
+        (reach_below (more4 g.steps.items g.entry) (length g.steps.items) (named g.steps.items g.entry is.range) area g.entry s is.entry n q i
+        (subst (λ p. Reach p area g.entry s n q i) steps r));
+    ends = λ e fold area s j built at.
+        let to = reach_of fold (more4 g.steps.items g.entry) area e g.entry g.exit (built4 g.steps.items g.entry fold e g.entry g.exit built) s j at in
+        subst (λ p. IsReachedFrom p area g.entry s a.exit j) (sym steps)
+        (subst (λ k. IsReachedFrom (more4 g.steps.items g.entry) area g.entry s k j) (sym exit) (record { count = to.0; reach = to.1 }));
+  }
 
   pub sound4 : IsSound g → IsSound a
   sound4 is =
@@ -153,8 +163,3 @@ module _ (g a : Program) (steps : a.steps.items ≡ more4 g.steps.items g.entry)
         entry = omega (arith, len, entry);
         exit = omega (arith, len, exit, out);
       }
-
--- where no run of it ends nothing matches
-pub none_of : (g a : Program) (l r : Re) (fold : Bool) (area : List ℕ) → EndsWith g a → slice_get g.steps.items g.exit ≡ Some Stop →
-    Built fold g.steps.items l g.entry g.exit → EndsNowhere a area → IsFirst fold l r area 0 None
-none_of g a l r fold area ends stop built none = λ s c j m. none c m.cut_in (ends l fold area s c stop built m.start_in m.left)

@@ -10,6 +10,7 @@ use Rattle.pm_match.specs.Labels.{Below, Hops, here, hop, Crosses, IsClosed, IsE
 use Rattle.pm_match.specs.Finding.{Reach}
 use Rattle.pm_match.specs.Search.{IsProgram}
 use Rattle.pm_match.specs.Backward.{Holds}
+use Rattle.pm_match.specs.Lists.{AreReached}
 use Rattle.pm_match.specs.Forward.{IsReachedFrom, AreRunLabels, IsRunSet, IsLeastEnd}
 use Rattle.pm_match.proofs.FindLemmas.{edge_place, reach_after}
 use Rattle.pm_match.proofs.BestLemmas.{at_of, reach_of}
@@ -63,6 +64,24 @@ module _ (p p' : List Step) (area : List ℕ) (entry s : ℕ) (same : p' ≡ p) 
         let here : k ≡ i = omega (arith, later) in
         let was = ahead.whole r m (subst (λ x. Reach p area entry s m r x) here before) in
         (was.0, reached r q2 was.0 (subst (λ x. Edge x area r i q2 (i + 1)) (sym same) (subst (λ x. Edge p area r x q2 (i + 1)) here e)) was.1)))
+        n q h;
+  }
+
+-- labels of the states that a run's states lead to by a byte are labels of the run
+module _ (p : List Step) (area : List ℕ) (entry i : ℕ) where
+  pub labels_after : (In : ℕ → Type 0) (next : List (Option Label)) → AreReached p area entry i In →
+      ((r v : ℕ) → Below next r v → (q : ℕ) × In q × Crosses p area i q r) →
+      ((q r v : ℕ) → In q → Edge p area q i r (i + 1) → Below next r v) → IsClosed p area (i + 1) next → AreRunLabels p area entry 0 (i + 1) next
+  labels_after In next now from_old reached closed = record {
+    sound = λ q v b. (
+        let c = from_old q v b in
+        hops_lead p area entry 0 (i + 1) c.2.middle q c.2.hops (leads_more p area entry 0 c.0 i c.2.middle (i + 1) (now.sound c.0 c.1) c.2.edge));
+    whole = λ q n h. whole_of p area entry 0 (i + 1) next closed
+        (λ e. absurd (omega (arith, e)))
+        (λ q2 r m k before e later. (
+        let here : k ≡ i = omega (arith, later) in
+        let was = now.whole r (record { count = m; reach = subst (λ x. Reach p area entry 0 m r x) here before }) in
+        (0, reached r q2 0 was (subst (λ x. Edge p area r x q2 (i + 1)) here e))))
         n q h;
   }
 

@@ -22,6 +22,7 @@ pub mod JoinLemmas
 pub mod FinalLemmas
 pub mod BackwardLemmas
 pub mod CacheLemmas
+pub mod ListLemmas
 pub mod ForwardLemmas
 pub mod RunLemmas
 pub mod AnywhereLemmas

@@ -45,7 +45,7 @@ module _ (x y : List ℕ) (i j b : ℕ) (here : slice_get x i ≡ Some b) (there
   cross (Range f l) r e = absurd e
   cross (Take t u) r e = (e.0, elim e.1 [ inl h ↦ absurd (omega (arith, h.1)) | inr h ↦ inr (h.0, same_byte h.0 h.1, h.2, refl) ])
 
-  cross_edge : (q r : ℕ) → Edge p x q i r (i + 1) → Edge p y q j r (j + 1)
+  pub cross_edge : (q r : ℕ) → Edge p x q i r (i + 1) → Edge p y q j r (j + 1)
   cross_edge q r e = record { step = e.step; is = e.is; edge = cross e.step r e.edge }
 
 -- what is after a byte, by the byte
@@ -57,7 +57,7 @@ line_of x i b is =
     let byte : slice_index x i ≡ b = cc in
     ap (λ k. (i + 1 == 0) || (slice_index x k == 10)) back ∙ (ap (λ k. (i + 1 == 0) || (k == 10)) byte ∙ ap (λ t. t || (b == 10)) none)
 
-abbrev one_if : Bool → ℕ
+abbrev pub one_if : Bool → ℕ
 one_if a = if a then 1 else 0
 
 one_or_none : (a b : Bool) → one_if a ≡ one_if b → a ≡ b

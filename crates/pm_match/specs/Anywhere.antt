@@ -5,19 +5,21 @@ use Rattle.pm_regex.specs.Matching.{At}
 use Rattle.pm_match.specs.declared.build.Program.{Program}
 use Rattle.pm_match.specs.declared.anywhere.Anywhere.{Anywhere}
 use Rattle.pm_match.specs.Labels.{InRange}
-use Rattle.pm_match.specs.declared.step.Step.TheVariants.{Stop}
 use Rattle.pm_match.specs.Automaton.{Built}
+use Rattle.pm_match.specs.Finding.{Reach}
 use Rattle.pm_match.specs.Forward.{IsReachedFrom}
-use Rattle.pm_match.specs.Begins.{AreRuns}
+use Rattle.pm_match.specs.Lists.{AreReady}
 
--- wherever a match of the first ends, a run of the second from the area's front ends too
-abbrev pub EndsWith : Program → Program → Type 0
-EndsWith g a = (e : Re) (fold : Bool) (area : List ℕ) (s j : ℕ) → slice_get g.steps.items g.exit ≡ Some Stop →
-    Built fold g.steps.items e g.entry g.exit → s ≤ length area → At fold e area s j → IsReachedFrom a.steps.items area a.entry 0 a.exit j
+-- the second has the first within it, before its entry, and a run from the area's front leads to wherever one of the first
+-- does
+pub record Embeds (g a : Program) : Type 0 where
+  pub joins : (area : List ℕ) (s n q i : ℕ) → s ≤ length area → Reach a.steps.items area g.entry s n q i → IsReachedFrom a.steps.items area a.entry 0 q i
+  pub inner : (area : List ℕ) (s n q i : ℕ) → Reach a.steps.items area g.entry s n q i → q < a.entry
+  pub ends : (e : Re) (fold : Bool) (area : List ℕ) (s j : ℕ) → Built fold g.steps.items e g.entry g.exit → At fold e area s j → IsReachedFrom a.steps.items area g.entry s a.exit j
 
--- no run from the area's front ends
-abbrev pub EndsNowhere : Program → List ℕ → Type 0
-EndsNowhere a area = (j : ℕ) → j ≤ length area → IsReachedFrom a.steps.items area a.entry 0 a.exit j → ⊥
+-- no run of the first that began before this place ends in the area
+abbrev pub NoneBefore : Program → Program → List ℕ → ℕ → Type 0
+NoneBefore g a area base = (s j : ℕ) → j ≤ length area → IsReachedFrom a.steps.items area g.entry s a.exit j → base ≤ s
 
 -- whatever the automaton names is in it
 pub record IsSound (a : Program) : Type 0 where
@@ -27,6 +29,6 @@ pub record IsSound (a : Program) : Type 0 where
 
 -- it reads any bytes before a match of the other, and there is room for its runs
 pub record IsAnywhere (g : Program) (w : Anywhere) : Type 0 where
-  pub ends : EndsWith g w.program
+  pub embeds : Embeds g w.program
   pub sound : IsSound w.program
-  pub runs : AreRuns w.program.steps.items w.program.entry w.forward
+  pub ready : AreReady w.program.steps.items w.program.entry w.program.exit w.sets w.labels

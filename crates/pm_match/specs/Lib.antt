@@ -14,5 +14,6 @@ pub mod Backward
 pub mod Cache
 pub mod Forward
 pub mod Begins
+pub mod Lists
 pub mod Anywhere
 pub mod Checkpoints

@@ -49,7 +49,7 @@ pub fn make_forward(alloc: Global, size: usize, reach: usize) -> Result<Forward,
 }
 
 /// Labels the states that are reached at the start without a byte.
-fn start_run(program: &Program, labels: &mut Labels, area: &[u8], start: usize)
+pub fn start_run(program: &Program, labels: &mut Labels, area: &[u8], start: usize)
     requires program { InRange program.now.steps.items }
     requires entry { program.now.entry < length program.now.steps.items }
     requires labels { vec_len labels.old.of ≡ length program.now.steps.items }
@@ -91,7 +91,7 @@ fn step_forward(
 }
 
 /// Whether the state has a label.
-fn is_reached(labels: &Labels, state: usize) -> bool
+pub fn is_reached(labels: &Labels, state: usize) -> bool
     requires { state < vec_len labels.now.of }
     ensures yes { IsTrue result → (v : ℕ) × Below labels.now.of.items state v }
     ensures no { IsFalse result → (v : ℕ) → Below labels.now.of.items state v → ⊥ }

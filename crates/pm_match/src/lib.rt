@@ -17,6 +17,7 @@ mod labels;
 mod marks;
 mod row;
 mod search;
+mod sets;
 mod starts;
 mod step;
 mod tables;

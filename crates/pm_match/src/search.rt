@@ -5,7 +5,7 @@ ghost use Rattle.pm_match.specs.Starts.{AreStarts};
 ghost use Rattle.pm_match.specs.Cache.{AreReady};
 ghost use Rattle.pm_match.specs.Anywhere.{IsSound, IsAnywhere};
 
-use crate::anywhere::{Anywhere, ends_nowhere, make_anywhere};
+use crate::anywhere::{Anywhere, before_all, make_anywhere};
 use crate::automata::{Automata, Room};
 use crate::build::{Program, build};
 use crate::cache::{Cache, least_start, make_cache};
@@ -267,46 +267,37 @@ impl Search {
         }
     }
 
-    /// Whether a pass from the front tells that nothing matches.
-    fn is_nowhere(&mut self, area: &[u8]) -> bool
-        requires runs { (l : Re) × (r : Re) × (fold : Bool) × Runs self.old l r fold }
-        requires front { 0 < length area.now }
+    /// A place before which no match begins, by a pass from the front.
+    fn before_first(&mut self, area: &[u8]) -> usize
+        requires { (l : Re) × (r : Re) × (fold : Bool) × Runs self.old l r fold }
         ensures kept { (l r : Re) (fold : Bool) → Runs self.old l r fold → Runs self.new l r fold }
-        ensures nowhere { (l r : Re) (fold : Bool) → Runs self.old l r fold → IsTrue result
-            → IsFirst fold l r area.now 0 None }
+        ensures within { result ≤ length area.now }
+        ensures none { (l r : Re) (fold : Bool) → Runs self.old l r fold
+            → (s c j : ℕ) → IsMatch fold l r area.now 0 s c j → result ≤ s }
     {
         match &mut self.anywhere {
-            None => false,
-            Some(anywhere) => ends_nowhere(&anywhere.program, &mut anywhere.forward, area),
+            None => 0,
+            Some(anywhere) => before_all(anywhere, area),
         }
     }
 
-    /// Whether labels are likely to cost much, and a pass from the front tells that nothing matches.
-    fn has_none(&mut self, area: &[u8]) -> bool
+    /// A place before which no match begins, where a pass over sets of states is worth it.
+    fn begin_of(&mut self, area: &[u8]) -> usize
         requires { (l : Re) × (r : Re) × (fold : Bool) × Runs self.old l r fold }
         ensures kept { (l r : Re) (fold : Bool) → Runs self.old l r fold → Runs self.new l r fold }
-        ensures nowhere { (l r : Re) (fold : Bool) → Runs self.old l r fold → IsTrue result
-            → IsFirst fold l r area.now 0 None }
+        ensures within { result ≤ length area.now }
+        ensures none { (l r : Re) (fold : Bool) → Runs self.old l r fold
+            → (s c j : ℕ) → IsMatch fold l r area.now 0 s c j → result ≤ s }
     {
-        if !self.is_crowded(area) {
-            return false;
+        if self.is_crowded(area) {
+            self.prepare_anywhere();
+            return self.before_first(area);
         }
-        self.prepare_anywhere();
-        self.is_nowhere(area)
-    }
-
-    /// The first match in the area, by labels.
-    fn first_by_labels(&mut self, area: &[u8]) -> Option<Match>
-        requires { (l : Re) × (r : Re) × (fold : Bool) × Runs self.old l r fold }
-        ensures kept { (l r : Re) (fold : Bool) → Runs self.old l r fold → Runs self.new l r fold }
-        ensures first { (l r : Re) (fold : Bool) → Runs self.old l r fold → IsFirst fold l r area.now 0 result }
-    {
-        if !self.is_worth(area) {
-            return self.first(area, 0);
+        if self.is_worth(area) {
+            self.prepare_cache();
+            return self.before_all(area);
         }
-        self.prepare_cache();
-        let from = self.before_all(area);
-        self.first(area, from)
+        0
     }
 
     /// The first match in the area.
@@ -315,10 +306,8 @@ impl Search {
         ensures kept { (l r : Re) (fold : Bool) → Runs self.old l r fold → Runs self.new l r fold }
         ensures first { (l r : Re) (fold : Bool) → Runs self.old l r fold → IsFirst fold l r area.now 0 result }
     {
-        if self.has_none(area) {
-            return None;
-        }
-        self.first_by_labels(area)
+        let from = self.begin_of(area);
+        self.first(area, from)
     }
 
     /// Whether there is room to count by marks in an area of this length.
