@@ -1,7 +1,8 @@
 #!/usr/bin/env bash
 # No mail forges another one: 1,000 mails whose bodies try to are delivered to one mailbox, one program each. formail cuts
-# the mailbox into just these mails, in their order, and so does formail 3.22, if it is installed. The same mails written
-# one after another without procmail are cut into more.
+# the mailbox into just these mails, in their order, and so does formail 3.22, if it is installed. The same holds of what
+# formail writes of each mail. The same mails written one after another without either are cut into more; what `formail -s`
+# writes of those is cut into as many again.
 set -eu
 . "$(dirname "$0")/common.bash"
 formail=$programs/formail
@@ -100,21 +101,23 @@ pieces 1 $COUNT | cmp - mbox || fail 'the mailbox is not the escaped mails, one 
 
 RANGES=('0 1' '0 999' '1 1' '400 200' '999 1' '999 9')
 
-# cut PROGRAM OPTION..: this formail cuts the mailbox into the mails, in their order.
+# cut MAILBOX PROGRAM OPTION..: this formail cuts the mailbox into the mails, in their order.
 cut() {
-    local range skip total
-    "$@" -X 'From ' -s < mbox > lines
-    cmp lines wanted_lines || fail "$*: $(wc -l < lines) mails, not $COUNT"
-    "$@" -zx X-Number: -s < mbox > numbers
-    cmp numbers wanted_numbers || fail "$*: the numbers of the mails differ"
+    local mailbox=$1 range skip total
+    shift
+    "$@" -X 'From ' -s < "$mailbox" > lines
+    cmp lines wanted_lines || fail "$* of $mailbox: $(wc -l < lines) mails, not $COUNT"
+    "$@" -zx X-Number: -s < "$mailbox" > numbers
+    cmp numbers wanted_numbers || fail "$* of $mailbox: the numbers of the mails differ"
     for range in "${RANGES[@]}"; do
         read -r skip total <<< "$range"
-        "$@" "+$skip" "-$total" -X 'From ' -s < mbox > lines
-        tail -n "+$((skip + 1))" wanted_lines | head -n "$total" | cmp - lines || fail "$* +$skip -$total: other mails"
+        "$@" "+$skip" "-$total" -X 'From ' -s < "$mailbox" > lines
+        tail -n "+$((skip + 1))" wanted_lines | head -n "$total" | cmp - lines \
+            || fail "$* +$skip -$total of $mailbox: other mails"
     done
 }
 
-cut "$formail"
+cut mbox "$formail"
 
 # The mails come out byte for byte.
 "$formail" -s < mbox | cmp - mbox || fail 'formail -s: the mails differ'
@@ -131,6 +134,12 @@ for ((number = 1; number <= COUNT; number++)); do
 done > want
 cmp sizes want || fail 'formail -s PROGRAM: the sizes of the mails differ'
 
+# What formail writes of each mail, one program each, is one mail.
+for ((number = 1; number <= COUNT; number++)); do
+    "$formail" -A 'X-By: formail' < mails/$number || fail "formail of mail $number: status $?"
+done > written
+cut written "$formail"
+
 # So the mails are as hostile as they look.
 for ((number = 1; number <= COUNT; number++)); do
     cat mails/$number
@@ -139,9 +148,17 @@ done > unescaped
 found=$("$formail" -X 'From ' -s < unescaped | grep -c '^From ')
 [ "$found" -gt $((2 * COUNT)) ] || fail "without escapes there are only $found mails"
 
+# What formail writes of those is cut into just as many, each of which has its new field.
+"$formail" -A 'X-By: formail' -s < unescaped > again
+count=$("$formail" -X 'From ' -s < again | grep -c '^From ')
+[ "$count" -eq "$found" ] || fail "formail -s makes $count mails of $found"
+count=$("$formail" -X X-By: -s < again | grep -c '^X-By: formail$')
+[ "$count" -eq "$found" ] || fail "formail -s: $count of $found mails have the new field"
+
 other=$(command -v formail || :)
 if [ -n "$other" ] && "$other" -v 2>&1 | grep -q 'v3\.2[23]'; then
-    cut "$other" -Y
+    cut mbox "$other" -Y
+    cut written "$other" -Y
     echo "forged: $COUNT mails stay $COUNT mails, for formail 3.22 too; without escapes they are $found"
 else
     echo "forged: $COUNT mails stay $COUNT mails; without escapes they are $found; formail 3.22: skipped"
