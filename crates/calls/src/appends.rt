@@ -1,0 +1,158 @@
+//! Appends to a mailbox, and lines of a log (pm_append).
+use crate::failed::Failed;
+use crate::report::Report;
+use crate::world::{NOTHING, World, count_calls, make_host};
+use pm_append::{append_whole, say};
+use pm_bytes::{Blob, Name};
+use pm_host::Host;
+use pm_journal::{Journal, Reply};
+use pm_memory::MemorySink;
+use std::alloc::Global;
+
+const PIECE: &[u8] = b"A: b\n\nhi\n\n";
+
+const MBOX: World<'static> = World {
+    file: Some(("mbox", b"old\n")),
+    ..NOTHING
+};
+
+const LOG: World<'static> = World {
+    file: Some(("log", b"a\n")),
+    ..NOTHING
+};
+
+// One whose second call takes five bytes.
+const SHORT: World<'static> = World { most: 5, ..MBOX };
+
+const APPENDS: &[(World<'static>, &[u8])] = &[
+    (SHORT, PIECE),
+    (
+        World {
+            fails: [3, 0],
+            ..SHORT
+        },
+        PIECE,
+    ),
+    (
+        World {
+            fails: [3, 4],
+            ..SHORT
+        },
+        PIECE,
+    ),
+    (
+        World {
+            fails: [3, 0],
+            ..MBOX
+        },
+        PIECE,
+    ),
+    (
+        World {
+            fails: [3, 4],
+            ..MBOX
+        },
+        PIECE,
+    ),
+    (
+        World {
+            fails: [3, 0],
+            ..NOTHING
+        },
+        PIECE,
+    ),
+    (
+        World {
+            fails: [2, 0],
+            ..MBOX
+        },
+        b"",
+    ),
+    (
+        World {
+            folder: Some("mbox"),
+            ..NOTHING
+        },
+        PIECE,
+    ),
+];
+
+const LINES: &[(World<'static>, Option<&[u8]>)] = &[
+    (LOG, Some(b"log")),
+    (
+        World {
+            fails: [2, 0],
+            ..LOG
+        },
+        Some(b"log"),
+    ),
+    (LOG, None),
+];
+
+pub fn show(alloc: Global, report: &mut Report) {
+    for (world, piece) in APPENDS {
+        let shown = append(alloc, report, *world, piece);
+        report.lines(shown);
+    }
+    for (world, log) in LINES {
+        let shown = say_line(alloc, report, *world, *log);
+        report.lines(shown);
+    }
+}
+
+fn append(
+    alloc: Global,
+    report: &mut Report,
+    world: World<'_>,
+    piece: &[u8],
+) -> Result<(), Failed> {
+    let name = Name::read(alloc, b"mbox")?;
+    let mut host = make_host(alloc, world)?;
+    report.answer("append_whole", append_whole(&mut host, &name, piece));
+    report.file("  mbox", host.file("mbox"));
+    report.answer("  calls", count_calls(&host).0);
+    report.answer("  faults", host.faults());
+    Ok(())
+}
+
+// A line for the log of this name, or for standard error.
+fn say_line(
+    alloc: Global,
+    report: &mut Report,
+    world: World<'_>,
+    log: Option<&[u8]>,
+) -> Result<(), Failed> {
+    let to = match log {
+        Some(log) => Some(Name::read(alloc, log)?),
+        None => None,
+    };
+    let line = Blob::from_slice(alloc, b"procmail: x\n")?;
+    let mut host = make_host(alloc, world)?;
+    let mut err = MemorySink::new(alloc, None)?;
+    let mut journal = Journal::new(alloc);
+    journal.reserve(1)?;
+    say(&mut host, &mut err, &mut journal, to, line, 7);
+    print_entries(report, &journal);
+    report.bytes("  err", err.written());
+    report.file("  log", host.file("log"));
+    report.answer("  calls", count_calls(&host).0);
+    Ok(())
+}
+
+fn print_entries(report: &mut Report, journal: &Journal) {
+    for entry in journal.entries() {
+        report.word(
+            "say",
+            match &entry.reply {
+                Reply::Done => "Done",
+                Reply::Undone => "Undone",
+                Reply::Wrote => "Wrote",
+                _ => "another reply",
+            },
+        );
+        report.answer(
+            "  faults of host and out",
+            (entry.after.host, entry.after.out),
+        );
+    }
+}
