@@ -8,6 +8,7 @@ use Rattle.formail_edit.specs.Keyed.{Keyed, keyed, means, means_any}
 use Rattle.formail_edit.specs.Step.{name_for, put_aside, put_name, put_content, first_only, last_only, texts_in}
 use Rattle.formail_edit.specs.declared.edits.PutKind.TheVariants.{Replace}
 use Rattle.formail_edit.proofs.EachLemmas.{each_same}
+use Rattle.formail_edit.proofs.FormLemmas.{forms_in_words}
 
 -- one text for each field
 one_each : (becomes : Keyed → List ℕ) (fields : List Keyed) → flat_map (λ field. becomes field ∷ []) fields ≡ map becomes fields
@@ -115,4 +116,4 @@ uniques_in_words name before after field = record {
 }
 
 pub edits_in_words : EditsInWords
-edits_in_words = record { fields = fields_in_words; uniques = uniques_in_words }
+edits_in_words = record { fields = fields_in_words; uniques = uniques_in_words; forms = forms_in_words }

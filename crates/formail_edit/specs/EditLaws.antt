@@ -1,8 +1,13 @@
 -- What each edit does to a list of fields, in a sentence: it keeps the order, and every field that its name doesn't mean.
-use Rattle.std.specs.Prelude.{◌≡◌, ℕ, true, false, not, List, [], ◌∷◌, ◌++◌, map, drop, length, codes, bytes_eq, if◌then◌else◌}
-use Rattle.std.specs.List.{filter, list_any}
-use Rattle.formail_edit.specs.Keyed.{Keyed, keyed, means, means_any}
-use Rattle.formail_edit.specs.Step.{name_for, put_one, put_name, put_content, renamed, first_only, last_only, texts_in}
+use Rattle.std.specs.Prelude.{◌≡◌, ℕ, Bool, true, false, not, List, [], ◌∷◌, ◌++◌, map, drop, length, codes, bytes_eq, if◌then◌else◌}
+use Rattle.std.specs.List.{filter, list_all, list_any}
+use Rattle.pm_bytes.specs.Letter.{is_blank_byte, is_space_byte}
+use Rattle.pm_message.specs.Field.{begins_with_blank}
+use Rattle.pm_message.specs.FromLine.{is_newline}
+use Rattle.pm_message.specs.declared.head_fields.FieldKind.{FieldKind}
+use Rattle.pm_message.specs.declared.head_fields.FieldKind.TheVariants.{Named}
+use Rattle.formail_edit.specs.Keyed.{Keyed, keyed, name_in, content_in, means, means_any, each}
+use Rattle.formail_edit.specs.Step.{name_for, put_one, put_name, put_content, renamed, first_only, last_only, texts_in, zapped_field, joined}
 use Rattle.formail_edit.specs.declared.edits.Put.{Put}
 use Rattle.formail_edit.specs.declared.edits.PutKind.{PutKind}
 use Rattle.formail_edit.specs.declared.edits.PutKind.TheVariants.{Old, Replace, IfNone, Always}
@@ -57,7 +62,41 @@ pub record UniquesInWords (name : List ℕ) (before after : List Keyed) (field :
   pub no_first : NoneMeant name after → first_only name false after ≡ after
   pub no_last : NoneMeant name after → last_only name after ≡ after
 
+-- a field of this kind has a name, and this holds of its content
+abbrev pub is_named_with : (List ℕ → Bool) → FieldKind → List ℕ → Bool
+is_named_with has Named content = has content
+is_named_with has kind content = false
+
+-- a field with a name, and nothing but blanks and newlines after it
+abbrev pub is_empty_field : Keyed → Bool
+is_empty_field field = is_named_with (list_all is_space_byte) field.key.kind (content_in field)
+
+-- one whose content doesn't begin with a blank
+abbrev pub lacks_blank : Keyed → Bool
+lacks_blank field = is_named_with (λ content. not (begins_with_blank content)) field.key.kind (content_in field)
+
+-- the text of a field, with a blank after the name of one that has none there
+abbrev pub with_blank : Keyed → List ℕ
+with_blank field = if lacks_blank field then name_in field ++ (codes " " ++ content_in field) else field.text
+
+-- no newline is in a text
+abbrev pub IsOneLine : List ℕ → Type 0
+IsOneLine line = list_any is_newline line ≡ false
+
+-- What `-z` and `-c` make of fields.
+pub record FormsInWords : Type 0 where
+  -- `-z` takes out the fields without content, and puts a blank after each name that has none
+  pub zapped : (texts : List (List ℕ))
+      → each zapped_field texts ≡ map with_blank (filter (λ field. not (is_empty_field field)) (keyed true texts))
+  -- `-c` makes one line of a line and the next one, if that begins with a blank: a space takes the place of the newline
+  -- and the blank
+  pub unfolded : (line rest : List ℕ) (blank : ℕ) → IsOneLine line → is_blank_byte blank ≡ true
+      → joined (line ++ codes "\n" ++ blank ∷ rest) ≡ line ++ codes " " ++ joined rest
+  -- a last line, or an only one, stays as it is
+  pub last_line : (line : List ℕ) → IsOneLine line → joined (line ++ codes "\n") ≡ line ++ codes "\n"
+
 -- each of these edits does what its letter says
 pub record EditsInWords : Type 0 where
   pub fields : (texts : List (List ℕ)) → FieldsInWords texts
   pub uniques : (name : List ℕ) (before after : List Keyed) (field : Keyed) → UniquesInWords name before after field
+  pub forms : FormsInWords
