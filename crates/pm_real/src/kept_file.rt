@@ -1,6 +1,6 @@
 //! The file that was opened last. It is kept open for the calls that follow on the same name, so that all of an append
 //! goes to one file, also where another one is put at its name meanwhile.
-ghost use Rattle.std.specs.Prelude.{◌≡◌, ◌≤◌, ◌<◌, length, IfSome};
+ghost use Rattle.std.specs.Prelude.{◌≡◌, ◌≤◌, ◌<◌, None, length, IfSome};
 
 use crate::limit::SizeLimit;
 use crate::opened::{Mode, Opened};
@@ -45,7 +45,10 @@ impl<F: Read + Write + OpenFile + FileExt + Drop> KeptFile<F> {
         }
     }
 
-    pub fn close(&mut self) {
+    pub fn close(&mut self)
+        ensures closed { self.new.opened ≡ None }
+        ensures seen { self.new.seen ≡ self.old.seen }
+    {
         self.opened = None;
     }
 

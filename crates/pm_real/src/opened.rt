@@ -1,5 +1,6 @@
 //! An open file, and what the calls of a host do with it.
-ghost use Rattle.std.specs.Prelude.{◌≡◌, ◌≤◌, ◌<◌, length, IfSome};
+ghost use Rattle.std.specs.Prelude.{◌≡◌, ◌≤◌, ◌<◌, ◌-◌, None, false, length, IfSome};
+ghost use Rattle.pm_real.specs.Kept.{AreLeft};
 
 use crate::limit::SizeLimit;
 use std::fs::OpenFile;
@@ -30,7 +31,11 @@ pub struct Opened<F: Drop> {
 
 impl<F: Read + Write + OpenFile + FileExt + Drop> Opened<F> {
     /// A file that was just opened.
-    pub fn new(name: String, mode: Mode, file: F) -> Opened<F> {
+    pub fn new(name: String, mode: Mode, file: F) -> Opened<F>
+        ensures added { result.added ≡ None }
+        ensures target { result.is_target ≡ false }
+        ensures mode { result.mode ≡ mode }
+    {
         Opened {
             name,
             mode,
@@ -132,16 +137,27 @@ impl<F: Read + Write + OpenFile + FileExt + Drop> Opened<F> {
     /// Keeps the first bytes. A file that has fewer isn't filled up with zeros, and from one that was appended to no more
     /// is cut off than was added: both are errors.
     pub fn cut(&mut self, len: u64) -> io::Result<()> {
-        let Some(off) = self.file.metadata()?.len().checked_sub(len) else {
+        let size = self.file.metadata()?.len();
+        let Some(left) = left_after(self.added, size, len) else {
             return Err(io::Error::from(ErrorKind::InvalidInput));
         };
-        if let Some(added) = self.added {
-            let Some(left) = added.checked_sub(off) else {
-                return Err(io::Error::from(ErrorKind::InvalidInput));
-            };
-            self.added = Some(left);
-        }
+        self.added = left;
         self.file.set_len(len)
+    }
+}
+
+// How many of the bytes that were added are left if a file of this size is cut to a length; None where it may not be cut.
+fn left_after(added: Option<u64>, size: u64, len: u64) -> Option<Option<u64>>
+    ensures shorter { IfSome result (λ _. len ≤ size) }
+    ensures left { IfSome result (λ left. AreLeft (size - len) added left) }
+{
+    let off = size.checked_sub(len)?;
+    match added {
+        None => Some(None),
+        Some(added) => match added.checked_sub(off) {
+            None => None,
+            Some(left) => Some(Some(left)),
+        },
     }
 }
 
