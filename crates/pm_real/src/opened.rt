@@ -1,6 +1,6 @@
 //! An open file, and what the calls of a host do with it.
-ghost use Rattle.std.specs.Prelude.{◌≡◌, ◌≤◌, ◌<◌, ◌-◌, None, false, length, IfSome};
-ghost use Rattle.pm_real.specs.Kept.{AreLeft};
+ghost use Rattle.std.specs.Prelude.{◌≡◌, ◌≤◌, ◌<◌, ◌-◌, None, false, length, IfSome, MatchOption};
+ghost use Rattle.pm_real.specs.Kept.{AreLeft, IsNotCut};
 
 use crate::limit::SizeLimit;
 use std::fs::OpenFile;
@@ -148,8 +148,8 @@ impl<F: Read + Write + OpenFile + FileExt + Drop> Opened<F> {
 
 // How many of the bytes that were added are left if a file of this size is cut to a length; None where it may not be cut.
 fn left_after(added: Option<u64>, size: u64, len: u64) -> Option<Option<u64>>
-    ensures shorter { IfSome result (λ _. len ≤ size) }
-    ensures left { IfSome result (λ left. AreLeft (size - len) added left) }
+    ensures { MatchOption result (IsNotCut size len added)
+        (λ left. (len ≤ size) × AreLeft (size - len) added left) }
 {
     let off = size.checked_sub(len)?;
     match added {
