@@ -11,11 +11,13 @@ use Rattle.pm_journal.specs.JournalState.{JournalState}
 use Rattle.pm_journal.specs.Entries.{View}
 use Rattle.pm_journal.specs.Executed.{Executes, OutOfMemory}
 use Rattle.pm_journal.specs.Plan.{Plan, Ends, and_then, ask}
-use Rattle.pm_journal.specs.Walking.{Next, Go, Reaches, Interrupted}
+use Rattle.pm_journal.specs.Walking.{Next, Go, Reaches}
 use Rattle.pm_journal.specs.declared.acts.Act.TheVariants.{Moment}
 use Rattle.pm_journal.specs.declared.acts.Reply.TheVariants.{Now}
 use Rattle.pm_journal.proofs.ActPlans.{executes_then}
-use Rattle.pm_journal.proofs.WalkJoin.{reaches_then, interrupted_then, interrupted_at_once, interrupted_reached}
+use Rattle.pm_journal.proofs.WalkJoin.{reaches_then}
+use Rattle.pm_run.specs.RunningOut.{MayRunOut, RunsOut}
+use Rattle.pm_run.proofs.RunOutLemmas.{ran_out_then, ran_out_reached}
 use Rattle.pm_journal.proofs.WantsMemory.{executes_nothing, out_front, out_then, out_anywhere}
 use Rattle.pm_vars.specs.Table.{Table}
 use Rattle.pm_vars.specs.Variables.{with_value}
@@ -128,11 +130,11 @@ word_set words items rest pair way p q r x y z a b c e h k = λ line home.
     (subst (λ m. Executes {R = Onward} (Ends (Go (Setting rest line home m))) (Go (Setting rest line home r)) z z c c) (sym (mind_behind way r)) (executes_nothing (Go (Setting rest line home r)) z z c refl)))
 
 pub word_wants : (words items rest : List Pair) (pair : Pair) (p q : Mind) (x y z : JournalState) (a b c : View) → items ≡ pair ∷ rest → SetsTo words items p q x y a b
-    → OutOfMemory (set_by_word pair q) y z b c → (line : CommandLine) (home : List ℕ) → Interrupted {X = Event} step (Setting words line home p) x z a c
+    → OutOfMemory (set_by_word pair q) y z b c → (line : CommandLine) (home : List ℕ) → RunsOut {X = Event} step MayRunOut (Setting words line home p) x z a c
 word_wants words items rest pair p q x y z a b c e h k = λ line home.
-    interrupted_then step (Setting words line home p) (Setting (pair ∷ rest) line home q) x y z a b c
+    ran_out_then step MayRunOut (Setting words line home p) (Setting (pair ∷ rest) line home q) x y z a b c
     (subst (λ l. Reaches {X = Event} step (Setting words line home p) (Setting l line home q) x y a b) e (h line home))
-    (out_front (set_by_word pair q) (λ turn. Ends (Go (Setting rest line home (mind_in turn)))) y z b c k)
+    (out_front (set_by_word pair q) (λ turn. Ends (Go (Setting rest line home (mind_in turn)))) y z b c k) (λ more e. tt)
 
 pub words_set : (words items : List Pair) (p q : Mind) (x y : JournalState) (a b : View) → items ≡ [] → SetsTo words items p q x y a b → SetsTo words [] p q x y a b
 words_set words items p q x y a b e h = subst (λ l. SetsTo words l p q x y a b) e h
@@ -177,13 +179,13 @@ module _ (line : CommandLine) (home : List ℕ) (rule : Rule) (names : List (Lis
   begins_opening (OpenedEnded end) r z c k = reaches_reached (Setting line.values line home p) tried _ x y z a b c comes k
   begins_opening Nothing r z c k = reaches_reached (Setting line.values line home p) tried _ x y z a b c comes k
 
-  pub begins_wanting : (z : JournalState) (c : View) → Interrupted {X = Event} step tried y z b c → Interrupted {X = Event} step (Setting line.values line home p) x z a c
-  begins_wanting z c k = interrupted_reached step (Setting line.values line home p) tried x y z a b c comes k
+  pub begins_wanting : (z : JournalState) (c : View) → RunsOut {X = Event} step MayRunOut tried y z b c → RunsOut {X = Event} step MayRunOut (Setting line.values line home p) x z a c
+  begins_wanting z c k = ran_out_reached step MayRunOut (Setting line.values line home p) tried x y z a b c comes k
 
-pub words_want : (line : CommandLine) (home : List ℕ) (p q : Mind) (x y : JournalState) (a b : View) → SetsTo line.values [] p q x y a b → Interrupted {X = Event} step (Setting line.values line home p) x y a b
+pub words_want : (line : CommandLine) (home : List ℕ) (p q : Mind) (x y : JournalState) (a b : View) → SetsTo line.values [] p q x y a b → RunsOut {X = Event} step MayRunOut (Setting line.values line home p) x y a b
 words_want line home p q x y a b h =
-    interrupted_reached step (Setting line.values line home p) (Setting [] line home q) x y y a b b (h line home)
-    (interrupted_at_once step (Setting [] line home q) y y b b (out_anywhere (step (Setting [] line home q)) y y b refl))
+    ran_out_then step MayRunOut (Setting line.values line home p) (Setting [] line home q) x y y a b b (h line home)
+    (out_anywhere (step (Setting [] line home q)) y y b refl) (λ more e. tt)
 
 -- the rcfiles that words name
 pub rcfiles_named : (line : CommandLine) (home : List ℕ) (names : List (List ℕ)) → is_without line.rcfiles ≡ false → names ≡ map (named_rcfile line.filter home) line.rcfiles → names ≡ rcfiles_of line home

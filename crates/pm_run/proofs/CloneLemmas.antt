@@ -7,8 +7,8 @@ use Rattle.pm_journal.specs.JournalState.{JournalState}
 use Rattle.pm_journal.specs.Entries.{View}
 use Rattle.pm_journal.specs.Plan.{Ends}
 use Rattle.pm_journal.specs.Executed.{Executes, OutOfMemory}
-use Rattle.pm_journal.specs.Walking.{Next, Go, Reaches, Interrupted}
-use Rattle.pm_journal.proofs.WalkJoin.{reaches_once, interrupted_at_once}
+use Rattle.pm_journal.specs.Walking.{Next, Go, Reaches}
+use Rattle.pm_journal.proofs.WalkJoin.{reaches_once}
 use Rattle.pm_journal.proofs.WantsMemory.{executes_nothing, out_anywhere}
 use Rattle.pm_meaning.specs.Chains.{succeeded}
 use Rattle.pm_meaning.specs.Minds.{Mind}
@@ -18,7 +18,9 @@ use Rattle.pm_meaning.specs.declared.ending.Ending.{Ending}
 use Rattle.pm_run.specs.Copies.{task_of, others_of}
 use Rattle.pm_run.specs.declared.queue.Copy.{Copy}
 use Rattle.pm_run.specs.declared.queue.Queue.{Queue}
-use Rattle.pm_run.proofs.RunLemmas.{RunsOn, Breaks, runs_walk, runs_out}
+use Rattle.pm_run.specs.RunningOut.{MayRunOut}
+use Rattle.pm_run.proofs.RunOutLemmas.{ran_out_at_once}
+use Rattle.pm_run.proofs.RunLemmas.{RunsOn, Breaks, lifted_out, runs_walk, runs_out}
 
 abbrev Course_on : Type 0
 Course_on = Next Course Ending
@@ -58,13 +60,13 @@ module _ (trees : Trees) (items : List Item) (p : Mind) (x : JournalState) (a : 
   pub refusing_wants : (queue : Queue) (y : JournalState) (b : View) → 16 ≤ queue.made → OutOfMemory {R = Next State Event} (step (Refusing items p)) x y a b → Breaks queue (Cloning trees items p) x y a b
   refusing_wants queue y b many h =
       runs_out queue queue (Cloning trees items p) (Refusing items p) x x y a a b (λ first. refused (others_of queue first) (is_many queue.made many))
-      (interrupted_at_once step (Refusing items p) x y a b h)
+      (ran_out_at_once step MayRunOut (Refusing items p) x y a b h (λ more e. tt))
 
   -- memory was wanting for the copy
   pub clone_wants : (queue : Queue) → Breaks queue (Cloning trees items p) x x a a
-  clone_wants queue = λ first.
-      let c = now_at (others_of queue first) (Cloning trees items p) in
-      interrupted_at_once advance c x x a a (out_anywhere (advance c) x x a refl)
+  clone_wants queue =
+      lifted_out queue (Cloning trees items p) x x a a
+      (ran_out_at_once step MayRunOut (Cloning trees items p) x x a a (out_anywhere (step (Cloning trees items p)) x x a refl) (λ more e. tt))
 
   -- the copy waits after the others
   pub clone_made : (queue later : Queue) (copy : Copy) (q : Mind) → queue.made < 16 → later.made ≡ queue.made + 1 → later.copies.items ≡ queue.copies.items ++ copy ∷ [] → task_of copy ≡ clone_of trees items p → q ≡ succeeded p

@@ -12,7 +12,7 @@ use Rattle.pm_journal.specs.LogText.{unusable_name_line, value_too_long_line}
 use Rattle.pm_journal.specs.Outcomes.{run_end}
 use Rattle.pm_journal.specs.Plan.{Plan, Ends, and_then, ask}
 use Rattle.pm_journal.specs.Executed.{Executes, OutOfMemory}
-use Rattle.pm_journal.specs.Walking.{Next, Go, Reaches, Interrupted}
+use Rattle.pm_journal.specs.Walking.{Next, Go, Reaches}
 use Rattle.pm_journal.specs.declared.acts.Act.TheVariants.{Run}
 use Rattle.pm_journal.specs.declared.acts.Reply.{Reply}
 use Rattle.pm_journal.specs.declared.children.RunEnd.{RunEnd}
@@ -33,7 +33,9 @@ use Rattle.pm_meaning.specs.Status.{is_code, code_in, is_set, is_there_empty, ba
 use Rattle.pm_meaning.specs.declared.ending.Ending.{Ending}
 use Rattle.pm_journal.proofs.ActPlans.{executes_then}
 use Rattle.pm_journal.proofs.WantsMemory.{executes_nothing, out_front, out_then}
-use Rattle.pm_journal.proofs.WalkJoin.{reaches_once, reaches_then, interrupted_at_once, interrupted_then}
+use Rattle.pm_journal.proofs.WalkJoin.{reaches_once, reaches_then}
+use Rattle.pm_run.specs.RunningOut.{MayRunOut, RunsOut, HinderedSince}
+use Rattle.pm_run.proofs.RunOutLemmas.{ran_out_at_once, ran_out_then}
 use Rattle.pm_meaning.specs.Ready.{told}
 use Rattle.pm_meaning.proofs.Choices.{choose_else, line_told}
 use Rattle.pm_meaning.proofs.Choices.{if_yes, if_no}
@@ -57,10 +59,10 @@ over_traps end p x y a b h =
     let next : Onward = Go (Trapping end p) in
     reaches_once step (Over end p) (Trapping end p) x y a b (executes_then (tell_delivery end p) (λ done. Ends next) logged next x y y a b b h (executes_nothing next y y b refl))
 
-pub over_wants : (end : End) (p : Mind) (x y : JournalState) (a b : View) → OutOfMemory (tell_delivery end p) x y a b → Interrupted {X = Event} step (Over end p) x y a b
-over_wants end p x y a b h =
+pub over_wants : (end : End) (p : Mind) (x y : JournalState) (a b : View) → OutOfMemory (tell_delivery end p) x y a b → (is_delivered end && logs_last p) ≡ true → RunsOut {X = Event} step MayRunOut (Over end p) x y a b
+over_wants end p x y a b h told =
     let next : Onward = Go (Trapping end p) in
-    interrupted_at_once step (Over end p) x y a b (out_front (tell_delivery end p) (λ done. Ends next) x y a b h)
+    ran_out_at_once step MayRunOut (Over end p) x y a b (out_front (tell_delivery end p) (λ done. Ends next) x y a b h) (λ more e. told)
 
 -- what comes after TRAP's program
 abbrev behind_trap : End → Trapped → Plan Onward
@@ -73,8 +75,8 @@ trap_unlocks s end code p q x y z a b c h k =
     reaches_then step s (Trapping end p) (Unlocking (ending_of end code q) q) x y z a b c h
     (executes_then (trap end p) (behind_trap end) (trapped_with code q) next y z z b c c k (executes_nothing next z z c refl))
 
-pub trap_wants : (s : State) (end : End) (p : Mind) (x y z : JournalState) (a b c : View) → Reaches {X = Event} step s (Trapping end p) x y a b → OutOfMemory (trap end p) y z b c → Interrupted {X = Event} step s x z a c
-trap_wants s end p x y z a b c h k = interrupted_then step s (Trapping end p) x y z a b c h (out_front (trap end p) (behind_trap end) y z b c k)
+pub trap_wants : (s : State) (end : End) (p : Mind) (x y z : JournalState) (a b c : View) → Reaches {X = Event} step s (Trapping end p) x y a b → OutOfMemory (trap end p) y z b c → is_trapped end p ≡ true → RunsOut {X = Event} step MayRunOut s x z a c
+trap_wants s end p x y z a b c h k set = ran_out_then step MayRunOut s (Trapping end p) x y z a b c h (out_front (trap end p) (behind_trap end) y z b c k) (λ more e. set)
 
 -- LOCKFILE's lock was given back
 pub unlock_closes : (s : State) (ending : Ending) (p q : Mind) (x y z : JournalState) (a b c : View) → Reaches {X = Event} step s (Unlocking ending p) x y a b → Executes (give_named p.global p) q y z b c
@@ -85,10 +87,10 @@ unlock_closes s ending p q x y z a b c h k =
     (executes_then (give_named p.global p) (λ r. Ends (Go (Closing ending r))) q next y z z b c c k (executes_nothing next z z c refl))
 
 pub unlock_wants : (s : State) (ending : Ending) (p : Mind) (x y z : JournalState) (a b c : View) → Reaches {X = Event} step s (Unlocking ending p) x y a b → OutOfMemory (give_named p.global p) y z b c
-    → Interrupted {X = Event} step s x z a c
-unlock_wants s ending p x y z a b c h k =
+    → HinderedSince y z → RunsOut {X = Event} step MayRunOut s x z a c
+unlock_wants s ending p x y z a b c h k stuck =
     let next : Mind → Plan Onward = λ r. Ends (Go (Closing ending r)) in
-    interrupted_then step s (Unlocking ending p) x y z a b c h (out_front (give_named p.global p) next y z b c k)
+    ran_out_then step MayRunOut s (Unlocking ending p) x y z a b c h (out_front (give_named p.global p) next y z b c k) stuck
 
 -- the same under the exit status that the ending has
 pub closes : (s : State) (end : End) (code status : ℕ) (p q : Mind) (x y z : JournalState) (a b c : View) → status ≡ exit_status end code p → Reaches {X = Event} step s (Unlocking (ending_of end code p) p) x y a b

@@ -4,15 +4,17 @@ use Rattle.pm_journal.specs.JournalState.{JournalState}
 use Rattle.pm_journal.specs.Entries.{View}
 use Rattle.pm_journal.specs.Plan.{Ends}
 use Rattle.pm_journal.specs.Executed.{Executes, OutOfMemory}
-use Rattle.pm_journal.specs.Walking.{Next, Go, Reaches, Interrupted}
-use Rattle.pm_meaning.specs.Delivering.{deliver_default}
+use Rattle.pm_journal.specs.Walking.{Next, Go, Reaches}
+use Rattle.pm_meaning.specs.Delivering.{deliver_default, no_flags}
 use Rattle.pm_meaning.specs.Minds.{Mind}
 use Rattle.pm_meaning.specs.Turns.{Turn, GoesOn, Halts}
 use Rattle.pm_meaning.specs.declared.process.End.{End}
 use Rattle.pm_meaning.specs.Running.{State, Event, Running, FallingOff, Over, step, default_mailboxes, next_default}
 use Rattle.pm_journal.proofs.ActPlans.{executes_then}
 use Rattle.pm_journal.proofs.WantsMemory.{executes_nothing, out_front}
-use Rattle.pm_journal.proofs.WalkJoin.{reaches_then, interrupted_then}
+use Rattle.pm_journal.proofs.WalkJoin.{reaches_then}
+use Rattle.pm_run.specs.RunningOut.{NoDelivery, MayRunOut, RunsOut, OfNew}
+use Rattle.pm_run.proofs.RunOutLemmas.{ran_out_then}
 
 abbrev Onward : Type 0
 Onward = Next State Event
@@ -39,10 +41,10 @@ mailbox_ends s items rest mailbox p q end x y z a b c e h k =
     (subst (λ l. Reaches {X = Event} step s (FallingOff l p) x y a b) e h) (first_mailbox mailbox rest p (Halts end q) y z b c k)
 
 pub mailbox_wants : (s : State) (items rest : List (List ℕ)) (mailbox : List ℕ) (p : Mind) (x y z : JournalState) (a b c : View) → items ≡ mailbox ∷ rest → Reaches {X = Event} step s (FallingOff items p) x y a b
-    → OutOfMemory (deliver_default mailbox p) y z b c → Interrupted {X = Event} step s x z a c
-mailbox_wants s items rest mailbox p x y z a b c e h k =
-    interrupted_then step s (FallingOff (mailbox ∷ rest) p) x y z a b c
-    (subst (λ l. Reaches {X = Event} step s (FallingOff l p) x y a b) e h) (out_front (deliver_default mailbox p) (λ t. Ends (next_default rest t)) y z b c k)
+    → OutOfMemory (deliver_default mailbox p) y z b c → OfNew (NoDelivery no_flags) y z → RunsOut {X = Event} step MayRunOut s x z a c
+mailbox_wants s items rest mailbox p x y z a b c e h k none =
+    ran_out_then step MayRunOut s (FallingOff (mailbox ∷ rest) p) x y z a b c
+    (subst (λ l. Reaches {X = Event} step s (FallingOff l p) x y a b) e h) (out_front (deliver_default mailbox p) (λ t. Ends (next_default rest t)) y z b c k) none
 
 -- no default mailbox is left
 pub none_on : (s : State) (items : List (List ℕ)) (p q : Mind) (end : End) (x y z : JournalState) (a b c : View) → items ≡ [] → Reaches {X = Event} step s (FallingOff items p) x y a b
@@ -50,5 +52,5 @@ pub none_on : (s : State) (items : List (List ℕ)) (p q : Mind) (end : End) (x 
 none_on s items p q end x y z a b c e h k = reaches_then step s (FallingOff [] p) (Over end q) x y z a b c (subst (λ l. Reaches {X = Event} step s (FallingOff l p) x y a b) e h) k
 
 pub none_wants : (s : State) (items : List (List ℕ)) (p : Mind) (x y z : JournalState) (a b c : View) → items ≡ [] → Reaches {X = Event} step s (FallingOff items p) x y a b
-    → OutOfMemory {R = Onward} (step (FallingOff [] p)) y z b c → Interrupted {X = Event} step s x z a c
-none_wants s items p x y z a b c e h k = interrupted_then step s (FallingOff [] p) x y z a b c (subst (λ l. Reaches {X = Event} step s (FallingOff l p) x y a b) e h) k
+    → OutOfMemory {R = Onward} (step (FallingOff [] p)) y z b c → RunsOut {X = Event} step MayRunOut s x z a c
+none_wants s items p x y z a b c e h k = ran_out_then step MayRunOut s (FallingOff [] p) x y z a b c (subst (λ l. Reaches {X = Event} step s (FallingOff l p) x y a b) e h) k (λ more e. tt)

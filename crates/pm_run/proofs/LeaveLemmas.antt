@@ -9,10 +9,10 @@ use Rattle.pm_journal.specs.declared.acts.Act.TheVariants.{Unlock}
 use Rattle.pm_journal.specs.declared.acts.Reply.{Reply}
 use Rattle.pm_journal.specs.Plan.{Plan, Ends, and_then, ask}
 use Rattle.pm_journal.specs.Executed.{Executes, OutOfMemory}
-use Rattle.pm_journal.specs.Walking.{Next, Go, Reaches, Interrupted}
+use Rattle.pm_journal.specs.Walking.{Next, Go, Reaches}
 use Rattle.pm_journal.proofs.ActPlans.{executes_then}
 use Rattle.pm_journal.proofs.FirstActs.{first_act, first_act_out}
-use Rattle.pm_journal.proofs.WalkJoin.{reaches_then, interrupted_then}
+use Rattle.pm_journal.proofs.WalkJoin.{reaches_then}
 use Rattle.pm_journal.proofs.WantsMemory.{executes_nothing, out_front, out_anywhere}
 use Rattle.pm_meaning.specs.Blocks.{without_lock, give_block_lock, give_maybe}
 use Rattle.pm_meaning.specs.GlobalLock.{after_giving}
@@ -25,6 +25,8 @@ use Rattle.pm_meaning.specs.declared.process.End.{End}
 use Rattle.pm_meaning.specs.declared.process.End.TheVariants.{Delivered, FellOff, NoRc, HostOff}
 use Rattle.pm_meaning.proofs.Choices.{choose_then, then_out, line_told, line_out}
 use Rattle.pm_meaning.proofs.Choices.{if_yes, if_no}
+use Rattle.pm_run.specs.RunningOut.{MayRunOut, RunsOut, HinderedSince}
+use Rattle.pm_run.proofs.RunOutLemmas.{ran_out_then}
 use Rattle.pm_run.specs.Frames.{block_locks, outer_locks, left_outside, left_in, left_over}
 use Rattle.pm_run.specs.declared.frames.Open.{Open}
 use Rattle.pm_run.specs.declared.frames.RcFrame.{RcFrame}
@@ -45,10 +47,10 @@ module _ (s : State) (locks : List (Option (List ℕ))) (end : End) (p : Mind) (
       reaches_then step s (Leaving (lock ∷ rest) end p) (Leaving rest end q) x y z a b c (at_block lock rest e)
       (executes_then (give_maybe lock p) go q (Go (Leaving rest end q)) y z z b c c k (executes_nothing (Go (Leaving rest end q)) z z c refl))
 
-  pub leave_wants : (lock : Option (List ℕ)) (rest : List (Option (List ℕ))) (z : JournalState) (c : View) → locks ≡ lock ∷ rest → OutOfMemory (give_maybe lock p) y z b c → Interrupted {X = Event} step s x z a c
-  leave_wants lock rest z c e k =
+  pub leave_wants : (lock : Option (List ℕ)) (rest : List (Option (List ℕ))) (z : JournalState) (c : View) → locks ≡ lock ∷ rest → OutOfMemory (give_maybe lock p) y z b c → HinderedSince y z → RunsOut {X = Event} step MayRunOut s x z a c
+  leave_wants lock rest z c e k stuck =
       let go : Mind → Plan Onward = λ r. Ends (Go (Leaving rest end r)) in
-      interrupted_then step s (Leaving (lock ∷ rest) end p) x y z a b c (at_block lock rest e) (out_front (give_maybe lock p) go y z b c k)
+      ran_out_then step MayRunOut s (Leaving (lock ∷ rest) end p) x y z a b c (at_block lock rest e) (out_front (give_maybe lock p) go y z b c k) stuck
 
   -- the blocks of the next rcfile come
   pub leave_further : (rest : List (Option (List ℕ))) → rest ≡ locks → Reaches {X = Event} step s (Leaving rest end p) x y a b
@@ -72,10 +74,10 @@ module _ (s : State) (locks : List (Option (List ℕ))) (items : List Item) (p :
       reaches_then step s (LeavingFile (lock ∷ rest) items p) (LeavingFile rest items q) x y z a b c (in_block lock rest e)
       (executes_then (give_maybe lock p) go q (Go (LeavingFile rest items q)) y z z b c c k (executes_nothing (Go (LeavingFile rest items q)) z z c refl))
 
-  pub file_wants : (lock : Option (List ℕ)) (rest : List (Option (List ℕ))) (z : JournalState) (c : View) → locks ≡ lock ∷ rest → OutOfMemory (give_maybe lock p) y z b c → Interrupted {X = Event} step s x z a c
+  pub file_wants : (lock : Option (List ℕ)) (rest : List (Option (List ℕ))) (z : JournalState) (c : View) → locks ≡ lock ∷ rest → OutOfMemory (give_maybe lock p) y z b c → RunsOut {X = Event} step MayRunOut s x z a c
   file_wants lock rest z c e k =
       let go : Mind → Plan Onward = λ r. Ends (Go (LeavingFile rest items r)) in
-      interrupted_then step s (LeavingFile (lock ∷ rest) items p) x y z a b c (in_block lock rest e) (out_front (give_maybe lock p) go y z b c k)
+      ran_out_then step MayRunOut s (LeavingFile (lock ∷ rest) items p) x y z a b c (in_block lock rest e) (out_front (give_maybe lock p) go y z b c k) (λ more e. tt)
 
   pub file_over : locks ≡ [] → Reaches {X = Event} step s (Running items p) x y a b
   file_over e =

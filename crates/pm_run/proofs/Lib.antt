@@ -1,5 +1,8 @@
 pub mod AssignLemmas
 pub mod EnvironmentLemmas
+mod RunOutLemmas
+mod MayLemmas
+pub mod NotDeliveredLemmas
 pub mod JudgeLemmas
 pub mod ProcessLemmas
 mod FirstValueLemmas

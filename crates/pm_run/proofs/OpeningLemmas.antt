@@ -16,12 +16,14 @@ use Rattle.pm_journal.specs.Executed.{Executes, OutOfMemory}
 use Rattle.pm_journal.specs.LogText.{couldnt_read_line, too_many_rcfiles_line}
 use Rattle.pm_journal.specs.Outcomes.{last_missing, is_missing as missing_in}
 use Rattle.pm_journal.specs.Plan.{Plan, Ends, and_then, ask}
-use Rattle.pm_journal.specs.Walking.{Next, Go, Reaches, Interrupted}
+use Rattle.pm_journal.specs.Walking.{Next, Go, Reaches}
 use Rattle.pm_journal.specs.declared.acts.Act.TheVariants.{ReadFile}
 use Rattle.pm_journal.specs.declared.acts.Reply.{Reply}
 use Rattle.pm_journal.specs.declared.acts.Reply.TheVariants.{Content, Missing}
 use Rattle.pm_journal.proofs.ActPlans.{executes_then}
-use Rattle.pm_journal.proofs.WalkJoin.{reaches_then, interrupted_then}
+use Rattle.pm_journal.proofs.WalkJoin.{reaches_then}
+use Rattle.pm_run.specs.RunningOut.{MayRunOut, RunsOut}
+use Rattle.pm_run.proofs.RunOutLemmas.{ran_out_then}
 use Rattle.pm_journal.proofs.WantsMemory.{executes_nothing, out_front, out_then, out_anywhere}
 use Rattle.pm_meaning.specs.Blocks.{begun_block}
 use Rattle.pm_meaning.specs.Changes.{with_base, with_variable, with_rcfile, opened}
@@ -225,8 +227,8 @@ module _ (s : State) (o : OpeningRule) (items rest : List (List ℕ)) (name : Li
             (reaches_then step s (Opening o (name ∷ rest) p) (Running (ahead k.trees []) last) x y z a b c reached (k.opens rest));
       }
 
-  pub opening_wants : ((names : List (List ℕ)) → OutOfMemory (open_next o (name ∷ names) p) y z b c) → Interrupted {X = Event} step s x z a c
-  opening_wants k = interrupted_then step s (Opening o (name ∷ rest) p) x y z a b c reached (k rest)
+  pub opening_wants : ((names : List (List ℕ)) → OutOfMemory (open_next o (name ∷ names) p) y z b c) → RunsOut {X = Event} step MayRunOut s x z a c
+  opening_wants k = ran_out_then step MayRunOut s (Opening o (name ∷ rest) p) x y z a b c reached (k rest) (λ more e. tt)
 
 -- none is left
 stands_without : (b : Bool) (p : Mind) (x : JournalState) (s : View) (end : State) → (if b then Running [] p else Over HostOff p) ≡ end → Executes {R = Onward} (Ends (Go (if b then Running [] p else Over HostOff p))) (Go end) x x s s
@@ -257,8 +259,8 @@ later_reads s t code f q x y a b e h k =
 pub reaches_from : (s t u : State) (x y : JournalState) (a b : View) → s ≡ t → Reaches {X = Event} step s u x y a b → Reaches {X = Event} step t u x y a b
 reaches_from s t u x y a b e h = subst (λ v. Reaches {X = Event} step v u x y a b) e h
 
-pub wants_from : (s t : State) (x y : JournalState) (a b : View) → s ≡ t → Interrupted {X = Event} step s x y a b → Interrupted {X = Event} step t x y a b
-wants_from s t x y a b e h = subst (λ v. Interrupted {X = Event} step v x y a b) e h
+pub wants_from : (s t : State) (x y : JournalState) (a b : View) → s ≡ t → RunsOut {X = Event} step MayRunOut s x y a b → RunsOut {X = Event} step MayRunOut t x y a b
+wants_from s t x y a b e h = subst (λ v. RunsOut {X = Event} step MayRunOut v x y a b) e h
 
 small_code : (code : Code) → length code.steps.items < 2 ^ 63
 small_code code = omega (arith, code.steps.ok, code.steps.small)

@@ -5,9 +5,9 @@ use Rattle.pm_journal.specs.Entries.{View}
 use Rattle.pm_journal.specs.Held.{Keeping}
 use Rattle.pm_journal.specs.Plan.{Ends, and_then}
 use Rattle.pm_journal.specs.Executed.{Executes, OutOfMemory, GivesEach}
-use Rattle.pm_journal.specs.Walking.{Next, Stop, Go, Reaches, Completes, Interrupted, Abandoned}
+use Rattle.pm_journal.specs.Walking.{Next, Stop, Go, Reaches, Completes}
 use Rattle.pm_journal.proofs.ActPlans.{executes_then}
-use Rattle.pm_journal.proofs.WalkJoin.{reaches_itself, reaches_once, reaches_then, completes_then, completes_reached, interrupted_reached, abandoned_by}
+use Rattle.pm_journal.proofs.WalkJoin.{reaches_itself, reaches_once, reaches_then, completes_then, completes_reached}
 use Rattle.pm_journal.proofs.WantsMemory.{executes_nothing}
 use Rattle.pm_meaning.specs.Minds.{Mind, mind_of}
 use Rattle.pm_meaning.specs.Courses.{Others, Course, now_at, resumed, next_process, first_end, onward, advance, alone}
@@ -19,8 +19,10 @@ use Rattle.pm_run.specs.Copies.{task_of, others_of}
 use Rattle.pm_run.specs.declared.queue.Copy.{Copy}
 use Rattle.pm_run.specs.declared.queue.Queue.{Queue}
 use Rattle.pm_run.specs.Others.{next_in, GoesOn, GivesUp}
+use Rattle.pm_run.specs.RunningOut.{RunMayRunOut, RunsOut, GaveUp}
 use Rattle.pm_run.specs.declared.process.Counts.{Counts}
-use Rattle.pm_run.proofs.RunLemmas.{RunsOn, Breaks, lifted, runs_run, runs_break, reaches_on, abandoned_on}
+use Rattle.pm_run.proofs.RunOutLemmas.{ran_out_reached, gave_up_by}
+use Rattle.pm_run.proofs.RunLemmas.{RunsOn, Breaks, lifted, runs_run, runs_break, reaches_on, gave_up_on}
 
 abbrev After : Type 0
 After = Next Course Ending
@@ -46,9 +48,9 @@ goes_further (Go s) m c d x y z w a b e f h k l = goes_to s d m x z w a e f (rea
 goes_further (Stop end) m c d x y z w a b e f h k l = let is : Go c ≡ Stop end = h.0 in absurd (cc)
 
 -- or memory was wanting in it
-pub gives_up : (n : After) (c : Course) (held : List (List ℕ)) (x y z w : JournalState) (a b e f : View) → GoesOn n (Go c) x y a b → Interrupted {X = Ending} advance c y z b e → GivesEach held z w e f → Keeping x [] → Keeping z held
+pub gives_up : (n : After) (c : Course) (held : List (List ℕ)) (x y z w : JournalState) (a b e f : View) → GoesOn n (Go c) x y a b → RunsOut {X = Ending} advance RunMayRunOut c y z b e → GivesEach held z w e f → Keeping x [] → Keeping z held
     → GivesUp n x w a f
-gives_up (Go s) c held x y z w a b e f h k g start now = abandoned_by advance s held x z w a e f (interrupted_reached advance s c x y z a b e h k) g start now
+gives_up (Go s) c held x y z w a b e f h k g start now = gave_up_by s held x z w a e f (ran_out_reached advance RunMayRunOut s c x y z a b e h k) g start now
 gives_up (Stop end) c held x y z w a b e f h k g start now = let is : Go c ≡ Stop end = h.0 in absurd (cc)
 
 -- the run is over once no copy is left
@@ -64,8 +66,8 @@ first_then c d (Stop end) ending x y z w a b e f h k l =
     subst (λ v. Completes advance c ending x w a v) (sym l.2)
     (subst (λ j. Completes advance c ending x j a e) (sym l.1) (subst (λ v. Completes advance c v x z a e) same (completes_then advance c d end x y z a b e h k)))
 
-pub first_then_wants : (c d : Course) (n : After) (x y z w : JournalState) (a b e f : View) → Reaches {X = Ending} advance c d x y a b → Executes (advance d) n y z b e → Keeping x [] → Keeping z [] → GivesUp n z w e f → Abandoned {X = Ending} advance c x w a f
-first_then_wants c d (Go m) x y z w a b e f h k start now l = abandoned_on advance c m x z w a e f (reaches_then advance c d m x y z a b e h k) start now l
+pub first_then_wants : (c d : Course) (n : After) (x y z w : JournalState) (a b e f : View) → Reaches {X = Ending} advance c d x y a b → Executes (advance d) n y z b e → Keeping x [] → Keeping z [] → GivesUp n z w e f → GaveUp c x w a f
+first_then_wants c d (Go m) x y z w a b e f h k start now l = gave_up_on c m x z w a e f (reaches_then advance c d m x y z a b e h k) start now l
 first_then_wants c d (Stop end) x y z w a b e f h k start now l = absurd l
 
 -- no copy waits, and none was made
@@ -126,10 +128,10 @@ module _ (queue later : Queue) (s t : State) (x y z : JournalState) (a b e : Vie
   at_first : (P : Course → Type 0) → P (now_at (others_of queue None) s) → P (now_at alone s)
   at_first P h = subst (λ o. P (now_at o s)) (none_others queue none zero) h
 
-  pub first_wants : (held : List (List ℕ)) (w : JournalState) (f : View) → Breaks queue t y z b e → GivesEach held z w e f → Keeping x [] → Keeping z held → Abandoned {X = Ending} advance (now_at alone s) x w a f
+  pub first_wants : (held : List (List ℕ)) (w : JournalState) (f : View) → Breaks queue t y z b e → GivesEach held z w e f → Keeping x [] → Keeping z held → GaveUp (now_at alone s) x w a f
   first_wants held w f breaks k start now =
-      at_first (λ c. Abandoned {X = Ending} advance c x w a f)
-      (abandoned_by advance (now_at (others_of queue None) s) held x z w a e f (runs_break queue queue s t x y z a b e began_run breaks None) k start now)
+      at_first (λ c. GaveUp c x w a f)
+      (gave_up_by (now_at (others_of queue None) s) held x z w a e f (runs_break queue queue s t x y z a b e began_run breaks None) k start now)
 
   module _ (ending : Ending) (p : Mind) (counts : Counts) (w v : JournalState) (f g : View) (runs : RunsOn queue later t (Closing ending p) y z b e) (c : counts.placed ≡ p.placed) (o : counts.openings ≡ p.openings) (k : GivesEach p.locks z w e f) where
     ran : Reaches {X = Ending} advance (now_at (others_of queue None) s) (now_at (others_of later None) (Closing ending p)) x z a e
@@ -143,7 +145,7 @@ module _ (queue later : Queue) (s t : State) (x y z : JournalState) (a b e : Vie
         at_first (λ c. Completes advance c end x v a g)
         (first_then (now_at (others_of queue None) s) (now_at (others_of later None) (Closing ending p)) (next_in later ending counts) end x z w v a e f g ran closed l)
 
-    pub others_want : Keeping x [] → Keeping w [] → GivesUp (next_in later ending counts) w v f g → Abandoned {X = Ending} advance (now_at alone s) x v a g
+    pub others_want : Keeping x [] → Keeping w [] → GivesUp (next_in later ending counts) w v f g → GaveUp (now_at alone s) x v a g
     others_want start now l =
-        at_first (λ c. Abandoned {X = Ending} advance c x v a g)
+        at_first (λ c. GaveUp c x v a g)
         (first_then_wants (now_at (others_of queue None) s) (now_at (others_of later None) (Closing ending p)) (next_in later ending counts) x z w v a e f g ran closed start now l)

@@ -14,12 +14,15 @@ use Rattle.pm_journal.specs.Entries.{View}
 use Rattle.pm_journal.specs.Executed.{Executes, OutOfMemory}
 use Rattle.pm_journal.specs.LogText.{couldnt_read_line, too_many_rcfiles_line}
 use Rattle.pm_journal.specs.Plan.{Plan, Ends, and_then, ask}
-use Rattle.pm_journal.specs.Walking.{Next, Go, Reaches, Interrupted}
+use Rattle.pm_journal.specs.Walking.{Next, Go, Reaches}
 use Rattle.pm_journal.specs.declared.acts.Act.TheVariants.{ReadFile}
 use Rattle.pm_journal.specs.declared.acts.Reply.{Reply}
 use Rattle.pm_journal.specs.declared.acts.Reply.TheVariants.{Content}
 use Rattle.pm_journal.proofs.ActPlans.{executes_then}
-use Rattle.pm_journal.proofs.WalkJoin.{reaches_once, interrupted_at_once, interrupted_reached}
+use Rattle.pm_journal.proofs.WalkJoin.{reaches_once}
+use Rattle.pm_run.specs.RunningOut.{MayRunOut, RunsOut}
+use Rattle.pm_run.proofs.MayLemmas.{may_at_once}
+use Rattle.pm_run.proofs.RunOutLemmas.{ran_out_then}
 use Rattle.pm_journal.proofs.WantsMemory.{executes_nothing, out_front, out_then, out_anywhere}
 use Rattle.pm_vars.specs.Table.{Table}
 use Rattle.pm_meaning.specs.declared.chain.Chain.{Chain}
@@ -56,8 +59,9 @@ ok_both (Ok x) P Q R f h k = f x h k
 ok_both (Err e) P Q R f h k = tt
 
 -- a state was reached, and then memory was wanting
-pub reached_wants : (s t : State) (x y : JournalState) (a b : View) → Reaches {X = Event} step s t x y a b → Interrupted {X = Event} step s x y a b
-reached_wants s t x y a b h = interrupted_reached step s t x y y a b b h (interrupted_at_once step t y y b b (out_anywhere (step t) y y b refl))
+pub reached_wants : (s : State) (items : List Item) (p : Mind) (x y : JournalState) (a b : View) → Reaches {X = Event} step s (Running items p) x y a b → RunsOut {X = Event} step MayRunOut s x y a b
+reached_wants s items p x y a b h =
+    ran_out_then step MayRunOut s (Running items p) x y y a b b h (out_anywhere (step (Running items p)) y y b refl) (may_at_once items p y)
 
 -- what comes after a reading, by what was read
 read_some : (name rc : List ℕ) (rest : List Item) (p : Mind) (go : Reading) (reply : Reply) → Some rc ≡ content_of reply → Ends (go (rc_of rc) p) ≡ with_statements name rest p go reply
@@ -181,8 +185,8 @@ module _ (name : List ℕ) (code : Code) (f : RcFrame) (p q : Mind) (x y : Journ
   abbrev within : Onward
   within = included name (items_of f) h.trees q
 
-  pub some_wants : Interrupted {X = Event} step (Including name (items_of f) p) x y a b
-  some_wants = reached_wants (Including name (items_of f) p) (Running (ahead h.trees (FileEnd q.rcfile ∷ items_of f)) (with_rcfile name q)) x y a b
+  pub some_wants : RunsOut {X = Event} step MayRunOut (Including name (items_of f) p) x y a b
+  some_wants = reached_wants (Including name (items_of f) p) (ahead h.trees (FileEnd q.rcfile ∷ items_of f)) (with_rcfile name q) x y a b
       (reaches_once step (Including name (items_of f) p) (Running (ahead h.trees (FileEnd q.rcfile ∷ items_of f)) (with_rcfile name q)) x y a b (h.opens (items_of f) (included name (items_of f))))
 
   pub some_included : (g : RcFrame) (r : Mind) → GoesInto name code f g q r → Reaches {X = Event} step (Including name (items_of f) p) (Running (items_of g) r) x y a b

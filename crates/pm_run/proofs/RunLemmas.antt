@@ -5,17 +5,19 @@ use Rattle.pm_journal.specs.Entries.{View}
 use Rattle.pm_journal.specs.Held.{Keeps, Keeping}
 use Rattle.pm_journal.specs.Plan.{Plan}
 use Rattle.pm_journal.specs.Executed.{Executes, OutOfMemory}
-use Rattle.pm_journal.specs.Walking.{Next, Go, Means, IsUnfinished, Reaches, Interrupted, Abandoned}
+use Rattle.pm_journal.specs.Walking.{Next, Go, Means, IsUnfinished, Reaches, Abandoned}
 use Rattle.pm_journal.proofs.AccountsJoin.{accounts_join}
 use Rattle.pm_journal.proofs.KeepingActs.{keeps_rest}
 use Rattle.pm_journal.proofs.KeepsJoin.{keeps_join}
-use Rattle.pm_journal.proofs.WalkJoin.{arrives_on, reaches_itself, interrupted_reached}
-use Rattle.pm_meaning.specs.Courses.{now_at, advance}
+use Rattle.pm_journal.proofs.WalkJoin.{arrives_on, reaches_itself}
+use Rattle.pm_meaning.specs.Courses.{Course, now_at, advance}
 use Rattle.pm_meaning.specs.Running.{State, Event, step}
 use Rattle.pm_meaning.specs.declared.ending.Ending.{Ending}
-use Rattle.pm_meaning.proofs.Lifting.{reaches_in_run, interrupted_in_run}
+use Rattle.pm_meaning.proofs.Lifting.{reaches_in_run}
 use Rattle.pm_run.specs.Copies.{others_of}
+use Rattle.pm_run.specs.RunningOut.{MayRunOut, RunMayRunOut, RunsOut, GaveUp}
 use Rattle.pm_run.specs.declared.queue.Queue.{Queue}
+use Rattle.pm_run.proofs.RunOutLemmas.{stopped_on, ran_out_reached, ran_out_in_run}
 
 -- from one state to another, and on to a third
 pub reaches_on : {S X : Type 0} (step : S → Plan (Next S X)) (s t u : S) (x y z : JournalState) (a b c : View) → Reaches {X = X} step s t x y a b → Reaches {X = X} step t u y z b c → Reaches {X = X} step s u x z a c
@@ -46,12 +48,20 @@ abandoned_on step s t x y z a b c h start now k = record {
   back = k.back;
 }
 
+-- the same, where memory may be wanting there
+pub gave_up_on : (c d : Course) (x y z : JournalState) (a b e : View) → Reaches {X = Ending} advance c d x y a b → Keeping x [] → Keeping y [] → GaveUp d y z b e → GaveUp c x z a e
+unfolding abandoned_on
+gave_up_on c d x y z a b e h start now k = record {
+  abandoned = abandoned_on advance c d x y z a b e h start now k.abandoned;
+  place = stopped_on advance RunMayRunOut c d h.more k.abandoned.done k.abandoned.left_off h.arrives k.place;
+}
+
 -- the run went on, or memory was wanting in it, whatever came of its first process
 abbrev pub RunsOn : Queue → Queue → State → State → JournalState → JournalState → View → View → Type 0
 RunsOn queue later s t x y a b = (first : Option Ending) → Reaches {X = Ending} advance (now_at (others_of queue first) s) (now_at (others_of later first) t) x y a b
 
 abbrev pub Breaks : Queue → State → JournalState → JournalState → View → View → Type 0
-Breaks queue s x y a b = (first : Option Ending) → Interrupted {X = Ending} advance (now_at (others_of queue first) s) x y a b
+Breaks queue s x y a b = (first : Option Ending) → RunsOut {X = Ending} advance RunMayRunOut (now_at (others_of queue first) s) x y a b
 
 pub runs_itself : (queue : Queue) (s : State) (x : JournalState) (a : View) → RunsOn queue queue s s x x a a
 runs_itself queue s x a = λ first. reaches_itself advance (now_at (others_of queue first) s) x a
@@ -60,8 +70,8 @@ runs_itself queue s x a = λ first. reaches_itself advance (now_at (others_of qu
 pub lifted : (queue : Queue) (s t : State) (x y : JournalState) (a b : View) → Reaches {X = Event} step s t x y a b → RunsOn queue queue s t x y a b
 lifted queue s t x y a b h = λ first. reaches_in_run (others_of queue first) s t x y a b h
 
-pub lifted_out : (queue : Queue) (s : State) (x y : JournalState) (a b : View) → Interrupted {X = Event} step s x y a b → Breaks queue s x y a b
-lifted_out queue s x y a b h = λ first. interrupted_in_run (others_of queue first) s x y a b h
+pub lifted_out : (queue : Queue) (s : State) (x y : JournalState) (a b : View) → RunsOut {X = Event} step MayRunOut s x y a b → Breaks queue s x y a b
+lifted_out queue s x y a b h = λ first. ran_out_in_run (others_of queue first) s x y a b h
 
 -- after a stretch of the run comes another one
 pub runs_run : (queue middle later : Queue) (s t u : State) (x y z : JournalState) (a b c : View) → RunsOn queue middle s t x y a b → RunsOn middle later t u y z b c → RunsOn queue later s u x z a c
@@ -70,11 +80,11 @@ runs_run queue middle later s t u x y z a b c h k = λ first.
 
 pub runs_break : (queue middle : Queue) (s t : State) (x y z : JournalState) (a b c : View) → RunsOn queue middle s t x y a b → Breaks middle t y z b c → Breaks queue s x z a c
 runs_break queue middle s t x y z a b c h k = λ first.
-    interrupted_reached advance (now_at (others_of queue first) s) (now_at (others_of middle first) t) x y z a b c (h first) (k first)
+    ran_out_reached advance RunMayRunOut (now_at (others_of queue first) s) (now_at (others_of middle first) t) x y z a b c (h first) (k first)
 
 -- or one of its process
 pub runs_walk : (queue middle : Queue) (s t u : State) (x y z : JournalState) (a b c : View) → RunsOn queue middle s t x y a b → Reaches {X = Event} step t u y z b c → RunsOn queue middle s u x z a c
 runs_walk queue middle s t u x y z a b c h k = runs_run queue middle middle s t u x y z a b c h (lifted middle t u y z b c k)
 
-pub runs_out : (queue middle : Queue) (s t : State) (x y z : JournalState) (a b c : View) → RunsOn queue middle s t x y a b → Interrupted {X = Event} step t y z b c → Breaks queue s x z a c
+pub runs_out : (queue middle : Queue) (s t : State) (x y z : JournalState) (a b c : View) → RunsOn queue middle s t x y a b → RunsOut {X = Event} step MayRunOut t y z b c → Breaks queue s x z a c
 runs_out queue middle s t x y z a b c h k = runs_break queue middle s t x y z a b c h (lifted_out middle t y z b c k)

@@ -13,21 +13,26 @@ use Rattle.pm_journal.specs.JournalState.{JournalState}
 use Rattle.pm_journal.specs.Entries.{View}
 use Rattle.pm_journal.specs.Plan.{Plan, Ends, and_then}
 use Rattle.pm_journal.specs.Executed.{Executes, OutOfMemory}
-use Rattle.pm_journal.specs.Walking.{Next, Go, Reaches, Interrupted}
+use Rattle.pm_journal.specs.Walking.{Next, Go, Reaches}
+use Rattle.pm_journal.specs.declared.acts.Entry.{Entry}
 use Rattle.pm_journal.proofs.ActPlans.{executes_then}
-use Rattle.pm_journal.proofs.WalkJoin.{reaches_itself, reaches_once, interrupted_at_once}
+use Rattle.pm_journal.proofs.WalkJoin.{reaches_itself, reaches_once}
 use Rattle.pm_journal.proofs.WantsMemory.{executes_nothing, out_front, out_then, out_anywhere}
 use Rattle.pm_meaning.specs.Blocks.{enter_block, begun_block, closed, give_maybe}
 use Rattle.pm_meaning.specs.Judging.{judge_first}
 use Rattle.pm_meaning.specs.Minds.{Mind}
 use Rattle.pm_meaning.specs.Changes.{with_rcfile, with_openings}
 use Rattle.pm_meaning.specs.Turns.{Turn, GoesOn}
-use Rattle.pm_meaning.specs.Running.{State, Running, LeavingFile, Cloning, Leaving, Item, FileEnd, statement, next_of, ahead, behind_file, step, Event}
+use Rattle.pm_meaning.specs.Turning.{turn_of}
+use Rattle.pm_meaning.specs.Running.{State, Running, LeavingFile, Cloning, Leaving, Item, Do, FileEnd, statement, next_of, ahead, behind_file, step, Event}
 use Rattle.pm_meaning.specs.declared.process.End.{End}
 use Rattle.pm_run.specs.Copies.{block_at}
-use Rattle.pm_run.specs.Frames.{weave, steps_of, items_of, outer_items, block_locks, all_locks, left_outside, left_in, left_over}
+use Rattle.pm_run.specs.Frames.{weave, steps_of, items_of, outer_items, end_of, block_locks, all_locks, left_outside, left_in, left_over}
+use Rattle.pm_run.specs.RunningOut.{LeavesUndelivered, MayRunOut, RunsOut, OfNew}
+use Rattle.pm_run.proofs.MayLemmas.{may_at_once, same_tree, recipe_statement}
+use Rattle.pm_run.proofs.RunOutLemmas.{ran_out_at_once}
 use Rattle.pm_run.specs.Turned.{turn_in}
-use Rattle.pm_run.specs.Walk.{single, plan_of, gate_turn, stands, stepped_of, IsStepAt, EndsAt, Entered, ComesBack, less_by, IsBehind}
+use Rattle.pm_run.specs.Walk.{single, plan_of, gate_turn, stands, stepped_of, IsStepAt, EndsAt, Entered, ComesBack, less_by, IsBehind, StatementMay}
 use Rattle.pm_run.specs.declared.frames.Open.{Open}
 use Rattle.pm_run.specs.declared.frames.RcFrame.{RcFrame}
 use Rattle.pm_run.specs.declared.frames.Waiting.{Waiting}
@@ -133,12 +138,15 @@ module _ (f : RcFrame) (s : Step) (p : Mind) (at : IsStepAt s (steps_of f) f.pla
       (subst (λ plan. Executes plan next x y a b) (sym (statement_step f d.tree p ahead_of))
       (executes_then (statement d.tree p) go (turn_in t q) next x y y a b b (subst (λ plan. Executes plan (turn_in t q) x y a b) plan_is h) last))
 
-  pub one_wants : (x y : JournalState) (a b : View) → OutOfMemory (plan_of (flat_of s) p) x y a b → Interrupted {X = Event} step (Running (items_of f) p) x y a b
-  one_wants x y a b h =
+  pub one_wants : (x y : JournalState) (a b : View) → OutOfMemory (plan_of (flat_of s) p) x y a b → OfNew (StatementMay (flat_of s) p) x y → RunsOut {X = Event} step MayRunOut (Running (items_of f) p) x y a b
+  one_wants x y a b h may =
+      let left = items_of (record f { place = f.place + 1 }) in
+      let items : items_of f ≡ Do d.tree ∷ left = weave_does (drop f.place (steps_of f)) d.tree (drop (f.place + 1) (steps_of f)) f.blocks.items (outer_items f.outer.items) ahead_of in
       let go : Turn → Plan Onward = λ turn. Ends (next_of d.tree p.openings (items_of (record f { place = f.place + 1 })) turn) in
-      interrupted_at_once step (Running (items_of f) p) x y a b
+      ran_out_at_once step MayRunOut (Running (items_of f) p) x y a b
       (subst (λ plan. OutOfMemory plan x y a b) (sym (statement_step f d.tree p ahead_of))
       (out_front (statement d.tree p) go x y a b (subst (λ plan. OutOfMemory plan x y a b) plan_is h)))
+      (λ more e. subst (λ i. MayRunOut (Running i p) more) (sym items) (may more e d.tree left d.is))
 
 -- a recipe with a block
 module _ (f : RcFrame) (top : Top) (end : ℕ) (p : Mind) (e : drop f.place (steps_of f) ≡ Enters top end ∷ drop (f.place + 1) (steps_of f)) where
@@ -154,17 +162,24 @@ module _ (f : RcFrame) (top : Top) (end : ℕ) (p : Mind) (e : drop f.place (ste
   abbrev gate_plan : Plan Turn
   gate_plan = judge_first top (λ q. enter_block top q) p
 
+  gate_items : items_of f ≡ Do (Recipe top (Block (first (lists_of more)))) ∷ behind
+  gate_items = weave_enters (drop f.place (steps_of f)) top end more f.blocks.items (outer_items f.outer.items) e
+
   gate_step : step (Running (items_of f) p) ≡ and_then gate_plan onto
-  gate_step = ap (λ items. step (Running items p)) (weave_enters (drop f.place (steps_of f)) top end more f.blocks.items (outer_items f.outer.items) e)
+  gate_step = ap (λ items. step (Running items p)) gate_items
 
-  pub gate_wants : (x y : JournalState) (a b : View) → OutOfMemory gate_plan x y a b → Interrupted {X = Event} step (Running (items_of f) p) x y a b
+  -- a recipe with a block delivers nothing
+  gate_may : (more : List Entry) → MayRunOut (Running (items_of f) p) more
+  gate_may more = subst (λ i. MayRunOut (Running i p) more) (sym gate_items) tt
+
+  pub gate_wants : (x y : JournalState) (a b : View) → OutOfMemory gate_plan x y a b → RunsOut {X = Event} step MayRunOut (Running (items_of f) p) x y a b
   gate_wants x y a b h =
-      interrupted_at_once step (Running (items_of f) p) x y a b (subst (λ plan. OutOfMemory plan x y a b) (sym gate_step) (out_front gate_plan onto x y a b h))
+      ran_out_at_once step MayRunOut (Running (items_of f) p) x y a b (subst (λ plan. OutOfMemory plan x y a b) (sym gate_step) (out_front gate_plan onto x y a b h)) (λ more e. gate_may more)
 
-  pub gate_then_wants : (turn : Turn) (x y : JournalState) (a b : View) → Executes gate_plan turn x y a b → Interrupted {X = Event} step (Running (items_of f) p) x y a b
+  pub gate_then_wants : (turn : Turn) (x y : JournalState) (a b : View) → Executes gate_plan turn x y a b → RunsOut {X = Event} step MayRunOut (Running (items_of f) p) x y a b
   gate_then_wants turn x y a b h =
-      interrupted_at_once step (Running (items_of f) p) x y a b
-      (subst (λ plan. OutOfMemory plan x y a b) (sym gate_step) (out_then gate_plan onto turn x y y a b b h (out_anywhere (onto turn) y y b refl)))
+      ran_out_at_once step MayRunOut (Running (items_of f) p) x y a b
+      (subst (λ plan. OutOfMemory plan x y a b) (sym gate_step) (out_then gate_plan onto turn x y y a b b h (out_anywhere (onto turn) y y b refl))) (λ more e. gate_may more)
 
   -- the items of another frame
   items_at : (g : RcFrame) (place : ℕ) → g ≡ record f { place = place } → weave (lists_of (drop place (steps_of f))) f.blocks.items (outer_items f.outer.items) ≡ items_of g
@@ -258,8 +273,11 @@ module _ (f : RcFrame) (block : Open) (blocks : List Open) (next : ℕ) (p : Min
   abbrev close : Mind → Plan Onward
   close q = Ends (Go (Running later (closed block.saved q)))
 
+  end_items : items_of f ≡ end_of block ∷ later
+  end_items = ap (λ l. weave (lists_of (drop f.place (steps_of f))) l (outer_items f.outer.items)) e ∙ ends.block block blocks (outer_items f.outer.items)
+
   end_step : step (Running (items_of f) p) ≡ and_then (give_maybe block.lock p) close
-  end_step = ap (λ items. step (Running items p)) (ap (λ l. weave (lists_of (drop f.place (steps_of f))) l (outer_items f.outer.items)) e ∙ ends.block block blocks (outer_items f.outer.items))
+  end_step = ap (λ items. step (Running items p)) end_items
 
   pub block_reaches : (g : RcFrame) (q r : Mind) (x y : JournalState) (a b : View) → g.code ≡ f.code → g.place ≡ next → g.blocks.items ≡ blocks → g.outer ≡ f.outer → r ≡ closed block.saved q
       → Executes (give_maybe block.lock p) q x y a b → Reaches {X = Event} step (Running (items_of f) p) (Running (items_of g) r) x y a b
@@ -275,9 +293,10 @@ module _ (f : RcFrame) (block : Open) (blocks : List Open) (next : ℕ) (p : Min
       (subst (λ plan. Executes plan to x y a b) (sym end_step)
       (executes_then (give_maybe block.lock p) close q to x y y a b b h (subst (λ n. Executes (Ends n) to y y b b) (sym same) (executes_nothing to y y b refl))))
 
-  pub block_wants : (x y : JournalState) (a b : View) → OutOfMemory (give_maybe block.lock p) x y a b → Interrupted {X = Event} step (Running (items_of f) p) x y a b
+  pub block_wants : (x y : JournalState) (a b : View) → OutOfMemory (give_maybe block.lock p) x y a b → RunsOut {X = Event} step MayRunOut (Running (items_of f) p) x y a b
   block_wants x y a b h =
-      interrupted_at_once step (Running (items_of f) p) x y a b (subst (λ plan. OutOfMemory plan x y a b) (sym end_step) (out_front (give_maybe block.lock p) close x y a b h))
+      ran_out_at_once step MayRunOut (Running (items_of f) p) x y a b (subst (λ plan. OutOfMemory plan x y a b) (sym end_step) (out_front (give_maybe block.lock p) close x y a b h))
+      (λ more e. subst (λ i. MayRunOut (Running i p) more) (sym end_items) tt)
 
 -- nothing is left of the rcfile but those that wait
 over_items : (f : RcFrame) (next : ℕ) → EndsAt (steps_of f) f.place next → f.blocks.items ≡ [] → items_of f ≡ outer_items f.outer.items
@@ -307,8 +326,8 @@ back_reaches stepped.Went f g next p q x a ends e h =
     (subst (λ items. Executes (step (Running items p)) to x x a a) (sym left) (subst (λ n. Executes (Ends n) to x x a a) (sym same) (executes_nothing to x x a refl)))
 back_reaches other f g next p q x a ends e h = absurd h
 
-pub back_wants : (f : RcFrame) (p : Mind) (x : JournalState) (a : View) → Interrupted {X = Event} step (Running (items_of f) p) x x a a
-back_wants f p x a = interrupted_at_once step (Running (items_of f) p) x x a a (out_anywhere (step (Running (items_of f) p)) x x a refl)
+pub back_wants : (f : RcFrame) (p : Mind) (x : JournalState) (a : View) → RunsOut {X = Event} step MayRunOut (Running (items_of f) p) x x a a
+back_wants f p x a = ran_out_at_once step MayRunOut (Running (items_of f) p) x x a a (out_anywhere (step (Running (items_of f) p)) x x a refl) (may_at_once (items_of f) p x)
 
 pub back_falls : (s : Stepped) (f g : RcFrame) (p q : Mind) → f.blocks.items ≡ [] → ComesBack s f g p q → left_in g + less_by s ≤ left_in f
 back_falls stepped.Over f g p q e h = omega (arith, ap (λ q. length q.steps.items) h.1, h.2, ap (λ q. length q.items) h.3, ap left_outside h.4, ap left_outside h.0)
@@ -347,3 +366,26 @@ by_step_out s shown p x y a b e h = subst (λ i. OutOfMemory (plan_of (flat_of i
 pub no_statement : (s : Step) (shown : Flat) (p : Mind) (x : JournalState) (a : View) → flat_of s ≡ shown → plan_of shown p ≡ Ends (GoesOn p) → Executes (plan_of (flat_of s) p) (GoesOn p) x x a a
 no_statement s shown p x a e is =
     subst (λ i. Executes (plan_of i p) (GoesOn p) x x a a) (sym e) (subst (λ plan. Executes plan (GoesOn p) x x a a) (sym is) (executes_nothing (GoesOn p) x x a refl))
+
+-- a recipe was carried out
+pub plain_done : (s shown : Step) (ended : Option End) (t : Turned) (p q : Mind) (x y : JournalState) (a b : View) → s ≡ shown → turn_in t q ≡ turn_of ended q → Executes (plan_of (flat_of shown) p) (turn_of ended q) x y a b
+    → Executes (plan_of (flat_of s) p) (turn_in t q) x y a b
+plain_done s shown ended t p q x y a b e is h = by_step s shown p (turn_in t q) x y a b e (subst (λ turn. Executes (plan_of (flat_of shown) p) turn x y a b) (sym is) h)
+
+-- memory was wanting in a recipe without a block
+pub recipe_may_out : (s : Step) (recipe : CodeRecipe) (p : Mind) (x y : JournalState) → s ≡ step_is.Plain recipe → OfNew (LeavesUndelivered (top_of recipe) p) x y → OfNew (StatementMay (flat_of s) p) x y
+recipe_may_out s recipe p x y e h = λ more f.
+    subst (λ i. StatementMay (flat_of i) p more) (sym e) (recipe_statement (top_of recipe) (act_of recipe.action) p x y h more f)
+
+-- or in another statement
+other_may_out : (s : Step) (tree : Tree) (p : Mind) (x y : JournalState) → flat_of s ≡ Does tree → ((rest : List Item) (more : List Entry) → MayRunOut (Running (Do tree ∷ rest) p) more) → OfNew (StatementMay (flat_of s) p) x y
+other_may_out s tree p x y e h = λ more f. subst (λ flat. StatementMay flat p more) (sym e) (λ shown rest is. subst (λ t. MayRunOut (Running (Do t ∷ rest) p) more) (same_tree tree shown is) (h rest more))
+
+pub assign_may_out : (s : Step) (name text : List ℕ) (p : Mind) (x y : JournalState) → s ≡ step_is.Assign name text → OfNew (StatementMay (flat_of s) p) x y
+assign_may_out s name text p x y e = other_may_out s (Assign name text) p x y (ap flat_of e) (λ rest more. tt)
+
+pub unset_may_out : (s : Step) (name : List ℕ) (p : Mind) (x y : JournalState) → s ≡ step_is.Unset name → OfNew (StatementMay (flat_of s) p) x y
+unset_may_out s name p x y e = other_may_out s (Unset name) p x y (ap flat_of e) (λ rest more. tt)
+
+pub defect_may_out : (s : Step) (line : ℕ) (text : List ℕ) (p : Mind) (x y : JournalState) → s ≡ step_is.Defect line text → OfNew (StatementMay (flat_of s) p) x y
+defect_may_out s line text p x y e = other_may_out s (Defect line text) p x y (ap flat_of e) (λ rest more. tt)

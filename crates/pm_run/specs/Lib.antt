@@ -1,4 +1,7 @@
 pub mod Ends
+pub mod RunningOut
+pub mod NotDelivered
+pub mod RunningOutExamples
 pub mod Stretches
 pub mod Coming
 pub mod Turned

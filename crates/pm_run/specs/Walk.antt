@@ -5,16 +5,18 @@ use Rattle.pm_code.specs.Ahead.{others, lists_of}
 use Rattle.pm_code.specs.declared.steps.Step.{Step}
 use Rattle.pm_recipe.specs.Tree.{Tree, Recipe}
 use Rattle.pm_journal.specs.Plan.{Plan, Ends}
+use Rattle.pm_journal.specs.declared.acts.Entry.{Entry}
 use Rattle.pm_meaning.specs.Blocks.{begun_block}
 use Rattle.pm_meaning.specs.Acting.{act_on}
 use Rattle.pm_meaning.specs.Judging.{judge_first}
 use Rattle.pm_meaning.specs.Minds.{Mind}
 use Rattle.pm_meaning.specs.Turns.{Turn, GoesOn, Halts, Enters, Clones}
 use Rattle.pm_meaning.specs.Changes.{with_rcfile}
-use Rattle.pm_meaning.specs.Running.{State, Item, Running, Including, Switching, LeavingFile, Cloning, Leaving, statement}
+use Rattle.pm_meaning.specs.Running.{State, Item, Do, Running, Including, Switching, LeavingFile, Cloning, Leaving, statement}
 use Rattle.pm_meaning.specs.declared.process.End.{End}
 use Rattle.pm_run.specs.Copies.{block_at}
 use Rattle.pm_run.specs.Frames.{items_of, outer_items, steps_of, weave, end_of, block_locks, all_locks}
+use Rattle.pm_run.specs.RunningOut.{MayRunOut}
 use Rattle.pm_run.specs.declared.frames.Open.{Open}
 use Rattle.pm_run.specs.declared.frames.RcFrame.{RcFrame}
 use Rattle.pm_run.specs.declared.frames.Waiting.{Waiting}
@@ -34,6 +36,10 @@ single tree p = statement tree p
 abbrev pub plan_of : Flat → Mind → Plan Turn
 plan_of (Does tree) p = single tree p
 plan_of other p = Ends (GoesOn p)
+
+-- after these entries of such a statement memory may be wanting
+abbrev pub StatementMay : Flat → Mind → List Entry → Type 0
+StatementMay flat p entries = (tree : Tree) (rest : List Item) → flat ≡ Does tree → MayRunOut (Running (Do tree ∷ rest) p) entries
 
 -- what comes of a recipe with a block
 abbrev pub gate_turn : Gate → Mind → Turn

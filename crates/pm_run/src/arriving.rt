@@ -1,18 +1,21 @@
-//! The beginning of a run: the mail gets its From line, the words of the command line set variables, and the first of its
-//! rcfiles that can be read is opened.
+//! The beginning of a run: the mail gets its From line, the words of the command line set variables, and the first of
+//! its rcfiles that can be read is opened.
 ghost use Rattle.std.specs.Prelude.{◌≡◌, ◌||◌, ◌∷◌, ℕ, List, [], false, bytes_eq, codes, IfOk, OnErr, if◌then◌else◌};
 ghost use Rattle.pm_bytes.specs.Name.{has_zero};
 ghost use Rattle.pm_journal.specs.Executed.{Carries};
 ghost use Rattle.pm_journal.specs.Held.{Keeping};
-ghost use Rattle.pm_journal.specs.Walking.{Go, Interrupted};
+ghost use Rattle.pm_journal.specs.Walking.{Go};
 ghost use Rattle.pm_meaning.specs.Delivering.{is_without as without_names};
 ghost use Rattle.pm_meaning.specs.FirstValues.{home_folder};
 ghost use Rattle.pm_meaning.specs.Minds.{mind_of};
 ghost use Rattle.pm_meaning.specs.Running.{Event, Arrived, Setting, step};
-ghost use Rattle.pm_meaning.specs.Running.{set_by_word as word_set, home_by as home_behind, rcfiles_of as rcfiles_tried};
-ghost use Rattle.pm_meaning.specs.Running.{sets_folder as folder_set, named_rcfile as rcfile_named, in_home as home_joined};
+ghost use Rattle.pm_meaning.specs.Running.{set_by_word as word_set, home_by as home_behind};
+ghost use Rattle.pm_meaning.specs.Running.{rcfiles_of as rcfiles_tried};
+ghost use Rattle.pm_meaning.specs.Running.{sets_folder as folder_set, named_rcfile as rcfile_named};
+ghost use Rattle.pm_meaning.specs.Running.{in_home as home_joined};
 ghost use Rattle.pm_meaning.specs.declared.command_line.CommandLine.{CommandLine as Words};
 ghost use Rattle.pm_run.specs.Opening.{OpensFrom};
+ghost use Rattle.pm_run.specs.RunningOut.{MayRunOut, RunsOut};
 ghost use Rattle.pm_run.specs.Stretches.{Walks};
 ghost use Rattle.pm_run.specs.Turned.{turn_in};
 
@@ -67,7 +70,7 @@ pub fn begin_rcfiles<D: Effects>(
         (Setting line.now.values line.now home (mind_of process.old)) opened (mind_of process.new)
         journal.old journal.new (D.told outside.old) (D.told outside.new)) }
     ensures memory { let home = home_behind line.now.values (home_folder env.now) in
-        OnErr result (Interrupted {X = Event} step (Setting line.now.values line.now home (mind_of process.old))
+        OnErr result (RunsOut {X = Event} step MayRunOut (Setting line.now.values line.now home (mind_of process.old))
         journal.old journal.new (D.told outside.old) (D.told outside.new)) }
     ensures keeping { Keeping journal.new process.new.locks.names }
 {

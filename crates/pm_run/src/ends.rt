@@ -1,6 +1,6 @@
 //! What a process does at its end: the abstract of its delivery, the program of TRAP, and its exit status
 //! (procmailrc(5), "Environment").
-ghost use Rattle.std.specs.Prelude.{◌≡◌, [], ◌&&◌, codes, decimal, IfOk};
+ghost use Rattle.std.specs.Prelude.{◌≡◌, true, [], ◌&&◌, codes, decimal, IfOk, OnErr};
 ghost use Rattle.pm_journal.specs.Executed.{Carries};
 ghost use Rattle.pm_journal.specs.Held.{Keeping};
 ghost use Rattle.pm_vars.specs.Variables.{value_of};
@@ -11,10 +11,13 @@ ghost use Rattle.pm_meaning.specs.Locks.{value_or};
 ghost use Rattle.pm_meaning.specs.Logging.{log, logged};
 ghost use Rattle.pm_meaning.specs.Minds.{mind_of};
 ghost use Rattle.pm_meaning.specs.Turns.{say_then};
-ghost use Rattle.pm_meaning.specs.Ends.{tell_delivery as delivery_told, is_delivered, is_trapped as trapped_at, trap as trap_run};
-ghost use Rattle.pm_meaning.specs.Ends.{trap_line as line_run, trap_by as program_run, run_trap as command_run, trapped_with};
+ghost use Rattle.pm_meaning.specs.Ends.{tell_delivery as delivery_told, is_delivered};
+ghost use Rattle.pm_meaning.specs.Ends.{is_trapped as trapped_at, trap as trap_run};
+ghost use Rattle.pm_meaning.specs.Ends.{trap_line as line_run, trap_by as program_run};
+ghost use Rattle.pm_meaning.specs.Ends.{run_trap as command_run, trapped_with};
 ghost use Rattle.pm_meaning.specs.Running.{Over, Closing, ending_of as ending_by};
-ghost use Rattle.pm_meaning.specs.Status.{base_status as status_so_far, with_exit_status, is_set, is_there_empty, says_delivered};
+ghost use Rattle.pm_meaning.specs.Status.{base_status as status_so_far, with_exit_status, is_set};
+ghost use Rattle.pm_meaning.specs.Status.{is_there_empty, says_delivered};
 ghost use Rattle.pm_meaning.specs.Status.{chosen_status as status_chosen, exit_status as status_at};
 ghost use Rattle.pm_run.specs.Codes.{code_written};
 ghost use Rattle.pm_run.specs.Stretches.{Walks};
@@ -34,8 +37,8 @@ use pm_meaning::{
 };
 use std::alloc::Global;
 
-/// The process is over: the abstract of its delivery, of which there may be a draft, is logged, TRAP's program runs, and
-/// LOCKFILE's lock is given back.
+/// The process is over: the abstract of its delivery, of which there may be a draft, is logged, TRAP's program runs,
+/// and LOCKFILE's lock is given back.
 pub fn close<D: Effects>(
     alloc: Global,
     end: End,
@@ -68,6 +71,7 @@ fn tell_delivery<D: Effects>(
     requires keeping { Keeping journal.old process.now.locks.names }
     ensures carries { Carries (delivery_told end (mind_of process.now)) (λ _. logged) result
         journal.old journal.new (D.told outside.old) (D.told outside.new) }
+    ensures told { OnErr result ((is_delivered end && last_is_logged (mind_of process.now)) ≡ true) }
     ensures keeping { Keeping journal.new process.now.locks.names }
 {
     if !is_told(end, process) {
@@ -119,6 +123,7 @@ fn trap<D: Effects>(
     requires keeping { Keeping journal.old process.old.locks.names }
     ensures carries { Carries (trap_run end (mind_of process.old)) (λ code. trapped_with code (mind_of process.new))
         result journal.old journal.new (D.told outside.old) (D.told outside.new) }
+    ensures set { OnErr result (trapped_at end (mind_of process.old) ≡ true) }
     ensures keeping { Keeping journal.new process.new.locks.names }
 {
     if !is_trapped(end, process) {
@@ -189,8 +194,9 @@ fn trap_line<D: Effects>(
     journal: &mut Journal,
 ) -> Result<u8, Memory>
     requires keeping { Keeping journal.old process.old.locks.names }
-    ensures carries { Carries (line_run text.now (mind_of process.old)) (λ code. trapped_with code (mind_of process.new))
-        result journal.old journal.new (D.told outside.old) (D.told outside.new) }
+    ensures carries { Carries (line_run text.now (mind_of process.old))
+        (λ code. trapped_with code (mind_of process.new)) result
+        journal.old journal.new (D.told outside.old) (D.told outside.new) }
     ensures keeping { Keeping journal.new process.new.locks.names }
 {
     let line = read_line(alloc, text, process, outside, journal)?;

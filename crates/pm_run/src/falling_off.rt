@@ -1,9 +1,10 @@
 //! A process that no statement ended delivers to its default mailbox (procmail(1), "DESCRIPTION").
-ghost use Rattle.std.specs.Prelude.{◌≡◌, ◌++◌, IfOk, OnOk, []};
+ghost use Rattle.std.specs.Prelude.{◌≡◌, ◌++◌, IfOk, OnOk, OnErr, []};
 ghost use Rattle.pm_journal.specs.Executed.{Carries};
 ghost use Rattle.pm_journal.specs.Held.{Keeping};
 ghost use Rattle.pm_journal.specs.Walking.{Go};
-ghost use Rattle.pm_meaning.specs.Delivering.{deliver_default as to_default};
+ghost use Rattle.pm_actions.specs.Undelivered.{Undelivered};
+ghost use Rattle.pm_meaning.specs.Delivering.{deliver_default as to_default, no_flags};
 ghost use Rattle.pm_meaning.specs.Locks.{value_or};
 ghost use Rattle.pm_meaning.specs.Minds.{mind_of};
 ghost use Rattle.pm_meaning.specs.Running.{Running, FallingOff, Over, step, unless_same};
@@ -113,6 +114,7 @@ fn try_mailbox<D: Effects>(
     ensures carries { Carries (to_default mailbox.now (mind_of process.old))
         (λ end. turn_of end (mind_of process.new)) result
         journal.old journal.new (D.told outside.old) (D.told outside.new) }
+    ensures sure { OnErr result (Undelivered no_flags journal.old journal.new) }
     ensures drafted { IfOk result (λ _. IsDrafted draft.new (mind_of process.old)) }
     ensures keeping { Keeping journal.new process.new.locks.names }
 {

@@ -1,5 +1,5 @@
 //! LOCKFILE (procmailrc(5), "Environment"): a lock that a process holds from one statement to another.
-ghost use Rattle.std.specs.Prelude.{◌≡◌, true, false, nat_lt, if◌then◌else◌, IfOk};
+ghost use Rattle.std.specs.Prelude.{◌≡◌, true, false, nat_lt, if◌then◌else◌, IfOk, OnErr};
 ghost use Rattle.pm_journal.specs.Executed.{Carries};
 ghost use Rattle.pm_journal.specs.Held.{Keeping, holds_name};
 ghost use Rattle.pm_journal.specs.Locking.{lock_act};
@@ -12,6 +12,7 @@ ghost use Rattle.pm_meaning.specs.Locks.{rule_of};
 ghost use Rattle.pm_meaning.specs.Minds.{mind_of};
 ghost use Rattle.pm_meaning.specs.Turns.{GoesOn, say_then};
 ghost use Rattle.pm_meaning.specs.Turning.{turn_of};
+ghost use Rattle.pm_run.specs.RunningOut.{HinderedSince};
 
 use pm_actions::{is_stuck, lock_rule, refuse};
 use pm_bytes::{Memory, Name, full};
@@ -76,6 +77,7 @@ pub fn give_lock<D: Effects>(
     ensures carries { Carries (give_named (mind_of process.old).global (mind_of process.old))
         (λ _. mind_of process.new) result
         journal.old journal.new (D.told outside.old) (D.told outside.new) }
+    ensures stuck { OnErr result (HinderedSince journal.old journal.new) }
     ensures keeping { Keeping journal.new process.new.locks.names }
 {
     match process.global.take() {
@@ -103,6 +105,7 @@ fn give_held<D: Effects>(
         Carries (and_then (ask (Unlock name.now)) (after_giving name.now (without_global name.now p)))
         (λ _. mind_of process.new) result
         journal.old journal.new (D.told outside.old) (D.told outside.new) }
+    ensures stuck { OnErr result (HinderedSince journal.old journal.new) }
     ensures keeping { Keeping journal.new process.new.locks.names }
 {
     let removed = give(&mut process.locks, name, outside, journal);

@@ -11,9 +11,11 @@ ghost use Rattle.pm_meaning.specs.Judging.{judge_first};
 ghost use Rattle.pm_meaning.specs.Minds.{Mind, mind_of};
 ghost use Rattle.pm_meaning.specs.Turns.{Turn};
 ghost use Rattle.pm_actions.specs.Names.{top_of};
+ghost use Rattle.pm_actions.specs.Undelivered.{Undelivered};
 ghost use Rattle.pm_meaning.specs.Turning.{turn_of};
 ghost use Rattle.pm_run.specs.Coming.{ComesTo};
 ghost use Rattle.pm_run.specs.Drafts.{IsDrafted};
+ghost use Rattle.pm_run.specs.RunningOut.{LeavesUndelivered, OfNew};
 
 use crate::draft::Draft;
 use crate::drafting::draft_for;
@@ -92,6 +94,8 @@ pub fn run_recipe<D: Effects>(
         Carries (judge_first top (λ p. act_on top (act_of recipe.now.action) p) (mind_of process.old))
         (λ end. turn_of end (mind_of process.new)) result
         journal.old journal.new (D.told outside.old) (D.told outside.new) }
+    ensures sure { OnErr result (OfNew (LeavesUndelivered (top_of recipe.now) (mind_of process.old))
+        journal.old journal.new) }
     ensures keeping { Keeping journal.new process.new.locks.names }
 {
     match come_to(alloc, recipe, process, outside, journal)? {
@@ -114,6 +118,7 @@ fn act<D: Effects>(
         (act_on (top_of recipe.now) (act_of recipe.now.action) (mind_of process.old))
         (λ end. turn_of end (mind_of process.new)) result
         journal.old journal.new (D.told outside.old) (D.told outside.new) }
+    ensures sure { OnErr result (Undelivered recipe.now.flags journal.old journal.new) }
     ensures drafted { IfOk result (λ _. IsDrafted draft.new (mind_of process.old)) }
     ensures keeping { Keeping journal.new process.new.locks.names }
 {

@@ -1,5 +1,5 @@
 //! Blocks that are left, and their locks.
-ghost use Rattle.std.specs.Prelude.{◌≡◌, ◌<◌, ◌≤◌, true, false, [], List, IfOk};
+ghost use Rattle.std.specs.Prelude.{◌≡◌, ◌<◌, ◌≤◌, true, false, [], List, IfOk, OnErr};
 ghost use Rattle.pm_journal.specs.Executed.{Carries};
 ghost use Rattle.pm_journal.specs.Held.{Keeping, holds_name};
 ghost use Rattle.pm_journal.specs.Plan.{and_then, ask};
@@ -9,6 +9,7 @@ ghost use Rattle.pm_meaning.specs.GlobalLock.{after_giving};
 ghost use Rattle.pm_meaning.specs.Minds.{mind_of};
 ghost use Rattle.pm_meaning.specs.Running.{Item, Running, LeavingFile, Leaving, left_by};
 ghost use Rattle.pm_run.specs.Frames.{block_locks, all_locks, left_in};
+ghost use Rattle.pm_run.specs.RunningOut.{HinderedSince};
 ghost use Rattle.pm_run.specs.Stretches.{Walks};
 
 use crate::frames::{Open, RcFrame, Waiting};
@@ -106,6 +107,7 @@ pub fn give_maybe<D: Effects>(
     requires keeping { Keeping journal.old process.old.locks.names }
     ensures carries { Carries (maybe_given lock.now (mind_of process.old)) (λ _. mind_of process.new) result
         journal.old journal.new (D.told outside.old) (D.told outside.new) }
+    ensures stuck { OnErr result (HinderedSince journal.old journal.new) }
     ensures keeping { Keeping journal.new process.new.locks.names }
     ensures count { process.new.openings ≡ process.old.openings }
 {
@@ -125,6 +127,7 @@ fn give_block_lock<D: Effects>(
     requires keeping { Keeping journal.old process.old.locks.names }
     ensures carries { Carries (block_lock_given name.now (mind_of process.old)) (λ _. mind_of process.new) result
         journal.old journal.new (D.told outside.old) (D.told outside.new) }
+    ensures stuck { OnErr result (HinderedSince journal.old journal.new) }
     ensures keeping { Keeping journal.new process.new.locks.names }
     ensures count { process.new.openings ≡ process.old.openings }
 {
@@ -147,6 +150,7 @@ fn give_held<D: Effects>(
         Carries (and_then (ask (Unlock name.now)) (after_giving name.now (without_lock name.now p)))
         (λ _. mind_of process.new) result
         journal.old journal.new (D.told outside.old) (D.told outside.new) }
+    ensures stuck { OnErr result (HinderedSince journal.old journal.new) }
     ensures keeping { Keeping journal.new process.new.locks.names }
     ensures count { process.new.openings ≡ process.old.openings }
 {

@@ -3,7 +3,6 @@ ghost use Rattle.std.specs.Prelude.{◌≡◌, ◌<◌, ◌≤◌, ◌+◌, ◌&
 ghost use Rattle.pm_journal.specs.Executed.{OutOfMemory};
 ghost use Rattle.pm_journal.specs.Held.{Keeping};
 ghost use Rattle.pm_journal.specs.Plan.{and_then, ask};
-ghost use Rattle.pm_journal.specs.Walking.{Interrupted};
 ghost use Rattle.pm_journal.specs.declared.acts.Act.TheVariants.{ReadFile};
 ghost use Rattle.pm_recipe.specs.Listed.{rc_of};
 ghost use Rattle.pm_meaning.specs.Minds.{mind_of};
@@ -15,6 +14,7 @@ ghost use Rattle.pm_run.specs.Frames.{items_of, left_over};
 ghost use Rattle.pm_recipe.specs.Tree.{Trees};
 ghost use Rattle.pm_run.specs.declared.opening.Halted.TheVariants.{Resumes};
 ghost use Rattle.pm_run.specs.Ends.{halted, rule_of_opening, IsCode};
+ghost use Rattle.pm_run.specs.RunningOut.{MayRunOut, RunsOut};
 ghost use Rattle.pm_run.specs.Stretches.{Walks};
 ghost use Rattle.pm_run.specs.Opening.{OpensFrom, OpensOne, ReadsOne, PassesOver, is_read};
 
@@ -37,8 +37,8 @@ pub struct Rule {
     pub keeps_folder: bool,
 }
 
-/// What came of the rcfiles of the command line: the code of the one that was read, or the end of a process that has read
-/// one before, or must have its rcfile. Without either there is nothing to do, and the process falls off its end.
+/// What came of the rcfiles of the command line: the code of the one that was read, or the end of a process that has
+/// read one before, or must have its rcfile. Without either there is nothing to do, and the process falls off its end.
 #[derive(Drop)]
 pub enum Opened {
     Read(Code),
@@ -77,7 +77,7 @@ pub fn open_first<D: Effects>(
         journal.old journal.new (D.told outside.old) (D.told outside.new)) }
     ensures counted { IfOk result (λ opened. is_read opened ≡ true → process.old.openings < process.new.openings) }
     ensures most { IfOk result (λ opened. is_read opened ≡ true → process.new.openings ≤ 256) }
-    ensures memory { OnErr result (Interrupted {X = Event} step
+    ensures memory { OnErr result (RunsOut {X = Event} step MayRunOut
         (Opening (rule_of_opening rule) names.items (mind_of process.old))
         journal.old journal.new (D.told outside.old) (D.told outside.new)) }
     ensures keeping { Keeping journal.new process.new.locks.names }
@@ -189,8 +189,8 @@ fn enter(alloc: Global, rule: Rule, name: &Name, process: &mut Process) -> Resul
     Ok(())
 }
 
-// The rcfile wasn't read: a mail filter ends at once, and for any other that is told, unless there is none of the user's
-// own.
+// The rcfile wasn't read: a mail filter ends at once, and for any other that is told, unless there is none of the
+// user's own.
 fn pass_over<D: Effects>(
     alloc: Global,
     rule: Rule,

@@ -1,15 +1,15 @@
 //! A whole run, from the mail's arrival to the end of the last of its processes.
 ghost use Rattle.std.specs.Prelude.{◌≡◌, ◌≤◌, [], IfOk, OnErr};
 ghost use Rattle.pm_journal.specs.Held.{Keeping};
-ghost use Rattle.pm_journal.specs.Walking.{Stop, Completes, Abandoned};
+ghost use Rattle.pm_journal.specs.Walking.{Stop, Completes};
 ghost use Rattle.pm_meaning.specs.FirstValues.{home_folder};
 ghost use Rattle.pm_meaning.specs.Minds.{mind_of};
 ghost use Rattle.pm_meaning.specs.Courses.{advance, run_of};
 ghost use Rattle.pm_meaning.specs.Running.{Running, Setting, Closing, home_by};
-ghost use Rattle.pm_meaning.specs.declared.ending.Ending.{Ending};
 ghost use Rattle.pm_run.specs.Frames.{items_of};
 ghost use Rattle.pm_run.specs.Ends.{copies_left};
 ghost use Rattle.pm_run.specs.Others.{next_in, GoesOn, GivesUp};
+ghost use Rattle.pm_run.specs.RunningOut.{GaveUp};
 ghost use Rattle.pm_run.specs.Stretches.{Proceeds, Walks};
 
 use crate::arriving::{arrive, begin_rcfiles};
@@ -17,7 +17,7 @@ use crate::ends::close;
 use crate::falling_off::fall_off;
 use crate::frames::RcFrame;
 use crate::opening::{Opened, begin_frame};
-use crate::queue::{Copy, Queue, new_queue};
+use crate::queue::{Copy, Queue};
 use crate::walk::run_frame;
 use pm_bytes::{Blob, Environ, Memory};
 use pm_journal::{Effects, Journal, give_all};
@@ -45,12 +45,12 @@ pub fn run_processes<D: Effects>(
     requires keeping { Keeping journal.old [] }
     ensures ok { IfOk result (λ ending. Completes advance (run_of line env.now bytes) ending
         journal.old journal.new (D.told outside.old) (D.told outside.new)) }
-    ensures memory { OnErr result (Abandoned {X = Ending} advance (run_of line env.now bytes)
+    ensures memory { OnErr result (GaveUp (run_of line env.now bytes)
         journal.old journal.new (D.told outside.old) (D.told outside.new)) }
     ensures keeping { Keeping journal.new [] }
 {
     let mut process = arrive(alloc, &line, env, bytes, outside, journal)?;
-    let mut queue = new_queue(alloc);
+    let mut queue = Queue::new(alloc);
     let ended = run_first(
         alloc,
         &line,
@@ -162,7 +162,7 @@ fn run_copies<D: Effects>(
     ensures keeping { Keeping journal.new [] }
 {
     let mut counted = counts;
-    while let Some(copy) = queue.copies.pop_front() {
+    while let Some(copy) = queue.next() {
         let Copy {
             mut frame,
             mut process,

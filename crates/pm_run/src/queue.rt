@@ -1,5 +1,5 @@
 //! The copies of a process that wait for its end.
-ghost use Rattle.std.specs.Prelude.{◌≡◌, []};
+ghost use Rattle.std.specs.Prelude.{◌≡◌, [], ◌∷◌, MatchOption};
 
 use crate::frames::RcFrame;
 use pm_meaning::Process;
@@ -21,13 +21,24 @@ pub struct Queue {
     pub made: u64,
 }
 
-/// No copy waits, and none was made. It takes no memory.
-pub fn new_queue(alloc: Global) -> Queue
-    ensures empty { result.copies.items ≡ [] }
-    ensures none { result.made ≡ 0 }
-{
-    Queue {
-        copies: VecDeque::new(alloc),
-        made: 0,
+impl Queue {
+    /// No copy waits, and none was made. It takes no memory.
+    pub fn new(alloc: Global) -> Queue
+        ensures empty { result.copies.items ≡ [] }
+        ensures none { result.made ≡ 0 }
+    {
+        Queue {
+            copies: VecDeque::new(alloc),
+            made: 0,
+        }
+    }
+
+    /// The first of the copies that wait, which waits no more.
+    pub fn next(&mut self) -> Option<Copy>
+        ensures items { MatchOption result (self.old.copies.items ≡ [])
+            (λ copy. self.old.copies.items ≡ copy ∷ self.new.copies.items) }
+        ensures made { self.new.made ≡ self.old.made }
+    {
+        self.copies.pop_front()
     }
 }

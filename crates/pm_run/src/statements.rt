@@ -1,5 +1,5 @@
 //! The statements of an rcfile.
-ghost use Rattle.std.specs.Prelude.{◌≡◌};
+ghost use Rattle.std.specs.Prelude.{◌≡◌, OnErr};
 ghost use Rattle.pm_code.specs.Flat.{flat_of};
 ghost use Rattle.pm_journal.specs.Executed.{Carries};
 ghost use Rattle.pm_journal.specs.Held.{Keeping};
@@ -7,19 +7,21 @@ ghost use Rattle.pm_meaning.specs.Assigning.{skip_defect};
 ghost use Rattle.pm_meaning.specs.Minds.{mind_of};
 ghost use Rattle.pm_meaning.specs.Turning.{turn_of};
 ghost use Rattle.pm_run.specs.Turned.{turn_in};
-ghost use Rattle.pm_run.specs.Walk.{plan_of};
+ghost use Rattle.pm_run.specs.RunningOut.{OfNew};
+ghost use Rattle.pm_run.specs.Walk.{plan_of, StatementMay};
 
 use crate::assigning::{assign_text, unset_variable};
 use crate::draft::Draft;
 use crate::judging::run_recipe;
-use crate::turned::{Turned, turned_by};
+use crate::turned::{Turned, turned_by, turned_of};
 use pm_bytes::Memory;
 use pm_code::Step;
 use pm_journal::{Effects, Journal, skipped};
 use pm_meaning::{End, Process, tell};
 use std::alloc::Global;
 
-/// Does a step that is a statement; the beginning and the end of a block are none. The draft is that of a recipe's abstract.
+/// Does a step that is a statement; the beginning and the end of a block are none. The draft is that of a recipe's
+/// abstract.
 pub fn run_statement<D: Effects>(
     alloc: Global,
     step: &Step,
@@ -32,6 +34,8 @@ pub fn run_statement<D: Effects>(
     ensures carries { Carries (plan_of (flat_of step.now) (mind_of process.old))
         (λ turned. turn_in turned (mind_of process.new)) result
         journal.old journal.new (D.told outside.old) (D.told outside.new) }
+    ensures sure { OnErr result (OfNew (StatementMay (flat_of step.now) (mind_of process.old))
+        journal.old journal.new) }
     ensures keeping { Keeping journal.new process.new.locks.names }
 {
     match step {
@@ -44,9 +48,10 @@ pub fn run_statement<D: Effects>(
             journal,
         ),
         Step::Unset { name } => unset_variable(alloc, name.as_slice(), process, outside, journal),
-        Step::Plain(recipe) => turned_by(run_recipe(
-            alloc, recipe, process, draft, outside, journal,
-        )),
+        Step::Plain(recipe) => {
+            let ended = run_recipe(alloc, recipe, process, draft, outside, journal)?;
+            Ok(turned_of(ended))
+        }
         Step::Defect { text, .. } => turned_by(skip_line(
             alloc,
             text.as_slice(),

@@ -1,4 +1,5 @@
 //! What comes of a statement.
+ghost use Rattle.std.specs.Prelude.{◌≡◌};
 ghost use Rattle.pm_journal.specs.JournalState.{JournalState};
 ghost use Rattle.pm_journal.specs.Entries.{View};
 ghost use Rattle.pm_journal.specs.Executed.{Carries};
@@ -22,7 +23,17 @@ pub enum Turned {
     EndsFile,
 }
 
-/// What comes of a statement that asks for no rcfile.
+/// What comes of a statement that asks for no rcfile: the process ends so, or the next statement comes.
+pub fn turned_of(ended: Option<End>) -> Turned
+    ensures { (p : Mind) → turn_in result p ≡ turn_of ended p }
+{
+    match ended {
+        None => Turned::Goes,
+        Some(end) => Turned::Halts(end),
+    }
+}
+
+/// The same where memory may have been wanting in it.
 pub fn turned_by(ended: Result<Option<End>, Memory>) -> Result<Turned, Memory>
     ensures { (plan : Plan Turn) (p : Mind) (x y : JournalState) (a b : View) →
         Carries plan (λ end. turn_of end p) ended x y a b →

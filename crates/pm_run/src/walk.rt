@@ -40,8 +40,8 @@ pub enum Stepped {
     Clones(usize),
 }
 
-/// Runs what is left of the rcfiles, up to the process's end, if a statement ends it. Then the open blocks are left. The
-/// draft is that of the last action's abstract.
+/// Runs what is left of the rcfiles, up to the process's end, if a statement ends it. Then the open blocks are left.
+/// The draft is that of the last action's abstract.
 pub fn run_frame<D: Effects>(
     alloc: Global,
     frame: &mut RcFrame,

@@ -7,13 +7,13 @@ use Rattle.pm_run.proofs.ends.close.Goals as goal
 
 pub returns-in_err-tell_delivery-clause-walks : goal.returns-in_err-tell_delivery-clause-walks
 returns-in_err-tell_delivery-clause-walks g c =
-    (search rules, on_err _ _ (over_wants c.args.end (mind_of c.args.process.now) _ _ _ _ c.in_err-tell_delivery.ensures.carries.1))
+    (search rules, on_err _ _ (over_wants c.args.end (mind_of c.args.process.now) _ _ _ _ c.in_err-tell_delivery.ensures.carries.1 c.in_err-tell_delivery.ensures.told))
 
 pub returns-in_err-code-clause-walks : goal.returns-in_err-code-clause-walks
 returns-in_err-code-clause-walks g c =
     let p = mind_of c.args.process.now in
     let first = over_traps c.args.end p _ _ _ _ c.in_ok-tell_delivery.ensures.carries.0 in
-    (search rules, on_err _ _ (trap_wants (Over c.args.end p) c.args.end p _ _ _ _ _ _ first c.in_err-code.ensures.carries.1))
+    (search rules, on_err _ _ (trap_wants (Over c.args.end p) c.args.end p _ _ _ _ _ _ first c.in_err-code.ensures.carries.1 c.in_err-code.ensures.set))
 
 pub returns-in_err-give_lock-clause-walks : goal.returns-in_err-give_lock-clause-walks
 returns-in_err-give_lock-clause-walks g c =
@@ -21,7 +21,7 @@ returns-in_err-give_lock-clause-walks g c =
     let q = mind_of c.trap.new.process in
     let first = over_traps c.args.end p _ _ _ _ c.in_ok-tell_delivery.ensures.carries.0 in
     let second = trap_unlocks (Over c.args.end p) c.args.end c.in_ok-code.code p q _ _ _ _ _ _ first c.in_ok-code.ensures.carries.0 in
-    (search rules, on_err _ _ (unlock_wants (Over c.args.end p) (ending_of c.args.end c.in_ok-code.code q) q _ _ _ _ _ _ second c.in_err-give_lock.ensures.carries.1))
+    (search rules, on_err _ _ (unlock_wants (Over c.args.end p) (ending_of c.args.end c.in_ok-code.code q) q _ _ _ _ _ _ second c.in_err-give_lock.ensures.carries.1 c.in_err-give_lock.ensures.stuck))
 
 pub returns-clause-walks : goal.returns-clause-walks
 returns-clause-walks g c =

@@ -21,3 +21,12 @@ returns-clause-carries g c =
     let p = mind_of c.args.process.now in
     let q = mind_of c.set_exit_status.new.process in
     carried _ (trap c.args.end p) _ _ _ _ _ _ (trap_runs c.args.end c.as_slice.result.now p q (sym c.is_trapped.ensures ∙ c.if-not-is_trapped.false) (c.as_slice.ensures ∙ c.in_ok-text.ensures) c.in_ok-set_exit_status.ensures.ok) c.trap_line.ensures.carries
+
+pub returns-in_err-text-clause-set : goal.returns-in_err-text-clause-set
+returns-in_err-text-clause-set g c = on_err _ _ (sym c.is_trapped.ensures ∙ c.if-not-is_trapped.false)
+
+pub returns-in_err-set_exit_status-clause-set : goal.returns-in_err-set_exit_status-clause-set
+returns-in_err-set_exit_status-clause-set g c = on_err _ _ (sym c.is_trapped.ensures ∙ c.if-not-is_trapped.false)
+
+pub returns-clause-set : goal.returns-clause-set
+returns-clause-set g c = on_err _ _ (sym c.is_trapped.ensures ∙ c.if-not-is_trapped.false)

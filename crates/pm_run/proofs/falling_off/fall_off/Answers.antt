@@ -1,16 +1,18 @@
 use Rattle.std.proofs.Common.{[], refl, rules}
-use Rattle.pm_journal.proofs.WalkJoin.{reaches_after, interrupted_at_once, interrupted_after}
+use Rattle.pm_journal.proofs.WalkJoin.{reaches_after}
 use Rattle.pm_journal.proofs.WantsMemory.{on_err, out_anywhere}
 use Rattle.pm_meaning.specs.Minds.{mind_of}
 use Rattle.pm_meaning.specs.Running.{Running, FallingOff, Over, step}
 use Rattle.pm_meaning.proofs.Choices.{ok_map, err_map}
+use Rattle.pm_run.specs.RunningOut.{MayRunOut}
+use Rattle.pm_run.proofs.RunOutLemmas.{ran_out_at_once, ran_out_after}
 use Rattle.pm_run.proofs.FallLemmas.{falls}
 use Rattle.pm_run.proofs.falling_off.fall_off.Goals as goal
 
 pub returns-in_err-mailboxes-clause-walks : goal.returns-in_err-mailboxes-clause-walks
 returns-in_err-mailboxes-clause-walks g c =
     let start = Running [] (mind_of c.args.process.now) in
-    (search rules, on_err _ _ (interrupted_at_once step start _ _ _ _ (out_anywhere (step start) _ _ _ refl)))
+    (search rules, on_err _ _ (ran_out_at_once step MayRunOut start _ _ _ _ (out_anywhere (step start) _ _ _ refl) (λ more e. tt)))
 
 pub returns-clause-walks : goal.returns-clause-walks
 returns-clause-walks g c =
@@ -19,5 +21,5 @@ returns-clause-walks g c =
     let left = FallingOff c.in_ok-mailboxes.mailboxes.items p in
     let fell = falls p c.in_ok-mailboxes.mailboxes.items c.args.journal.now (g.D.Asks.told c.args.outside.now) c.in_ok-mailboxes.ensures in (
       ok_map _ _ _ (λ end h. reaches_after step start left (Over end (mind_of c.try_each.new.process)) c.args.journal.now c.args.journal.now c.try_each.new.journal _ _ _ fell h) c.try_each.ensures.walks.0,
-      err_map _ _ _ (λ h. interrupted_after step start left c.args.journal.now c.args.journal.now c.try_each.new.journal _ _ _ fell h) c.try_each.ensures.walks.1,
+      err_map _ _ _ (λ h. ran_out_after step MayRunOut start left c.args.journal.now c.args.journal.now c.try_each.new.journal _ _ _ fell h) c.try_each.ensures.walks.1,
     )

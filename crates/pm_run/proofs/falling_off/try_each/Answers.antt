@@ -4,6 +4,8 @@ use Rattle.pm_journal.proofs.WantsMemory.{on_err}
 use Rattle.pm_meaning.specs.Minds.{mind_of}
 use Rattle.pm_meaning.specs.Running.{FallingOff, step}
 use Rattle.pm_meaning.proofs.Choices.{ok_map, err_map}
+use Rattle.pm_meaning.specs.Delivering.{no_flags}
+use Rattle.pm_run.proofs.MayLemmas.{delivered_none}
 use Rattle.pm_run.proofs.FallLemmas.{mailbox_on, mailbox_ends, mailbox_wants, none_on, none_wants}
 use Rattle.pm_run.proofs.falling_off.try_each.Goals as goal
 
@@ -13,7 +15,7 @@ loop-mailbox-init g c = record { reaches = reaches_itself step _ _ _; keeping = 
 pub returns-in_err-end-clause-walks : goal.returns-in_err-end-clause-walks
 returns-in_err-end-clause-walks g c =
     let start = FallingOff c.args.mailboxes.items (mind_of c.args.process.now) in
-    (search rules, on_err _ _ (mailbox_wants start c.loop-mailbox.mailboxes.items c.pop_front.new.self.items c.in-Some.mailbox (mind_of c.loop-mailbox.process) c.args.journal.now c.loop-mailbox.journal c.try_mailbox.new.journal _ _ _ c.in-Some.ensures.items c.loop-mailbox.invariant.reaches c.in_err-end.ensures.carries.1))
+    (search rules, on_err _ _ (mailbox_wants start c.loop-mailbox.mailboxes.items c.pop_front.new.self.items c.in-Some.mailbox (mind_of c.loop-mailbox.process) c.args.journal.now c.loop-mailbox.journal c.try_mailbox.new.journal _ _ _ c.in-Some.ensures.items c.loop-mailbox.invariant.reaches c.in_err-end.ensures.carries.1 (delivered_none no_flags _ _ c.in_err-end.ensures.sure)))
 
 pub returns-in-Some-2-clause-walks : goal.returns-in-Some-2-clause-walks
 returns-in-Some-2-clause-walks g c =

@@ -1,12 +1,14 @@
 use Rattle.std.proofs.Common.{rules}
-use Rattle.pm_journal.specs.Plan.{Plan}
 use Rattle.pm_journal.proofs.WantsMemory.{on_err}
 use Rattle.pm_recipe.specs.View.{act_of}
 use Rattle.pm_meaning.specs.Acting.{act_on}
 use Rattle.pm_meaning.specs.Judging.{judge_first}
 use Rattle.pm_meaning.specs.Minds.{Mind, mind_of}
-use Rattle.pm_meaning.specs.Turns.{Turn}
+use Rattle.pm_meaning.specs.Turns.{Turn, GoesOn}
 use Rattle.pm_actions.specs.Names.{top_of}
+use Rattle.pm_meaning.proofs.Choices.{err_map}
+use Rattle.pm_journal.specs.Plan.{Plan, Ends}
+use Rattle.pm_run.proofs.MayLemmas.{judging_may, acting_may}
 use Rattle.pm_run.proofs.JudgeLemmas.{acts_on}
 use Rattle.pm_run.proofs.judging.run_recipe.Goals as goal
 
@@ -29,3 +31,14 @@ returns-in-Ended-clause-carries g c =
     let acts : Mind → Plan Turn = λ q. act_on top (act_of c.args.recipe.now.action) q in
     let comes = rw c.in-Ended.is at c.in_ok-come_to.ensures.comes in
     (comes acts, tt)
+
+pub returns-in_err-come_to-clause-sure : goal.returns-in_err-come_to-clause-sure
+returns-in_err-come_to-clause-sure g c =
+    let nothing : Mind → Plan Turn = λ q. Ends (GoesOn q) in
+    on_err _ _ (judging_may (top_of c.args.recipe.now) (mind_of c.args.process.now) _ _ _ _ (c.in_err-come_to.ensures.memory nothing))
+
+pub returns-in-Acts-clause-sure : goal.returns-in-Acts-clause-sure
+returns-in-Acts-clause-sure g c =
+    let nothing : Mind → Plan Turn = λ q. Ends (GoesOn q) in
+    let comes = rw c.in-Acts.is at c.in_ok-come_to.ensures.comes in
+    err_map c.act.result _ _ (λ u. acting_may (top_of c.args.recipe.now) (mind_of c.args.process.now) (mind_of c.come_to.new.process) _ _ _ _ _ (comes nothing) u) c.act.ensures.sure

@@ -1,7 +1,8 @@
-use Rattle.std.proofs.Common.{rules, sym, ap, ◌∙◌}
+use Rattle.std.proofs.Common.{[], append-nil, rules, sym, ap, ◌∙◌}
 use Rattle.pm_journal.specs.Entries.{unlock_reply}
 use Rattle.pm_journal.proofs.WantsMemory.{on_err}
 use Rattle.pm_meaning.specs.Minds.{mind_of}
+use Rattle.pm_run.proofs.MayLemmas.{stuck_may}
 use Rattle.pm_run.proofs.LeaveLemmas.{stuck_told, stuck_out, unlocked_out}
 use Rattle.pm_run.proofs.leaving.give_held.Goals as goal
 
@@ -23,3 +24,12 @@ returns-in_ok-tell-clause-carries g c =
           (ap (λ l. record p { locks = l }) c.give-removed.ensures.names) c.in_ok-tell.ensures.carries.0,
       tt,
     )
+
+pub returns-in_err-line-clause-stuck : goal.returns-in_err-line-clause-stuck
+returns-in_err-line-clause-stuck g c =
+    on_err _ _ (stuck_may c.args.name.now (unlock_reply c.give-removed.result) c.args.journal.now c.give-removed.new.journal c.give-removed.new.journal _ _ [] c.give-removed.ensures.notes (sym c.is_stuck.ensures ∙ c.if-is_stuck.true) (sym (append-nil _)))
+
+pub returns-in_err-tell-clause-stuck : goal.returns-in_err-tell-clause-stuck
+returns-in_err-tell-clause-stuck g c =
+    let out = c.in_err-tell.ensures.carries.1 in
+    on_err _ _ (stuck_may c.args.name.now (unlock_reply c.give-removed.result) c.args.journal.now c.give-removed.new.journal c.tell.new.journal _ _ out.more c.give-removed.ensures.notes (sym c.is_stuck.ensures ∙ c.if-is_stuck.true) out.entries)

@@ -16,7 +16,7 @@ returns-in_err-give_maybe-in-Some-clause-walks g c =
     let f = c.loop-open.frame in
     let outer = outer_locks f.outer.items in
     let locks = frame_locks f.blocks.items c.pop_front.new.self.items c.in-Some.open outer c.in-Some.ensures.items in
-    (search rules, on_err _ _ (leave_wants start (all_locks f) c.args.end (mind_of c.loop-open.process) _ _ _ _ c.loop-open.invariant.reaches c.in-Some.open.lock _ _ _ locks c.in_err-give_maybe-in-Some.ensures.carries.1))
+    (search rules, on_err _ _ (leave_wants start (all_locks f) c.args.end (mind_of c.loop-open.process) _ _ _ _ c.loop-open.invariant.reaches c.in-Some.open.lock _ _ _ locks c.in_err-give_maybe-in-Some.ensures.carries.1 c.in_err-give_maybe-in-Some.ensures.stuck))
 
 pub loop-open-preserved-in_ok-give_maybe-in-Some : goal.loop-open-preserved-in_ok-give_maybe-in-Some
 loop-open-preserved-in_ok-give_maybe-in-Some g c =

@@ -15,17 +15,17 @@ run_to_end-ended-requires g c = record { keeping = subst (Keeping c.loop-copy.jo
 
 pub loop-copy-preserved : goal.loop-copy-preserved
 loop-copy-preserved g c =
-    let popped = record c.loop-copy.queue { copies = c.pop_front.new.self } in
+    let popped = c.next.new.self in
     record {
-      goes = copy_ran (next_in c.args.queue c.args.first c.args.counts) c.loop-copy.queue popped c.run_to_end-ended.new.queue c.in-Some.copy c.args.first c.loop-copy.counted _ _ _ _ _ _ c.in-Some.ensures.items refl c.loop-copy.invariant.goes
+      goes = copy_ran (next_in c.args.queue c.args.first c.args.counts) c.loop-copy.queue popped c.run_to_end-ended.new.queue c.in-Some.copy c.args.first c.loop-copy.counted _ _ _ _ _ _ c.in-Some.ensures.items c.next.ensures.made c.loop-copy.invariant.goes
           c.in_ok-ended.field-0 (mind_of c.run_to_end-ended.new.process) c.counts_of-counted.result _ _ (λ first. (c.in_ok-ended.ensures.proceeds first).0) c.counts_of-counted.ensures.placed c.counts_of-counted.ensures.openings c.give_all.ensures.gives;
       keeping = c.give_all.ensures.keeping;
     }
 
 pub returns-in_err-ended-clause-memory : goal.returns-in_err-ended-clause-memory
 returns-in_err-ended-clause-memory g c =
-    let popped = record c.loop-copy.queue { copies = c.pop_front.new.self } in
-    on_err _ _ (copy_wants (next_in c.args.queue c.args.first c.args.counts) c.loop-copy.queue popped c.run_to_end-ended.new.queue c.in-Some.copy c.args.first c.loop-copy.counted _ _ _ _ _ _ c.in-Some.ensures.items refl c.loop-copy.invariant.goes
+    let popped = c.next.new.self in
+    on_err _ _ (copy_wants (next_in c.args.queue c.args.first c.args.counts) c.loop-copy.queue popped c.run_to_end-ended.new.queue c.in-Some.copy c.args.first c.loop-copy.counted _ _ _ _ _ _ c.in-Some.ensures.items c.next.ensures.made c.loop-copy.invariant.goes
     _ _ _ (λ first. (c.in_err-ended.ensures.proceeds first).1) c.give_all.ensures.gives c.requires.keeping c.run_to_end-ended.ensures.keeping)
 
 pub returns-clause-ok : goal.returns-clause-ok
@@ -34,4 +34,4 @@ returns-clause-ok g c =
     all_done (next_in c.args.queue c.args.first c.args.counts) (next_in c.loop-copy.queue c.args.first c.loop-copy.counted) c.args.first _ _ _ _ (none_next c.loop-copy.queue c.args.first c.loop-copy.counted none) c.loop-copy.invariant.goes
 
 pub loop-copy-smaller : goal.loop-copy-smaller
-loop-copy-smaller g c = omega (arith, c.run_to_end-ended.ensures.few, ap length c.in-Some.ensures.items)
+loop-copy-smaller g c = omega (arith, c.run_to_end-ended.ensures.few, c.next.ensures.made, ap length c.in-Some.ensures.items)

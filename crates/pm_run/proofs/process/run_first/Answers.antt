@@ -1,6 +1,5 @@
 use Rattle.std.proofs.Common.{[], rules, sym, subst}
 use Rattle.pm_journal.specs.Walking.{Reaches}
-use Rattle.pm_journal.proofs.WalkJoin.{interrupted_reached}
 use Rattle.pm_journal.proofs.WantsMemory.{on_err}
 use Rattle.pm_meaning.specs.FirstValues.{home_folder}
 use Rattle.pm_meaning.specs.Minds.{mind_of}
@@ -9,6 +8,8 @@ use Rattle.pm_meaning.specs.Running.{Event, Setting, Running, Over, Closing, hom
 use Rattle.pm_meaning.proofs.Choices.{ok_map, err_map}
 use Rattle.pm_run.specs.Copies.{others_of}
 use Rattle.pm_run.specs.Frames.{items_of}
+use Rattle.pm_run.specs.RunningOut.{RunMayRunOut}
+use Rattle.pm_run.proofs.RunOutLemmas.{ran_out_reached}
 use Rattle.pm_run.proofs.RunLemmas.{reaches_on, lifted, lifted_out, runs_walk, runs_out}
 use Rattle.pm_run.proofs.process.run_first.Goals as goal
 
@@ -33,7 +34,7 @@ returns-in-Read-clause-proceeds g c =
     let runs = lifted queue start left c.args.journal.now c.begin_rcfiles.new.journal (g.D.Asks.told c.args.outside.now) (g.D.Asks.told c.begin_rcfiles.new.outside) reaches in
     λ first. (
       ok_map c.run_to_end.result _ _ (λ ending h. reaches_on advance (now_at (others_of queue first) start) (now_at (others_of queue first) left) (now_at (others_of later first) (Closing ending (mind_of c.run_to_end.new.process))) c.args.journal.now c.begin_rcfiles.new.journal c.run_to_end.new.journal _ _ _ (runs first) h) (c.run_to_end.ensures.proceeds first).0,
-      err_map c.run_to_end.result _ _ (λ h. interrupted_reached advance (now_at (others_of queue first) start) (now_at (others_of queue first) left) c.args.journal.now c.begin_rcfiles.new.journal c.run_to_end.new.journal _ _ _ (runs first) h) (c.run_to_end.ensures.proceeds first).1,
+      err_map c.run_to_end.result _ _ (λ h. ran_out_reached advance RunMayRunOut (now_at (others_of queue first) start) (now_at (others_of queue first) left) c.args.journal.now c.begin_rcfiles.new.journal c.run_to_end.new.journal _ _ _ (runs first) h) (c.run_to_end.ensures.proceeds first).1,
     )
 
 pub returns-in-Ended-clause-proceeds : goal.returns-in-Ended-clause-proceeds

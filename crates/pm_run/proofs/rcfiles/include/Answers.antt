@@ -1,17 +1,18 @@
 use Rattle.std.proofs.Common.{ap}
-use Rattle.pm_journal.proofs.WalkJoin.{interrupted_at_once}
 use Rattle.pm_journal.proofs.WantsMemory.{on_err}
 use Rattle.pm_meaning.specs.Minds.{mind_of}
 use Rattle.pm_meaning.specs.Running.{Including, included, step}
 use Rattle.pm_meaning.proofs.Choices.{ok_map}
 use Rattle.pm_run.specs.Frames.{items_of}
+use Rattle.pm_run.specs.RunningOut.{MayRunOut}
+use Rattle.pm_run.proofs.RunOutLemmas.{ran_out_at_once}
 use Rattle.pm_run.proofs.RcfileLemmas.{none_included, none_falls, some_wants, some_included, some_falls}
 use Rattle.pm_run.proofs.rcfiles.include.Goals as goal
 
 pub returns-in-Err-clause-walks : goal.returns-in-Err-clause-walks
 returns-in-Err-clause-walks g c =
     let items = items_of c.args.frame.now in
-    (tt, interrupted_at_once step (Including c.args.name items (mind_of c.args.process.now)) _ _ _ _ (c.in-Err.ensures.memory items (included c.args.name items)))
+    (tt, ran_out_at_once step MayRunOut (Including c.args.name items (mind_of c.args.process.now)) _ _ _ _ (c.in-Err.ensures.memory items (included c.args.name items)) (λ more e. tt))
 
 pub returns-in-None-clause-walks : goal.returns-in-None-clause-walks
 returns-in-None-clause-walks g c =

@@ -1,12 +1,13 @@
 use Rattle.std.proofs.Common.{subst, ap}
 use Rattle.pm_journal.specs.Walking.{Reaches}
-use Rattle.pm_journal.proofs.WalkJoin.{interrupted_at_once, interrupted_reached}
 use Rattle.pm_meaning.specs.Blocks.{begun_block}
 use Rattle.pm_meaning.specs.Changes.{with_rcfile}
 use Rattle.pm_meaning.specs.Minds.{mind_of}
 use Rattle.pm_meaning.specs.Running.{Running, Switching, LeavingFile, switched, ahead, step, Event}
 use Rattle.pm_meaning.proofs.Choices.{ok_map, err_map}
 use Rattle.pm_run.specs.Frames.{items_of, outer_items, block_locks}
+use Rattle.pm_run.specs.RunningOut.{MayRunOut}
+use Rattle.pm_run.proofs.RunOutLemmas.{ran_out_at_once, ran_out_reached}
 use Rattle.pm_run.proofs.RunLemmas.{reaches_on}
 use Rattle.pm_run.proofs.RcfileLemmas.{ok_both, none_switched, none_falls, some_switched, place_taken, place_falls}
 use Rattle.pm_run.proofs.rcfiles.switch.Goals as goal
@@ -14,7 +15,7 @@ use Rattle.pm_run.proofs.rcfiles.switch.Goals as goal
 pub returns-in-Err-clause-walks : goal.returns-in-Err-clause-walks
 returns-in-Err-clause-walks g c =
     let items = items_of c.args.frame.now in
-    (tt, interrupted_at_once step (Switching c.args.name items (mind_of c.args.process.now)) _ _ _ _ (c.in-Err.ensures.memory items (switched c.args.name items)))
+    (tt, ran_out_at_once step MayRunOut (Switching c.args.name items (mind_of c.args.process.now)) _ _ _ _ (c.in-Err.ensures.memory items (switched c.args.name items)) (λ more e. tt))
 
 pub returns-in-None-clause-walks : goal.returns-in-None-clause-walks
 returns-in-None-clause-walks g c =
@@ -43,7 +44,7 @@ returns-in-Some-clause-walks g c =
       ok_both c.take_place.result _ _ _ (λ _ h takes. subst (λ l. Reaches {X = Event} step start (Running l r) c.args.journal.now c.take_place.new.journal (g.D.Asks.told c.args.outside.now) (g.D.Asks.told c.take_place.new.outside))
           (place_taken name code f p q c.args.journal.now c.open_code.new.journal (g.D.Asks.told c.args.outside.now) (g.D.Asks.told c.open_code.new.outside) opens c.take_place.new.frame takes)
           (reaches_on step start middle (Running items r) _ _ _ _ _ _ first h)) (c.take_place.ensures.walks items).0 c.take_place.ensures.takes,
-      err_map c.take_place.result _ _ (λ h. interrupted_reached step start middle _ _ _ _ _ _ first h) (c.take_place.ensures.walks items).1,
+      err_map c.take_place.result _ _ (λ h. ran_out_reached step MayRunOut start middle _ _ _ _ _ _ first h) (c.take_place.ensures.walks items).1,
     )
 
 pub returns-in-Some-clause-falls : goal.returns-in-Some-clause-falls

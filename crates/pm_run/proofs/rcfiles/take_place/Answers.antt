@@ -1,26 +1,27 @@
 use Rattle.std.proofs.Common.{refl}
-use Rattle.pm_journal.specs.Walking.{Reaches, Interrupted}
-use Rattle.pm_journal.proofs.WalkJoin.{interrupted_at_once}
+use Rattle.pm_journal.specs.Walking.{Reaches}
 use Rattle.pm_journal.proofs.WantsMemory.{out_anywhere}
 use Rattle.pm_meaning.specs.Blocks.{begun_block}
 use Rattle.pm_meaning.specs.Changes.{with_rcfile}
 use Rattle.pm_meaning.specs.Minds.{mind_of}
 use Rattle.pm_meaning.specs.Running.{Running, LeavingFile, step, Event}
 use Rattle.pm_run.specs.Frames.{block_locks}
+use Rattle.pm_run.specs.RunningOut.{MayRunOut, RunsOut}
+use Rattle.pm_run.proofs.RunOutLemmas.{ran_out_at_once}
 use Rattle.pm_run.proofs.RcfileLemmas.{taken}
 use Rattle.pm_run.proofs.rcfiles.take_place.Goals as goal
 
 pub returns-in-Err-clause-walks : goal.returns-in-Err-clause-walks
 returns-in-Err-clause-walks g c = λ items.
     let start = LeavingFile (block_locks c.args.frame.now.blocks.items) items (begun_block (with_rcfile c.args.name (mind_of c.args.process.now))) in
-    (tt, interrupted_at_once step start _ _ _ _ (out_anywhere (step start) _ _ _ refl))
+    (tt, ran_out_at_once step MayRunOut start _ _ _ _ (out_anywhere (step start) _ _ _ refl) (λ more e. tt))
 
 pub returns-in-Err-leave_file-clause-walks : goal.returns-in-Err-leave_file-clause-walks
 returns-in-Err-leave_file-clause-walks g c = λ items.
     let locks = block_locks c.args.frame.now.blocks.items in (
       tt,
       taken c.args.name (mind_of c.args.process.now) c.set_rcfile.new.self c.new_chain-process.result
-          (λ m. Interrupted {X = Event} step (LeavingFile locks items m) c.args.journal.now c.leave_file.new.journal (g.D.Asks.told c.args.outside.now) (g.D.Asks.told c.leave_file.new.outside))
+          (λ m. RunsOut {X = Event} step MayRunOut (LeavingFile locks items m) c.args.journal.now c.leave_file.new.journal (g.D.Asks.told c.args.outside.now) (g.D.Asks.told c.leave_file.new.outside))
           c.in-Ok.ensures.ok c.new_chain-process.ensures (c.in-Err-leave_file.ensures.walks items).1,
     )
 

@@ -1,8 +1,9 @@
-use Rattle.std.proofs.Common.{refl, ap}
+use Rattle.std.proofs.Common.{refl, ap, rules}
 use Rattle.pm_code.specs.Flat.{flat_of}
 use Rattle.pm_meaning.specs.Minds.{mind_of}
 use Rattle.pm_meaning.proofs.Choices.{ok_map, err_map}
-use Rattle.pm_run.proofs.WalkLemmas.{by_step, by_step_out, no_statement}
+use Rattle.pm_journal.proofs.WantsMemory.{on_err}
+use Rattle.pm_run.proofs.WalkLemmas.{by_step, by_step_out, no_statement, plain_done, recipe_may_out, assign_may_out, unset_may_out, defect_may_out}
 use Rattle.pm_run.proofs.statements.run_statement.Goals as goal
 
 pub returns-in-Assign-clause-carries : goal.returns-in-Assign-clause-carries
@@ -15,14 +16,23 @@ returns-in-Unset-clause-carries g c =
     let h = rw c.as_slice-in-Unset.ensures at c.unset_variable.ensures.carries in
     (ok_map _ _ _ (λ end k. by_step c.args.step.now _ (mind_of c.args.process.now) _ _ _ _ _ c.in-Unset.is k) h.0, err_map _ _ _ (λ k. by_step_out c.args.step.now _ (mind_of c.args.process.now) _ _ _ _ c.in-Unset.is k) h.1)
 
-pub returns-in-Plain-clause-carries : goal.returns-in-Plain-clause-carries
-returns-in-Plain-clause-carries g c =
-    let h = c.turned_by.ensures _ _ _ _ _ _ c.run_recipe.ensures.carries in
-    (ok_map _ _ _ (λ end k. by_step c.args.step.now _ (mind_of c.args.process.now) _ _ _ _ _ c.in-Plain.is k) h.0, err_map _ _ _ (λ k. by_step_out c.args.step.now _ (mind_of c.args.process.now) _ _ _ _ c.in-Plain.is k) h.1)
+pub returns-in_err-ended-in-Plain-clause-carries : goal.returns-in_err-ended-in-Plain-clause-carries
+returns-in_err-ended-in-Plain-clause-carries g c =
+    (search rules, on_err _ _ (by_step_out c.args.step.now _ (mind_of c.args.process.now) _ _ _ _ c.in-Plain.is c.in_err-ended-in-Plain.ensures.carries.1))
+
+pub returns-in_err-ended-in-Plain-clause-sure : goal.returns-in_err-ended-in-Plain-clause-sure
+returns-in_err-ended-in-Plain-clause-sure g c =
+    let recipe = c.in-Plain.recipe in
+    on_err _ _ (recipe_may_out c.args.step.now recipe (mind_of c.args.process.now) c.args.journal.now c.run_recipe.new.journal c.in-Plain.is c.in_err-ended-in-Plain.ensures.sure)
+
+pub returns-in_ok-ended-in-Plain-clause-carries : goal.returns-in_ok-ended-in-Plain-clause-carries
+returns-in_ok-ended-in-Plain-clause-carries g c =
+    let q = mind_of c.run_recipe.new.process in
+    (plain_done c.args.step.now _ c.in_ok-ended-in-Plain.ended c.turned_of.result (mind_of c.args.process.now) q _ _ _ _ c.in-Plain.is (c.turned_of.ensures q) c.in_ok-ended-in-Plain.ensures.carries.0, tt)
 
 pub returns-in-Defect-clause-carries : goal.returns-in-Defect-clause-carries
 returns-in-Defect-clause-carries g c =
-    let h = rw c.as_slice-in-Defect.ensures at (c.turned_by-in-Defect.ensures _ _ _ _ _ _ c.skip_line.ensures.carries) in
+    let h = rw c.as_slice-in-Defect.ensures at (c.turned_by.ensures _ _ _ _ _ _ c.skip_line.ensures.carries) in
     (ok_map _ _ _ (λ end k. by_step c.args.step.now _ (mind_of c.args.process.now) _ _ _ _ _ c.in-Defect.is k) h.0, err_map _ _ _ (λ k. by_step_out c.args.step.now _ (mind_of c.args.process.now) _ _ _ _ c.in-Defect.is k) h.1)
 
 pub returns-in-Enter-clause-carries : goal.returns-in-Enter-clause-carries
@@ -30,3 +40,12 @@ returns-in-Enter-clause-carries g c = (no_statement c.args.step.now _ (mind_of c
 
 pub returns-in-Leave-clause-carries : goal.returns-in-Leave-clause-carries
 returns-in-Leave-clause-carries g c = (no_statement c.args.step.now _ (mind_of c.args.process.now) _ _ (ap flat_of c.in-Leave.is) refl, tt)
+
+pub returns-in-Assign-clause-sure : goal.returns-in-Assign-clause-sure
+returns-in-Assign-clause-sure g c = on_err _ _ (assign_may_out c.args.step.now _ _ (mind_of c.args.process.now) c.args.journal.now c.assign_text.new.journal c.in-Assign.is)
+
+pub returns-in-Unset-clause-sure : goal.returns-in-Unset-clause-sure
+returns-in-Unset-clause-sure g c = on_err _ _ (unset_may_out c.args.step.now _ (mind_of c.args.process.now) c.args.journal.now c.unset_variable.new.journal c.in-Unset.is)
+
+pub returns-in-Defect-clause-sure : goal.returns-in-Defect-clause-sure
+returns-in-Defect-clause-sure g c = on_err _ _ (defect_may_out c.args.step.now _ _ (mind_of c.args.process.now) c.args.journal.now c.skip_line.new.journal c.in-Defect.is)

@@ -1,5 +1,4 @@
 use Rattle.std.proofs.Common.{rules, refl}
-use Rattle.pm_journal.proofs.WalkJoin.{interrupted_reached}
 use Rattle.pm_journal.proofs.WantsMemory.{on_err}
 use Rattle.pm_meaning.specs.Minds.{mind_of}
 use Rattle.pm_meaning.specs.declared.process.End.TheVariants.{HostOff}
@@ -8,6 +7,8 @@ use Rattle.pm_meaning.proofs.Choices.{ok_map, err_map}
 use Rattle.pm_run.specs.Frames.{all_locks}
 use Rattle.pm_run.specs.Ends.{halted}
 use Rattle.pm_run.proofs.LeaveLemmas.{halts_over, halts_off, same_left}
+use Rattle.pm_run.specs.RunningOut.{MayRunOut}
+use Rattle.pm_run.proofs.RunOutLemmas.{ran_out_reached}
 use Rattle.pm_run.proofs.RunLemmas.{reaches_on}
 use Rattle.pm_run.proofs.walk.halt.Goals as goal
 
@@ -17,7 +18,7 @@ returns-in-HostOff-clause-walks g c =
     let left = left_by HostOff (mind_of c.leave_blocks.new.process) in
     let off = halts_off start c.args.end (mind_of c.leave_blocks.new.process) c.args.journal.now c.leave_blocks.new.journal (g.D.Asks.told c.args.outside.now) (g.D.Asks.told c.leave_blocks.new.outside) c.in-HostOff.is c.in_ok-leave_blocks.ensures.walks.0 in (
       ok_map c.open_later.result _ _ (λ way h. reaches_on step start left (halted way c.open_later.new.frame (mind_of c.open_later.new.process)) _ _ _ _ _ _ off h) c.open_later.ensures.walks.0,
-      err_map c.open_later.result _ _ (λ h. interrupted_reached step start left _ _ _ _ _ _ off h) c.open_later.ensures.walks.1,
+      err_map c.open_later.result _ _ (λ h. ran_out_reached step MayRunOut start left _ _ _ _ _ _ off h) c.open_later.ensures.walks.1,
     )
 
 pub returns-in_default-clause-walks : goal.returns-in_default-clause-walks

@@ -89,7 +89,7 @@ returns-in-Err-run_statement g c =
     let at = step_in c.in-Some.step.now f.code.steps.items c.deref.result.now f.place c.in-Some.ensures c.deref.ensures.value in
     let d = does_one c.in-Some.step.now c.in_default.not-Enter c.in_default.not-Leave in
     record {
-      walks = (tt, one_wants f c.in-Some.step.now (mind_of c.args.process.now) at d _ _ _ _ c.in-Err-run_statement.ensures.carries.1);
+      walks = (tt, one_wants f c.in-Some.step.now (mind_of c.args.process.now) at d _ _ _ _ c.in-Err-run_statement.ensures.carries.1 c.in-Err-run_statement.ensures.sure);
       keeping = c.in-Err-run_statement.ensures.keeping;
       falls = tt;
       behind = tt;
