@@ -5,10 +5,11 @@ use Rattle.pm_host.specs.declared.calls.Logged.{Logged}
 use Rattle.pm_journal.specs.JournalState.{JournalState}
 use Rattle.pm_journal.specs.Entries.{View, view_of, Accounts}
 use Rattle.pm_journal.specs.Executed.{TakesCalls}
-use Rattle.pm_journal.specs.Walking.{Completes, Abandoned}
+use Rattle.pm_journal.specs.Walking.{Completes}
 use Rattle.pm_journal.specs.declared.acts.Entry.{Entry}
 use Rattle.pm_meaning.specs.Courses.{Course, advance}
 use Rattle.pm_meaning.specs.declared.ending.Ending.{Ending}
+use Rattle.pm_run.specs.RunningOut.{GaveUp}
 
 -- the view without its references
 abbrev pub plain : View → View
@@ -32,37 +33,40 @@ takes_plain calls a b h = record { ran = h.ran; out_same = h.out_same; err_same 
 completes_plain : (c : Course) (end : Ending) (x y : JournalState) (a b : View) → Completes advance c end x y a b → Completes advance c end x y (plain a) (plain b)
 completes_plain s end x y a b h = record { more = h.more; entries = h.entries; means = h.means; accounts = accounts_plain h.more a b h.accounts }
 
-abandoned_plain : (c : Course) (x y : JournalState) (a b : View) → Abandoned {X = Ending} advance c x y a b → Abandoned {X = Ending} advance c x y (plain a) (plain b)
-abandoned_plain s x y a b h = record {
-  done = h.done;
-  given = h.given;
-  entries = h.entries;
-  middle = plain h.middle;
-  accounts = accounts_plain h.done a h.middle h.accounts;
-  left_off = h.left_off;
-  unfinished = h.unfinished;
-  later = plain h.later;
-  took = takes_plain h.left_off h.middle h.later h.took;
-  held = h.held;
-  kept = h.kept;
-  unlocks = h.unlocks;
-  back = accounts_plain h.given h.later b h.back;
+gave_up_plain : (c : Course) (x y : JournalState) (a b : View) → GaveUp c x y a b → GaveUp c x y (plain a) (plain b)
+gave_up_plain s x y a b k = let h = k.abandoned in record {
+  abandoned = record {
+    done = h.done;
+    given = h.given;
+    entries = h.entries;
+    middle = plain h.middle;
+    accounts = accounts_plain h.done a h.middle h.accounts;
+    left_off = h.left_off;
+    unfinished = h.unfinished;
+    later = plain h.later;
+    took = takes_plain h.left_off h.middle h.later h.took;
+    held = h.held;
+    kept = h.kept;
+    unlocks = h.unlocks;
+    back = accounts_plain h.given h.later b h.back;
+  };
+  place = k.place;
 }
 
 pub ends_plain : (c : Course) (result : Result Ending Memory) (x y : JournalState) (a b : View) → IfOk result (λ end. Completes advance c end x y a b) → IfOk result (λ end. Completes advance c end x y (plain a) (plain b))
 ends_plain s (Ok end) x y a b h = completes_plain s end x y a b h
 ends_plain s (Err m) x y a b h = tt
 
-pub starves_plain : (c : Course) (result : Result Ending Memory) (x y : JournalState) (a b : View) → OnErr result (Abandoned {X = Ending} advance c x y a b)
-    → OnErr result (Abandoned {X = Ending} advance c x y (plain a) (plain b))
+pub starves_plain : (c : Course) (result : Result Ending Memory) (x y : JournalState) (a b : View) → OnErr result (GaveUp c x y a b)
+    → OnErr result (GaveUp c x y (plain a) (plain b))
 starves_plain s (Ok end) x y a b h = tt
-starves_plain s (Err m) x y a b h = abandoned_plain s x y a b h
+starves_plain s (Err m) x y a b h = gave_up_plain s x y a b h
 
 -- the references after the process are those before it
 pub lent_back : (c : Course) (result : Result Ending Memory) (x y : JournalState) (a b : View) → IfOk result (λ end. Completes advance c end x y a b)
-    → OnErr result (Abandoned {X = Ending} advance c x y a b) → b.references ≡ a.references
+    → OnErr result (GaveUp c x y a b) → b.references ≡ a.references
 lent_back s (Ok end) x y a b h k = h.accounts.same
-lent_back s (Err m) x y a b h k = k.back.same ∙ (k.took.same ∙ k.accounts.same)
+lent_back s (Err m) x y a b h k = k.abandoned.back.same ∙ (k.abandoned.took.same ∙ k.abandoned.accounts.same)
 
 abbrev first_of : List ℕ → ℕ
 first_of [] = 0

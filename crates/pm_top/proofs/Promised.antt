@@ -23,6 +23,7 @@ use Rattle.pm_meaning.proofs.ClearRun.{clear_is_well}
 use Rattle.pm_meaning.proofs.EndStatus.{end_has_status}
 use Rattle.pm_meaning.proofs.StoredDone.{stored_is_done}
 use Rattle.pm_meaning.proofs.DeliveredLast.{delivered_is_done}
+use Rattle.pm_run.proofs.NotDeliveredLemmas.{has_not_delivered}
 use Rattle.pm_top.proofs.Faultless.{faultless_in}
 use Rattle.pm_top.proofs.Grown.{grown_in, calls_child}
 use Rattle.pm_top.proofs.Refusals.{meaning_of, starved_of, refuses_of}
@@ -111,6 +112,7 @@ promised run t locks child = let a = t.account in record {
     covered = subst AllCovered (sym a.entries_are) (covered_join (done_in run t.how) (given_in run t.how) a.accounts.covered a.back.covered);
   };
   refusals = refuses_of run t.how;
+  undelivered = λ h. has_not_delivered h.place.at h.place.begun h.place.allowed;
   memory = starved_of run t.how;
   complete = λ h clear. clear_is_well end_has_status h.line run.env h.mail run.entries h.ending h.means clear;
   faultless = faultless_in run t.how a;

@@ -4,7 +4,7 @@ use Rattle.pm_host.proofs.RunsJoin.{ran_none}
 use Rattle.pm_journal.specs.JournalState.{JournalState}
 use Rattle.pm_journal.specs.Entries.{View, Accounts}
 use Rattle.pm_journal.specs.Executed.{TakesCalls}
-use Rattle.pm_journal.specs.Walking.{Means, Completes, Abandoned}
+use Rattle.pm_journal.specs.Walking.{Means, Completes}
 use Rattle.pm_journal.proofs.AccountsJoin.{accounts_none}
 use Rattle.pm_top.specs.Words.{command_line}
 use Rattle.pm_meaning.specs.Courses.{advance, run_of}
@@ -13,6 +13,7 @@ use Rattle.pm_meaning.specs.declared.command_line.CommandLine.{CommandLine}
 use Rattle.pm_meaning.specs.declared.ending.Ending.{Ending}
 use Rattle.pm_meaning.specs.declared.status.Status.{Status}
 use Rattle.pm_meaning.specs.declared.status.Status.TheVariants.{Usage, DataError, SystemError, InputOutput}
+use Rattle.pm_run.specs.RunningOut.{GaveUp}
 use Rattle.pm_streams.specs.Reading.{Drained, ReadPast, StopsFailed}
 use Rattle.pm_top.specs.Run.{Run}
 use Rattle.pm_top.specs.Outcome.{SaysLine, LastLine, status_line, Refused, BadWords, ReadFault, TooLong, NotBegun, HasMeaning, LeftOff, Outcome, bad_words, read_fault, too_long, not_begun, left_off, meant}
@@ -81,11 +82,12 @@ meant_run run line mail ending x y middle e is h read drained status hs os last 
 
 -- a process that was left off
 pub left_run : (run : Run) (line : CommandLine) (mail : List ℕ) (x y : JournalState) (last : View) → x.entries ≡ [] → run.entries ≡ y.entries
-    → Abandoned {X = Ending} advance (run_of line run.env mail) x y run.before last → command_line run.words ≡ Some line → Drained mail run.source run.rest → run.status ≡ status_number SystemError
+    → GaveUp (run_of line run.env mail) x y run.before last → command_line run.words ≡ Some line → Drained mail run.source run.rest → run.status ≡ status_number SystemError
     → run.after.host ≡ last.host → run.after.out ≡ last.out → SaysLine (status_line SystemError) last.err run.after.err → Traced run
-left_run run line mail x y last e is h read drained status hs os said =
+left_run run line mail x y last e is gave read drained status hs os said =
+    let h = gave.abandoned in
     let parts : run.entries ≡ h.done ++ h.given = is ∙ (h.entries ∙ ap (λ l. l ++ h.done ++ h.given) e) in
-    let how : LeftOff run = record { status_is = status; line = line; read = read; mail = mail; drained = drained; done = h.done; left_off = h.left_off; unfinished = h.unfinished; held = h.held; kept = h.kept; given = h.given; unlocks = h.unlocks; entries_are = parts } in
+    let how : LeftOff run = record { status_is = status; line = line; read = read; mail = mail; drained = drained; done = h.done; left_off = h.left_off; unfinished = h.unfinished; place = gave.place; held = h.held; kept = h.kept; given = h.given; unlocks = h.unlocks; entries_are = parts } in
     record {
       how = left_off how;
       account = record { entries_are = parts; middle = h.middle; accounts = h.accounts; later = h.later; took = h.took; last = last; back = h.back; stops = tt; host_same = hs; out_same = os; said = said };

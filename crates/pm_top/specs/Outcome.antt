@@ -16,6 +16,7 @@ use Rattle.pm_meaning.specs.declared.process.End.TheVariants.{NoRc}
 use Rattle.pm_meaning.specs.declared.ending.Ending.{Ending}
 use Rattle.pm_meaning.specs.declared.status.Status.{Status}
 use Rattle.pm_meaning.specs.declared.status.Status.TheVariants.{Usage, DataError, NoInput, SystemError, InputOutput}
+use Rattle.pm_run.specs.RunningOut.{RunMayRunOut, RanOutAt}
 use Rattle.pm_streams.specs.Reading.{Drained, ReadPast, StopsFailed}
 use Rattle.pm_top.specs.Run.{Run}
 
@@ -72,7 +73,7 @@ pub record NotBegun (run : Run) : Type 0 where
   pub read : command_line run.words ≡ Some line
   pub refused : Refused SystemError run
 
--- Memory was wanting in the process: after its entries it wanted an act, of which at most some calls were
+-- Memory was wanting in the process, where it may be: after its entries it wanted an act, of which at most some calls were
 -- made, and then the locks that it held were given back.
 pub record LeftOff (run : Run) : Type 0 where
   pub status_is : run.status ≡ status_number SystemError
@@ -83,6 +84,7 @@ pub record LeftOff (run : Run) : Type 0 where
   pub done : List Entry
   pub left_off : List Logged
   pub unfinished : IsUnfinished {X = Ending} advance (run_of line run.env mail) done left_off
+  pub place : RanOutAt {X = Ending} advance RunMayRunOut (run_of line run.env mail) done left_off
   pub held : List (List ℕ)
   pub kept : Keeps [] done held
   pub given : List Entry

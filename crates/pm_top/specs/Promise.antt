@@ -14,6 +14,7 @@ use Rattle.pm_meaning.specs.Courses.{run_of}
 use Rattle.pm_meaning.specs.Laws.{StoredIsDone}
 use Rattle.pm_meaning.specs.RunLaws.{DeliversLast}
 use Rattle.pm_meaning.specs.declared.process.End.TheVariants.{Delivered}
+use Rattle.pm_run.specs.NotDelivered.{HasNotDelivered}
 use Rattle.pm_top.specs.Words.{command_line}
 use Rattle.pm_top.specs.Run.{Run}
 use Rattle.pm_top.specs.Outcome.{BadWords, ReadFault, TooLong, NotBegun, LeftOff, HasMeaning, Outcome, left_off}
@@ -114,6 +115,8 @@ pub record Promise (run : Run) : Type 0 where
   pub causes : HasCauses run how account
   -- what came decides how a run is refused
   pub refusals : Refuses run
+  -- where memory was wanting in the process no recipe had delivered the mail for good, but for what stands in the way of that
+  pub undelivered : (h : LeftOff run) → HasNotDelivered h.place.at h.place.begun
   -- a run with status 71 was starved, or its meaning gives that status
   pub memory : run.status ≡ 71 → IsStarved run ⊎ HasMeaning run
   -- where nothing stands in its way, the first process delivers the mail or goes off on another host, and the status is that of this end

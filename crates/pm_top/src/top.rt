@@ -2,10 +2,10 @@
 ghost use Rattle.std.specs.Prelude.{◌≡◌, [], IfOk, OnErr};
 ghost use Rattle.pm_journal.specs.Entries.{view_of};
 ghost use Rattle.pm_journal.specs.Held.{Keeping};
-ghost use Rattle.pm_journal.specs.Walking.{Completes, Abandoned};
+ghost use Rattle.pm_journal.specs.Walking.{Completes};
 ghost use Rattle.pm_meaning.specs.Courses.{advance, run_of};
 ghost use Rattle.pm_meaning.specs.Status.{status_number};
-ghost use Rattle.pm_meaning.specs.declared.ending.Ending.{Ending};
+ghost use Rattle.pm_run.specs.RunningOut.{GaveUp};
 ghost use Rattle.pm_top.specs.Outcome.{SaysLine, LastLine, status_line};
 ghost use Rattle.pm_top.specs.Promise.{Promise};
 ghost use Rattle.pm_top.specs.Traced.{RunsLine, RunsMail};
@@ -163,7 +163,7 @@ fn run_objects<'a, H: Host, O: Sink, E: Sink>(
         journal.old journal.new
         (view_of (H.told objects.old.host.now) (O.told objects.old.out.now) (E.told objects.old.err.now))
         (view_of (H.told objects.new.host.now) (O.told objects.new.out.now) (E.told objects.new.err.now))) }
-    ensures memory { OnErr result (Abandoned {X = Ending} advance (run_of line env.now bytes)
+    ensures memory { OnErr result (GaveUp (run_of line env.now bytes)
         journal.old journal.new
         (view_of (H.told objects.old.host.now) (O.told objects.old.out.now) (E.told objects.old.err.now))
         (view_of (H.told objects.new.host.now) (O.told objects.new.out.now) (E.told objects.new.err.now))) }
