@@ -1,0 +1,83 @@
+use Rattle.std.proofs.Common.{refl}
+use Rattle.check_fix.proofs.laws.examples.Goals as goal
+
+pub returns-clause-values : goal.returns-clause-values
+returns-clause-values c = record {
+  host = refl;
+  idle = refl;
+  program = refl;
+  all = refl;
+  none = refl;
+  on = refl;
+  off = refl;
+}
+
+pub returns-clause-colons : goal.returns-clause-colons
+returns-clause-colons c = record {
+  block = refl;
+  flags = refl;
+  comment = refl;
+  own = refl;
+  cache = refl;
+  other = refl;
+  filter = refl;
+  waits = refl;
+  mailbox = refl;
+}
+
+pub returns-clause-conditions : goal.returns-clause-conditions
+returns-clause-conditions c = record {
+  great = refl;
+  negative = refl;
+  greatest = refl;
+  none = refl;
+  fraction = refl;
+  size = refl;
+  inverted = refl;
+  number = refl;
+  late = refl;
+  dollar = refl;
+  broken = refl;
+  supreme = refl;
+  braces = refl;
+  variable = refl;
+  backslash = refl;
+  named = refl;
+  end = refl;
+  other_end = refl;
+  anchors = refl;
+  continued = refl;
+}
+
+pub returns-clause-mailboxes : goal.returns-clause-mailboxes
+returns-clause-mailboxes c = record {
+  several = refl;
+  quoted = refl;
+  hash = refl;
+  named = refl;
+  words = refl;
+}
+
+pub returns-clause-calls : goal.returns-clause-calls
+returns-clause-calls c = record {
+  header = refl;
+  body = refl;
+  more = refl;
+  together = refl;
+  blank = refl;
+  apart = refl;
+  renamed = refl;
+  path = refl;
+  removed = refl;
+  cache = refl;
+  short = refl;
+  appended = refl;
+  trust = refl;
+  alone = refl;
+}
+
+pub returns-clause-changes : goal.returns-clause-changes
+returns-clause-changes c = record {
+  overlap = refl;
+  two = refl;
+}

@@ -1,0 +1,9 @@
+use Rattle.std.proofs.Common.{◌≡◌, ◌++◌, length}
+use Rattle.check_fix.specs.Moved.{all_lock_edits}
+use Rattle.check_fix.proofs.moved.put_locks.Given as goal
+
+abbrev pub invariant-loop-form : goal.invariant-loop-form
+invariant-loop-form l = l.edits.items ++ all_lock_edits l.rest l.span ≡ l.fn.edits.items ++ all_lock_edits l.initial.forms l.span
+
+abbrev pub decreases-loop-form : goal.decreases-loop-form
+decreases-loop-form l = length l.rest

@@ -1,0 +1,9 @@
+use Rattle.std.proofs.Common.{◌≡◌, length}
+use Rattle.check_fix.specs.Parts.{from_part}
+use Rattle.check_fix.proofs.parts.from_part.Given as goal
+
+abbrev pub invariant-loop-after : goal.invariant-loop-after
+invariant-loop-after l = from_part l.part l.rest ≡ from_part l.part l.initial.text
+
+abbrev pub decreases-loop-after : goal.decreases-loop-after
+decreases-loop-after l = length l.rest

@@ -1,0 +1,100 @@
+-- What old forms are brought over by, as docs/MOVING.md says.
+use Rattle.std.specs.Prelude.{◌≡◌, ℕ, List, [], ◌∷◌, length, codes}
+use Rattle.pm_recipe.specs.Colon.{lock_of}
+use Rattle.pm_recipe.specs.declared.fronts.Kind.TheVariants.{Mailbox, Pipe}
+use Rattle.check_fix.specs.Calls.{empty_edits, reply_edits, removed_edits, length_edits, appended_edits, trust_edits}
+use Rattle.check_fix.specs.Changes.{chosen, rewritten}
+use Rattle.check_fix.specs.Colons.{automatic_edits, own_lock_edits, cache_lock_edits, wait_edits}
+use Rattle.check_fix.specs.Conditions.{great_edits, size_edits, late_edits, supreme_edits, backslash_edits, end_edits, anchor_edits, continued_edits}
+use Rattle.check_fix.specs.Mailboxes.{several_edits, hash_edits, match_edits}
+use Rattle.check_fix.specs.Values.{host_edits, idle_edits, log_edits, delivered_edits}
+use Rattle.check_fix.specs.declared.edits.Edit.{Edit}
+
+-- a text with these edits
+abbrev pub edited : List Edit → List ℕ → List ℕ
+edited edits text = rewritten (chosen 0 (length text) edits) text
+
+-- assignments and names alone
+pub record OfValues : Type 0 where
+  pub host : edited (host_edits 0 (codes "HOST") []) (codes "HOST") ≡ codes "HOST="
+  pub idle : edited (idle_edits 0 (codes "LINEBUF=65536")) (codes "LINEBUF=65536") ≡ []
+  pub program : edited (idle_edits 0 (codes "COMSAT=`x`")) (codes "COMSAT=`x`") ≡ codes "COMSAT=`x`"
+  pub all : edited (log_edits 0 (codes "LOGABSTRACT=yes") (codes "yes")) (codes "LOGABSTRACT=yes") ≡ codes "LOGABSTRACT=all"
+  pub none : edited (log_edits 0 (codes "LOGABSTRACT=off") (codes "off")) (codes "LOGABSTRACT=off") ≡ codes "LOGABSTRACT=no"
+  pub on : edited (delivered_edits 0 (codes "DELIVERED=on") (codes "on")) (codes "DELIVERED=on") ≡ codes "DELIVERED=yes"
+  -- 3.22 reads this one as no
+  pub off : edited (delivered_edits 0 (codes "DELIVERED=off") (codes "off")) (codes "DELIVERED=off") ≡ codes "DELIVERED=off"
+
+-- by the place of a colon line and its text
+abbrev pub line : (ℕ → List ℕ → List Edit) → List ℕ → List ℕ
+line edits text = edited (edits 0 text) text
+
+-- colon lines
+pub record OfColons : Type 0 where
+  pub block : line automatic_edits (codes ":0:") ≡ codes ":0"
+  pub flags : line automatic_edits (codes ":0 c: # x") ≡ codes ":0 c # x"
+  pub comment : line automatic_edits (codes ":0 # x: y") ≡ codes ":0 # x: y"
+  pub own : line (λ first text. own_lock_edits first text (lock_of text)) (codes ":0: found") ≡ codes ":0: "
+  pub cache : line (λ first text. cache_lock_edits first text (lock_of text)) (codes ":0 Wh: c.lock # x") ≡ codes ":0 Wh # x"
+  pub other : line (λ first text. cache_lock_edits first text (lock_of text)) (codes ":0 Wh") ≡ codes ":0 Wh"
+  pub filter : line (λ first text. wait_edits first text Pipe) (codes ":0 fbh") ≡ codes ":0 fwbh"
+  pub waits : line (λ first text. wait_edits first text Pipe) (codes ":0 fW") ≡ codes ":0 fW"
+  pub mailbox : line (λ first text. wait_edits first text Mailbox) (codes ":0 f:") ≡ codes ":0 f:"
+
+-- conditions
+pub record OfConditions : Type 0 where
+  pub great : line great_edits (codes "* 9876543210^0 x") ≡ codes "* 2147483647^0 x"
+  pub negative : line great_edits (codes "*  -9876543210^1") ≡ codes "*  -2147483647^1"
+  pub greatest : line great_edits (codes "* 2147483647^0 x") ≡ codes "* 2147483647^0 x"
+  -- no weight, and a fraction
+  pub none : line great_edits (codes "* 9876543210^x") ≡ codes "* 9876543210^x"
+  pub fraction : line great_edits (codes "* 9876543210.5^0 x") ≡ codes "* 9876543210.5^0 x"
+  pub size : line size_edits (codes "* < $SIZE") ≡ codes "* $ < $SIZE"
+  pub inverted : line size_edits (codes "* ! > $LIM") ≡ codes "* $ ! > $LIM"
+  pub number : line size_edits (codes "* > 100") ≡ codes "* > 100"
+  pub late : line late_edits (codes "* B ?? 1^1 x") ≡ codes "* 1^1 B ?? x"
+  pub dollar : line late_edits (codes "*$ 5^0 ! x") ≡ codes "* 5^0 $ ! x"
+  pub broken : line late_edits (codes "* B ?? 1.5^1 x") ≡ codes "* B ?? 1.5^1 x"
+  pub supreme : line supreme_edits (codes "*$ -$SUPREME^0 x") ≡ codes "*$ -2147483647^0 x"
+  pub braces : line supreme_edits (codes "*$ ${SUPREME}^1 x") ≡ codes "*$ 2147483647^1 x"
+  pub variable : line supreme_edits (codes "*$ $X^0 x") ≡ codes "*$ $X^0 x"
+  pub backslash : line backslash_edits (codes "* \\<joe") ≡ codes "* ()\\<joe"
+  pub named : line backslash_edits (codes "* B ?? \\.exe") ≡ codes "* B ?? ()\\.exe"
+  pub end : line end_edits (codes "* ^X: \\/.*$") ≡ codes "* ^X: \\/.*"
+  pub other_end : line end_edits (codes "* ^X: \\/y$") ≡ codes "* ^X: \\/y$"
+  pub anchors : line anchor_edits (codes "* ^X:.*$^Cc:") ≡ codes "* ^X:.*$Cc:"
+  pub continued : line continued_edits (codes "*$ ^X:\\\n  y") ≡ codes "*$ ^X:\\\ny"
+
+-- mailboxes
+pub record OfMailboxes : Type 0 where
+  pub several : line several_edits (codes "my mail") ≡ codes "my"
+  pub quoted : line several_edits (codes "\"my mail\" x") ≡ codes "\"my mail\" x"
+  pub hash : line hash_edits (codes "mbox#1") ≡ codes "mbox #1"
+  pub named : line match_edits (codes "l-$MATCH") ≡ codes "\"l-$MATCH\""
+  pub words : line match_edits (codes "l-$MATCH x") ≡ codes "l-$MATCH x"
+
+-- calls of formail
+pub record OfCalls : Type 0 where
+  pub header : line empty_edits (codes "| formail -X \"\"") ≡ codes "| sed -e '/^$/q'"
+  pub body : line empty_edits (codes "| $FORMAIL -I ''") ≡ codes "| sed -n -e '/^$/,$p'"
+  pub more : line empty_edits (codes "| formail -X \"\" -A x") ≡ codes "| formail -X \"\" -A x"
+  pub together : line reply_edits (codes "T=`formail -rtzxTo:`") ≡ codes "T=`formail -rt | formail -zxTo:`"
+  pub blank : line reply_edits (codes "| formail -rtzx To:") ≡ codes "| formail -rt | formail -zx To:"
+  pub apart : line reply_edits (codes "| $FORMAIL -rt -xTo:") ≡ codes "| $FORMAIL -rt | $FORMAIL -xTo:"
+  pub renamed : line reply_edits (codes "| formail -rt -R a b") ≡ codes "| formail -rt -R a b"
+  pub path : line reply_edits (codes "| /usr/bin/formail -rxTo:") ≡ codes "| /usr/bin/formail -rxTo:"
+  pub removed : line removed_edits (codes "| formail -I 'From '") ≡ codes "| formail -f -I 'From '"
+  pub cache : line length_edits (codes "| formail -D 2000000 c") ≡ codes "| formail -D 1048576 c"
+  pub short : line length_edits (codes "| formail -D 8192 c") ≡ codes "| formail -D 8192 c"
+  pub appended : line appended_edits (codes "| formail -f >>o") ≡ codes "| formail >>o"
+  pub trust : line trust_edits (codes "| formail -txTo:") ≡ codes "| formail -xTo:"
+  pub alone : line trust_edits (codes "| formail -t") ≡ codes "| formail"
+
+-- changes of a text
+pub record OfChanges : Type 0 where
+  -- the second begins before the first ends, and the last is outside of the text
+  pub overlap : edited ((record { first = 0; place = 1; count = 2; bytes = codes "x" })
+      ∷ (record { first = 2; place = 0; count = 1; bytes = codes "y" }) ∷ (record { first = 4; place = 1; count = 2; bytes = [] }) ∷ [])
+      (codes "abcdef") ≡ codes "axdef"
+  pub two : edited ((record { first = 0; place = 1; count = 2; bytes = codes "x" })
+      ∷ (record { first = 3; place = 0; count = 0; bytes = codes "yz" }) ∷ []) (codes "abcdef") ≡ codes "axyzdef"

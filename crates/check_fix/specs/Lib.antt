@@ -1,0 +1,12 @@
+pub mod Parts
+pub mod Edits
+pub mod Values
+pub mod Colons
+pub mod Conditions
+pub mod Mailboxes
+pub mod Calls
+pub mod Moved
+pub mod Spans
+pub mod Changes
+pub mod Fixes
+pub mod Examples

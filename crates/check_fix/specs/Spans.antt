@@ -1,0 +1,56 @@
+-- The edits of an rcfile, span for span.
+use Rattle.std.specs.Prelude.{ℕ, Bool, true, false, List, [], ◌∷◌, ◌++◌, nat_eq, nat_lt, nat_le, if◌then◌else◌}
+use Rattle.pm_recipe.specs.declared.fronts.Kind.{Kind}
+use Rattle.pm_recipe.specs.declared.fronts.Kind.TheVariants as kind
+use Rattle.pm_recipe.specs.declared.spans.Span.{Span}
+use Rattle.check_moving.specs.declared.finding.Finding.{Finding}
+use Rattle.check_moving.specs.declared.form.Form.{Form}
+use Rattle.check_fix.specs.Colons.{wait_edits}
+use Rattle.check_fix.specs.Conditions.{great_edits, size_edits}
+use Rattle.check_fix.specs.Moved.{all_form_edits, all_lock_edits}
+use Rattle.check_fix.specs.declared.edits.Edit.{Edit}
+
+-- the forms at a place; findings are in the order of their places
+abbrev pub forms_at : ℕ → List Finding → List Form
+forms_at place [] = []
+forms_at place (finding ∷ findings) =
+    if nat_lt finding.first place then forms_at place findings
+    else if nat_eq finding.first place then finding.form ∷ forms_at place findings
+    else []
+
+-- the findings after a place
+abbrev pub later_than : ℕ → List Finding → List Finding
+later_than place [] = []
+later_than place (finding ∷ findings) = if nat_le finding.first place then later_than place findings else finding ∷ findings
+
+-- what can stand between a colon line and its action
+abbrev pub is_between : Kind → Bool
+is_between kind.Gap = true
+is_between kind.Condition = true
+is_between _ = false
+
+-- the spans from the action of a recipe on
+abbrev pub from_action : List Span → List Span
+from_action [] = []
+from_action (span ∷ spans) = if is_between span.kind then from_action spans else span ∷ spans
+
+-- a colon line before its action, and the spans after that one
+abbrev pub colon_edits : Span → List Span → List Finding → List Edit
+colon_edits span [] findings = []
+colon_edits span (action ∷ spans) findings = wait_edits span.first span.bytes.now action.kind ++ all_lock_edits (forms_at action.first findings) span
+
+-- what needs no finding: weights above the greatest, sizes by variables, and filters that aren't waited for
+abbrev pub kind_edits : Kind → Span → List Span → List Finding → List Edit
+kind_edits kind.Condition span spans findings = great_edits span.first span.bytes.now ++ size_edits span.first span.bytes.now
+kind_edits kind.Colon span spans findings = colon_edits span (from_action spans) findings
+kind_edits _ span spans findings = []
+
+-- a span before these
+abbrev pub span_edits : Span → List Span → List Finding → List Edit
+span_edits span spans findings =
+    all_form_edits (forms_at span.first findings) span spans ++ kind_edits span.kind span spans findings
+
+-- all spans
+abbrev pub edits_of : List Span → List Finding → List Edit
+edits_of [] findings = []
+edits_of (span ∷ spans) findings = span_edits span spans findings ++ edits_of spans (later_than span.first findings)

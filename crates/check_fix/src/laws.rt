@@ -1,0 +1,12 @@
+//! What the definitions say of short texts.
+ghost use Rattle.check_fix.specs.Examples.{OfValues, OfColons, OfConditions, OfMailboxes, OfCalls, OfChanges};
+
+/// What old forms are brought over by.
+pub fn examples()
+    ensures values { OfValues }
+    ensures colons { OfColons }
+    ensures conditions { OfConditions }
+    ensures mailboxes { OfMailboxes }
+    ensures calls { OfCalls }
+    ensures changes { OfChanges }
+{}

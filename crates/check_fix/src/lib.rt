@@ -1,0 +1,22 @@
+//! An rcfile of procmail 3.22 with those forms brought over that can be without asking (procmail-check(1), `--fix`):
+//! the changes, the new text, and what is left in it.
+#![tactic(auto)]
+
+mod calls;
+mod changes;
+mod colons;
+mod conditions;
+mod edits;
+mod fixing;
+mod laws;
+mod mailboxes;
+mod moved;
+mod parts;
+mod searches;
+mod spans;
+mod values;
+
+pub use changes::Change;
+pub use fixing::{Fix, FixRefused, Outcome, bring_over};
+pub use laws::examples;
+pub use moved::moves;

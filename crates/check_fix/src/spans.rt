@@ -1,0 +1,134 @@
+//! The edits of an rcfile, span for span.
+ghost use Rattle.std.specs.Prelude.{◌≡◌, ◌++◌, IfOk, OnOk};
+ghost use Rattle.check_fix.specs.Spans.{forms_at as at_place, later_than as after_place, is_between as between};
+ghost use Rattle.check_fix.specs.Spans.{from_action as at_action, colon_edits, kind_edits, span_edits};
+ghost use Rattle.check_fix.specs.Spans.{edits_of as span_by_span};
+
+use crate::colons::put_wait;
+use crate::conditions::{put_great, put_size};
+use crate::edits::Edit;
+use crate::moved::{put_forms, put_locks};
+use check_moving::{Finding, Form};
+use pm_bytes::Memory;
+use pm_recipe::{Kind, Span};
+use std::alloc::Global;
+
+fn forms_at(alloc: Global, place: usize, findings: &[Finding]) -> Result<Vec<Form>, Memory>
+    ensures { IfOk result (λ forms. forms.items ≡ at_place place findings.now) }
+{
+    let mut forms = Vec::new(alloc);
+    let mut rest = findings;
+    while let Some((finding, later)) = rest.split_first() {
+        if finding.first > place {
+            return Ok(forms);
+        }
+        if finding.first == place {
+            forms.push(finding.form)?;
+        }
+        rest = later;
+    }
+    Ok(forms)
+}
+
+fn later_than(place: usize, findings: &[Finding]) -> &[Finding]
+    ensures { result.now ≡ after_place place findings.now }
+{
+    let mut rest = findings;
+    while let Some((finding, later)) = rest.split_first() {
+        if finding.first > place {
+            return rest;
+        }
+        rest = later;
+    }
+    rest
+}
+
+fn is_between(kind: Kind) -> bool
+    ensures { result ≡ between kind }
+{
+    match kind {
+        Kind::Gap | Kind::Condition => true,
+        _ => false,
+    }
+}
+
+fn from_action<'a, 'b>(spans: &'a [Span<'b>]) -> &'a [Span<'b>]
+    ensures { result.now ≡ at_action spans.now }
+{
+    for i in 0..spans.len() {
+        if !is_between(spans[i].kind) {
+            return &spans[i..];
+        }
+    }
+    &[]
+}
+
+fn put_colon(
+    alloc: Global,
+    span: &Span<'_>,
+    action: &[Span<'_>],
+    findings: &[Finding],
+    edits: &mut Vec<Edit>,
+) -> Result<(), Memory>
+    ensures { OnOk result (edits.new.items ≡ edits.old.items ++ colon_edits span.now action.now findings.now) }
+{
+    match action.split_first() {
+        None => Ok(()),
+        Some((action, _)) => {
+            let forms = forms_at(alloc, action.first, findings)?;
+            put_wait(alloc, span, action.kind, edits)?;
+            put_locks(alloc, forms.as_slice(), span, edits)
+        }
+    }
+}
+
+fn put_kind(
+    alloc: Global,
+    span: &Span<'_>,
+    spans: &[Span<'_>],
+    findings: &[Finding],
+    edits: &mut Vec<Edit>,
+) -> Result<(), Memory>
+    ensures { OnOk result (edits.new.items
+        ≡ edits.old.items ++ kind_edits span.now.kind span.now spans.now findings.now) }
+{
+    match span.kind {
+        Kind::Condition => {
+            put_great(alloc, span, edits)?;
+            put_size(alloc, span, edits)
+        }
+        Kind::Colon => put_colon(alloc, span, from_action(spans), findings, edits),
+        _ => Ok(()),
+    }
+}
+
+fn put_span(
+    alloc: Global,
+    span: &Span<'_>,
+    spans: &[Span<'_>],
+    findings: &[Finding],
+    edits: &mut Vec<Edit>,
+) -> Result<(), Memory>
+    ensures { OnOk result (edits.new.items ≡ edits.old.items ++ span_edits span.now spans.now findings.now) }
+{
+    let forms = forms_at(alloc, span.first, findings)?;
+    put_forms(alloc, forms.as_slice(), span, spans, edits)?;
+    put_kind(alloc, span, spans, findings, edits)
+}
+
+/// The edits of these spans, in which these forms were found.
+pub fn edits_of(
+    alloc: Global,
+    spans: &[Span<'_>],
+    findings: &[Finding],
+) -> Result<Vec<Edit>, Memory>
+    ensures { IfOk result (λ edits. edits.items ≡ span_by_span spans.now findings.now) }
+{
+    let mut edits = Vec::new(alloc);
+    let mut left = findings;
+    for i in 0..spans.len() {
+        put_span(alloc, &spans[i], &spans[i + 1..], left, &mut edits)?;
+        left = later_than(spans[i].first, left);
+    }
+    Ok(edits)
+}
