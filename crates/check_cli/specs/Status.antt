@@ -4,7 +4,7 @@ use Rattle.std.specs.List.{list_any}
 use Rattle.check_text.specs.declared.line.Line.{Line}
 use Rattle.check_text.specs.Objects.{is_error_word, is_warning_word}
 use Rattle.check_cli.specs.declared.status.Status.{Status}
-use Rattle.check_cli.specs.declared.status.Status.TheVariants.{Clean, Warnings, Errors, Usage, NoInput, SystemError}
+use Rattle.check_cli.specs.declared.status.Status.TheVariants.{Clean, Warnings, Errors, Usage, NoInput, SystemError, NoOutput}
 
 -- the numbers of procmail-check(1)
 abbrev pub status_number : Status → ℕ
@@ -14,6 +14,7 @@ status_number Errors = 2
 status_number Usage = 64
 status_number NoInput = 66
 status_number SystemError = 71
+status_number NoOutput = 73
 
 -- errors count more than warnings, and notes don't count
 abbrev pub status_of : List Line → Status

@@ -124,7 +124,8 @@ impl Checking {
         Ok(())
     }
 
-    fn found_in(&self, text: &[u8]) -> Result<Vec<Remark>, Memory> {
+    /// What is found in a text by itself.
+    pub fn found_in(&self, text: &[u8]) -> Result<Vec<Remark>, Memory> {
         let mut remarks = Vec::new(self.alloc);
         match find(self.alloc, text) {
             Ok(findings) => {

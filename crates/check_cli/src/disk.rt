@@ -1,7 +1,8 @@
-//! The disk, of which nothing can be asked but to be looked at and read.
-use std::fs;
-use std::io::{self, ErrorKind, Read};
-use std::os::unix::fs::MetadataExt;
+//! The disk: a check can only look at it and read, and `--fix --in-place` can write rcfiles.
+use crate::replacing::Rcfiles;
+use std::fs::{self, OpenOptions};
+use std::io::{self, ErrorKind, Read, Write};
+use std::os::unix::fs::{MetadataExt, OpenOptionsExt};
 
 /// What a name names.
 #[derive(Clone, Copy)]
@@ -73,6 +74,44 @@ impl Disk for RealDisk<'_> {
         self.rt.stdin().read_to_end(&mut bytes)?;
         Ok(bytes)
     }
+}
+
+impl Rcfiles for RealDisk<'_> {
+    // What was made is removed again if not all of it can be written.
+    fn write_new(&self, name: &str, like: &str, text: &[u8]) -> io::Result<()> {
+        let permissions = fs::metadata(self.rt, like)?.permissions();
+        let mut options = OpenOptions::new();
+        options.write(true).create_new(true).mode(0o600);
+        let mut file = options.open(self.rt, name)?;
+        let written = match file.write_all(text) {
+            Ok(()) => match file.set_permissions(permissions) {
+                Ok(()) => file.sync_all(),
+                Err(error) => Err(error),
+            },
+            Err(error) => Err(error),
+        };
+        if written.is_err() {
+            let _ = self.remove(name);
+        }
+        written
+    }
+
+    fn link(&self, name: &str, second: &str) -> io::Result<()> {
+        fs::hard_link(self.rt, name, second)
+    }
+
+    fn rename(&self, name: &str, new: &str) -> io::Result<()> {
+        fs::rename(self.rt, name, new)
+    }
+
+    fn remove(&self, name: &str) -> io::Result<()> {
+        fs::remove_file(self.rt, name)
+    }
+}
+
+/// Whether a file couldn't be made because there is one of its name.
+pub fn is_taken(error: &io::Error) -> bool {
+    matches!(error.kind(), ErrorKind::AlreadyExists)
 }
 
 /// Whether reading failed because memory ran out.

@@ -1,16 +1,18 @@
-//! The program procmail-check: it prints what is wrong in rcfiles (procmail-check(1)).
+//! The program procmail-check: it prints what is wrong in rcfiles, and brings old ones over (procmail-check(1)).
 #![tactic(auto)]
 
 mod allowed;
 mod arguments;
 mod checking;
 mod disk;
+mod fixed;
 mod forms;
 mod known;
 mod options;
 mod places;
 mod programs;
 mod remarks;
+mod replacing;
 mod report;
 mod status;
 mod steps;

@@ -26,6 +26,9 @@ pub struct Options<'a> {
     pub no_disk: bool,
     /// Forms that do something else under procmail 3.22 are reported, too.
     pub from_old: bool,
+    /// Rcfiles for procmail 3.22 are written anew, on standard output or in their place.
+    pub fix: bool,
+    pub in_place: bool,
     /// The rcfile is for procmail -m.
     pub filter: bool,
     /// Assignments and names of rcfiles, in their order.
@@ -64,6 +67,8 @@ pub fn read_options<'a>(alloc: Global, words: &'a [String]) -> Parsed<'a> {
         allowed,
         no_disk: matches.get_flag("no-disk"),
         from_old: matches.get_flag("from-3.22"),
+        fix: matches.get_flag("fix"),
+        in_place: matches.get_flag("in-place"),
         filter: matches.get_flag("filter"),
         words,
     })
@@ -122,6 +127,16 @@ fn command<'a>(alloc: Global) -> Result<Command<'a>, AllocError> {
             switch(alloc, "from-3.22")
                 .long("from-3.22")
                 .help("Report what does something else under procmail 3.22"),
+        )?
+        .arg(
+            switch(alloc, "fix")
+                .long("fix")
+                .help("Write an rcfile for procmail 3.22 anew"),
+        )?
+        .arg(
+            switch(alloc, "in-place")
+                .long("in-place")
+                .help("Write it in its place, and keep it as RCFILE.orig"),
         )?
         .arg(
             switch(alloc, "filter")

@@ -3,6 +3,7 @@ use crate::allowed::keep_reported;
 use crate::arguments::{Argument, argument_of};
 use crate::checking::{Checking, Stopped};
 use crate::disk::RealDisk;
+use crate::fixed::fix_all;
 use crate::options::{Format, Options, VERSION};
 use crate::remarks::{Checked, Remark, code_of, is_code, severity_of};
 use crate::status::{Status, status_of};
@@ -25,6 +26,9 @@ pub fn report_on(rt: &HostRuntime, options: &Options<'_>) -> io::Result<Status> 
     if names.is_empty() {
         rt.eprintln("procmail-check: HOME isn't set, so name an rcfile")?;
         return Ok(Status::Usage);
+    }
+    if options.fix {
+        return fix_all(rt, options, names.as_slice());
     }
     let mut files = Vec::new(alloc);
     for name in names.as_slice() {
@@ -54,7 +58,32 @@ fn refusal_of(alloc: Global, options: &Options<'_>) -> Result<Option<String>, Al
             )?));
         }
     }
-    Ok(None)
+    match fix_refusal(options) {
+        Some(text) => Ok(Some(String::from_str(alloc, text)?)),
+        None => Ok(None),
+    }
+}
+
+// Of several rcfiles it isn't said where one ends, and standard input has no name.
+fn fix_refusal(options: &Options<'_>) -> Option<&'static str> {
+    let mut count: usize = 0;
+    let mut is_input = false;
+    for word in options.words.as_slice() {
+        if let Argument::Rcfile(name) = argument_of(*word) {
+            count = count.saturating_add(1);
+            is_input = is_input || name == "-";
+        }
+    }
+    if options.in_place && !options.fix {
+        return Some("procmail-check: --in-place needs --fix");
+    }
+    if options.in_place && is_input {
+        return Some("procmail-check: --in-place needs the name of an rcfile");
+    }
+    if options.fix && !options.in_place && count > 1 {
+        return Some("procmail-check: --fix without --in-place takes one rcfile");
+    }
+    None
 }
 
 // The rcfiles that are named, or else the user's own.
@@ -141,7 +170,8 @@ fn print(rt: &HostRuntime, options: &Options<'_>, files: &[Vec<Checked>]) -> io:
     Ok(status_of(lines))
 }
 
-fn lines_of<'a>(alloc: Global, files: &'a [Vec<Checked>]) -> Result<Vec<Line<'a>>, AllocError> {
+/// The lines of rcfiles.
+pub fn lines_of<'a>(alloc: Global, files: &'a [Vec<Checked>]) -> Result<Vec<Line<'a>>, AllocError> {
     let mut lines = Vec::new(alloc);
     for group in files {
         for file in group.as_slice() {

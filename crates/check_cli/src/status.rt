@@ -22,6 +22,8 @@ pub enum Status {
     NoInput,
     /// Out of memory, or the output can't be written.
     SystemError,
+    /// An rcfile can't be written in its place.
+    NoOutput,
 }
 
 impl Status {
@@ -36,6 +38,7 @@ impl Status {
             Status::Usage => 64,
             Status::NoInput => 66,
             Status::SystemError => 71,
+            Status::NoOutput => 73,
         }
     }
 }
