@@ -84,12 +84,7 @@ fn put_in_place(rt: &HostRuntime, name: &str, old: &[u8], new: &[u8]) -> io::Res
 }
 
 // The forms of procmail 3.22 in the new text, and its errors.
-fn left_in(
-    alloc: Global,
-    options: &Options<'_>,
-    name: &str,
-    new: Blob,
-) -> Result<Checked, Memory> {
+fn left_in(alloc: Global, options: &Options<'_>, name: &str, new: Blob) -> Result<Checked, Memory> {
     let text = new.into_vec(alloc)?;
     let mut remarks = Checking::new(alloc, false, true).found_in(text.as_slice())?;
     remarks.retain(|remark| match remark.source {
@@ -104,11 +99,7 @@ fn left_in(
     keep_reported(alloc, options.allowed.as_slice(), file)
 }
 
-fn print_left(
-    rt: &HostRuntime,
-    options: &Options<'_>,
-    files: Vec<Checked>,
-) -> io::Result<Status> {
+fn print_left(rt: &HostRuntime, options: &Options<'_>, files: Vec<Checked>) -> io::Result<Status> {
     let alloc = rt.alloc();
     let mut groups = Vec::new(alloc);
     groups.push(files)?;
