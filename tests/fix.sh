@@ -124,14 +124,14 @@ the body by an empty name: runs
 :0 w\n| formail -I '' >body\n
 :0 w\n| sed -n -e '/^$/,$p' >body\n
 a field of a reply: runs
-TO=`formail -rtzxTo:`\n:0 wh\n| echo "$TO" >to\n
-TO=`formail -rt | formail -zxTo:`\n:0 wh\n| echo "$TO" >to\n
+TO=`formail -rtzxTo:`\n:0 whi\n| echo "$TO" >to\n
+TO=`formail -rt | formail -zxTo:`\n:0 whi\n| echo "$TO" >to\n
 a field of a reply, and a blank: runs
-TO=`formail -rtzx To:`\n:0 wh\n| echo "$TO" >to\n
-TO=`formail -rt | formail -zx To:`\n:0 wh\n| echo "$TO" >to\n
+TO=`formail -rtzx To:`\n:0 whi\n| echo "$TO" >to\n
+TO=`formail -rt | formail -zx To:`\n:0 whi\n| echo "$TO" >to\n
 a field of a reply in two words: runs
-FORMAIL=formail\nTO="`$FORMAIL -rt -xTo:`"\n:0 wh\n| echo $TO >to\n
-FORMAIL=formail\nTO="`$FORMAIL -rt | $FORMAIL -xTo:`"\n:0 wh\n| echo $TO >to\n
+FORMAIL=formail\nTO="`$FORMAIL -rt -xTo:`"\n:0 whi\n| echo $TO >to\n
+FORMAIL=formail\nTO="`$FORMAIL -rt | $FORMAIL -xTo:`"\n:0 whi\n| echo $TO >to\n
 the separator is removed: runs
 :0 fhw\n| formail -I "From "\n:0 h\n| cat >header\n
 :0 fhw\n| formail -f -I "From "\n:0 h\n| cat >header\n
@@ -164,7 +164,7 @@ while IFS= read -r title; do
     cmp -s there.tree here.tree || fail "$title (left: 3.22 by the old text): $(diff there.tree here.tree)"
     tried=$((tried + 1))
 done < rows
-[ "$count" -ge 36 ] || fail "only $count rows"
+[ "$count" -eq 33 ] || fail "only $count rows"
 [ -n "$old_procmail" ] || echo "$name: no procmail 3.22 here: what it does with the old texts: skipped"
 
 # What can't be brought over stays, and is reported for the new text; the status says whether anything is left.
