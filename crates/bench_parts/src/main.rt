@@ -1,8 +1,8 @@
 //! Does one thing of procmail's once: what `bench/egrep.sh` and `bench/rcfiles.sh` measure.
 //!
 //! The words are `search`, then `none`, `find` or `count`, a regular expression, what the area is made of (`a`, `re`,
-//! `text`, `links`, `prose` or `pairs`), and its size: `none` makes the automata and searches nothing. Or they are `rcfile`,
-//! then `none` or `read`, a text, and the size of the rcfile, which is that text again and again.
+//! `text`, `links`, `prose` or `pairs`), and its size: `none` makes the automata and searches nothing. Or they are
+//! `rcfile`, then `none` or `read`, a text, and the size of the rcfile, which is that text again and again.
 #![tactic(auto)]
 
 mod area;

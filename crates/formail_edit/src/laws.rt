@@ -8,7 +8,8 @@ pub fn examples()
     ensures { Examples }
 {}
 
-/// A header has no empty line after any edits whose texts bring none, so it ends where the mail's header is said to end.
+/// A header has no empty line after any edits whose texts bring none, so it ends where the mail's header is said to
+/// end.
 pub fn headers_stay_whole()
     ensures { HeadersStayWhole }
 {}

@@ -10,7 +10,8 @@ ghost use Rattle.pm_message.specs.Split.{split_of};
 ghost use Rattle.formail_edit.specs.Keyed.{keyed, keyed_as};
 ghost use Rattle.formail_edit.specs.Sender.{line_at};
 ghost use Rattle.formail_edit.specs.Step.{edited_fields};
-ghost use Rattle.formail_edit.specs.Output.{prefixed_line, body_for, Stays, trimmed, content_for, extraction, taken_from, taken, front_of, mail_of, edited};
+ghost use Rattle.formail_edit.specs.Output.{prefixed_line, body_for, Stays, trimmed, content_for, extraction};
+ghost use Rattle.formail_edit.specs.Output.{taken_from, taken, front_of, mail_of, edited};
 
 use crate::application::edit_fields;
 use crate::meaning::is_meant;
@@ -249,7 +250,8 @@ fn owned(alloc: Global, line: Option<&[u8]>) -> Result<Option<Blob>, Memory>
 }
 
 /// What formail writes of a mail (formail(1)). `from` is the line `From ` to put in front, with its newline, for the
-/// sender that [`from_sender`](crate::from_sender) names; with `-x` and `-X` it is left out. `Memory` is the only error.
+/// sender that [`from_sender`](crate::from_sender) names; with `-x` and `-X` it is left out. `Memory` is the only
+/// error.
 pub fn edit(
     alloc: Global,
     message: &Message,
@@ -281,7 +283,8 @@ fn edit_message(
 /// What formail writes of a mail at a moment, in seconds since 1970, in UTC: in two parts, so that the body is shared
 /// with the mail if it stays as it is. `Memory` is the only error.
 pub fn edit_mail(alloc: Global, mail: &Blob, edits: &Edits, moment: i64) -> Result<Edited, Memory>
-    ensures { IfOk result (λ text. text ≡ edited (split_of mail.now) edits.now (line_at moment (split_of mail.now) edits.now)) }
+    ensures { IfOk result (λ text. text ≡ edited (split_of mail.now) edits.now
+        (line_at moment (split_of mail.now) edits.now)) }
 {
     if is_unchanged(alloc, mail, edits)? {
         return Ok(Edited::whole(alloc, mail.copy(alloc)?));

@@ -7,7 +7,8 @@ ghost use Rattle.formail_extra.specs.Room.{HasRoom};
 ghost use Rattle.formail_extra.specs.Space.{IsReserved};
 ghost use Rattle.formail_extra.specs.Reading.{ReadsCache, IsFew};
 ghost use Rattle.formail_extra.specs.Tree.{StepsRight};
-ghost use Rattle.formail_extra.specs.Stepping.{cache_at, step_end, cache_rule, end_of, given_back, Remembers, Uses, UnderLock, Steps};
+ghost use Rattle.formail_extra.specs.Stepping.{cache_at, step_end, cache_rule, end_of, given_back, Remembers, Uses};
+ghost use Rattle.formail_extra.specs.Stepping.{UnderLock, Steps};
 
 use crate::adding::{Written, hold_all};
 use crate::cache::Kept;
@@ -191,9 +192,9 @@ fn try_step<H: Host>(
     Ok(end)
 }
 
-/// Takes the lock of a cache, which is its name and `.lock`, holds the identifiers of some mails against the cache, adds
-/// those that are new, each by an append of its own that is synced to disk, and gives the lock back (formail(1), option
-/// -D). A cache that has `maxlen` bytes is emptied before one is added. All memory is taken before the lock.
+/// Takes the lock of a cache, which is its name and `.lock`, holds the identifiers of some mails against the cache,
+/// adds those that are new, each by an append of its own that is synced to disk, and gives the lock back (formail(1),
+/// option -D). A cache that has `maxlen` bytes is emptied before one is added. All memory is taken before the lock.
 pub fn cache_step<H: Host>(
     alloc: Global,
     host: &mut H,
@@ -206,7 +207,8 @@ pub fn cache_step<H: Host>(
     ensures steps { IfSome (step_end result)
         (λ end. Steps (cache_at name.now maxlen) ids.now end (H.told host.old) (H.told host.new)) }
     ensures tree { IfSome (step_end result)
-        (λ end. Tells (StepsRight (cache_at name.now maxlen) ids.now end) (H.told host.old).world (H.told host.new).world) }
+        (λ end. Tells (StepsRight (cache_at name.now maxlen) ids.now end) (H.told host.old).world
+        (H.told host.new).world) }
     ensures failed { result ≡ CacheEnd.Failed → Rose (H.told host.old).faults (H.told host.new).faults }
     ensures memory { result ≡ CacheEnd.Memory → H.told host.new ≡ H.told host.old }
     ensures child { (H.told host.new).child ≡ (H.told host.old).child }

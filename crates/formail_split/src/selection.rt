@@ -18,8 +18,8 @@ fn select_of(count: usize, skip: u64, total: Option<u64>) -> (usize, usize)
     (first, last)
 }
 
-/// Of some mails the place of the first one that is wanted, and the place after the last. The first `skip` are left out,
-/// and of the others all are wanted, or at most `total` (formail(1), options +N and -N).
+/// Of some mails the place of the first one that is wanted, and the place after the last. The first `skip` are left
+/// out, and of the others all are wanted, or at most `total` (formail(1), options +N and -N).
 pub fn select(parts: &[Blob], skip: u64, total: Option<u64>) -> (usize, usize)
     ensures first { result.0 ≡ first_of (length parts.now) skip }
     ensures last { result.1 ≡ behind_last_of (length parts.now) skip total }

@@ -81,7 +81,8 @@ pub fn feed<H: Host>(
     host: &mut H,
 ) -> Result<u8, Memory>
     requires { (H.told host.old).child ≡ Child.NoChild }
-    ensures ok { IfOk result (λ status. Feeds command.now request.now mails.now status (H.told host.old) (H.told host.new)) }
+    ensures ok { IfOk result (λ status. Feeds command.now request.now mails.now status (H.told host.old)
+        (H.told host.new)) }
     ensures asked { OnErr result (AsksAtMost (H.told host.old) (H.told host.new)) }
     ensures none { (H.told host.new).child ≡ Child.NoChild }
 {

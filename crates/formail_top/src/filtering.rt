@@ -2,7 +2,8 @@
 ghost use Rattle.std.specs.Prelude.{◌≡◌, ◌≤◌, ◌⊎◌, ℕ, List, false, Some, IfOk, IfSome, OnErr, map, string_bytes};
 ghost use Rattle.formail_split.specs.Parts.{parts_of};
 ghost use Rattle.formail_extra.specs.Stepping.{step_end};
-ghost use Rattle.formail_top.specs.Run.{IsOutput, AsksAtMost, WritesAll, Writes, Puts, kept_status, PutsKept, AfterStep, Remembers, Treats, LeavesCache, Leaves, LeavesOff, Ended};
+ghost use Rattle.formail_top.specs.Run.{IsOutput, AsksAtMost, WritesAll, Writes, Puts, kept_status, PutsKept};
+ghost use Rattle.formail_top.specs.Run.{AfterStep, Remembers, Treats, LeavesCache, Leaves, LeavesOff, Ended};
 ghost use Rattle.formail_top.specs.Outputs.{mails_of};
 ghost use Rattle.std.specs.List.{list_any, concat};
 

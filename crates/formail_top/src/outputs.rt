@@ -2,7 +2,8 @@
 ghost use Rattle.std.specs.Prelude.{◌≡◌, IfOk, map, take};
 ghost use Rattle.std.specs.List.{list_any, flat_map, concat};
 ghost use Rattle.formail_split.specs.Parts.{parts_of, selected};
-ghost use Rattle.formail_top.specs.Outputs.{mails_of, sender_of_output, wants_moment, output_of, outputs_of, each_output_of, id_of, ids_of, kept_of};
+ghost use Rattle.formail_top.specs.Outputs.{mails_of, sender_of_output, wants_moment, output_of, outputs_of};
+ghost use Rattle.formail_top.specs.Outputs.{each_output_of, id_of, ids_of, kept_of};
 
 use crate::Request;
 use formail_edit::{Edited, edit_mail, from_sender};

@@ -1,7 +1,10 @@
 //! All that the words ask for.
 ghost use Rattle.std.specs.Prelude.{◌≡◌, IfOk, OnOk, map, string_bytes, count_by};
 ghost use Rattle.std.specs.List.{list_any, list_all};
-ghost use Rattle.formail_top.specs.Asked.{is_split, is_skip, is_total, is_reply, is_trust, is_barred, is_once, is_ranged, is_range_sound, is_reply_sound, is_cache, is_beside_cache, is_cache_sound, is_sound, nothing, asked, request_of, request_in, request_for};
+ghost use Rattle.formail_top.specs.Asked.{is_split, is_skip, is_total, is_reply, is_trust, is_barred, is_once};
+ghost use Rattle.formail_top.specs.Asked.{is_ranged, is_range_sound, is_reply_sound, is_cache, is_beside_cache};
+ghost use Rattle.formail_top.specs.Asked.{is_cache_sound, is_sound, nothing, asked, request_of, request_in};
+ghost use Rattle.formail_top.specs.Asked.{request_for};
 
 use crate::words::read_words;
 use crate::{Cache, Setting};

@@ -2,7 +2,12 @@
 ghost use Rattle.std.specs.Prelude.{◌≡◌, ◌++◌, ◌∷◌, [], IfOk, string_bytes, map, option_map, codes};
 ghost use Rattle.std.specs.List.{list_all};
 ghost use Rattle.pm_message.specs.Field.{is_name_byte, is_named};
-ghost use Rattle.formail_top.specs.Words.{is_folded, is_bare_name, may_be_bare, is_put, put_for, take_for, unique_for, setting_for, rename_for, bound_in, bound_for, cache_of, cache_named, cache_for, setting_for_both, setting_of, takes_text, takes_more, with_text, with_rest, with_split, letters, number_for, with_skip, with_total, behind_minus, group, one_word, usable_name, program_for, argument_for, waiting, with_setting, Adds, settings_of};
+ghost use Rattle.formail_top.specs.Words.{is_folded, is_bare_name, may_be_bare, is_put, put_for, take_for, unique_for};
+ghost use Rattle.formail_top.specs.Words.{setting_for, rename_for, bound_in, bound_for, cache_of, cache_named};
+ghost use Rattle.formail_top.specs.Words.{cache_for, setting_for_both, setting_of, takes_text, takes_more, with_text};
+ghost use Rattle.formail_top.specs.Words.{with_rest, with_split, letters, number_for, with_skip, with_total};
+ghost use Rattle.formail_top.specs.Words.{behind_minus, group, one_word, usable_name, program_for, argument_for};
+ghost use Rattle.formail_top.specs.Words.{waiting, with_setting, Adds, settings_of};
 ghost use Rattle.formail_top.specs.declared.settings.Waits.TheVariants.{Ready, Argument};
 
 use crate::{Cache, Setting, Waits};

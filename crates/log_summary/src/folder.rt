@@ -2,15 +2,16 @@
 ghost use Rattle.std.specs.Prelude.{◌≡◌, ◌++◌, ◌<◌, IfOk, IfSome, codes, length};
 ghost use Rattle.std.specs.List.{list_all};
 ghost use Rattle.memchr.specs.Find.{is_byte, last_of, places};
-ghost use Rattle.log_summary.specs.Folders.{folder, folder_in, is_plain_byte, is_maildir_byte, is_plain_file, is_maildir_file, is_some};
+ghost use Rattle.log_summary.specs.Folders.{folder, folder_in, is_plain_byte, is_maildir_byte, is_plain_file};
+ghost use Rattle.log_summary.specs.Folders.{is_maildir_file, is_some};
 ghost use Rattle.pm_bytes.specs.Letter.{is_digit_byte};
 
 use memchr::memrchr;
 use pm_bytes::{Memory, continues_name, is_digit};
 use std::alloc::Global;
 
-/// The folder that a name in a log belongs to, as mailstat(1) sums them: the directory with a slash for files `msg.*` and
-/// those of a maildir, with `/.` for those of an MH folder, and else the name.
+/// The folder that a name in a log belongs to, as mailstat(1) sums them: the directory with a slash for files `msg.*`
+/// and those of a maildir, with `/.` for those of an MH folder, and else the name.
 pub fn folder_of(alloc: Global, name: &[u8]) -> Result<Vec<u8>, Memory>
     ensures { IfOk result (λ text. text.items ≡ folder name.now) }
 {

@@ -17,8 +17,8 @@ pub struct Delivery<'a> {
     pub size: u64,
 }
 
-/// The delivery that a line tells of. The folder's name and the size have blanks between them, or tabs, as procmail 3.22
-/// writes them.
+/// The delivery that a line tells of. The folder's name and the size have blanks between them, or tabs, as procmail
+/// 3.22 writes them.
 pub fn delivery_of(line: &[u8]) -> Option<Delivery<'_>>
     ensures { option_map (λ d. (d.folder.now, d.size)) result ≡ delivery_in line.now }
 {

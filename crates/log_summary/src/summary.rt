@@ -42,8 +42,8 @@ impl Summary {
     }
 }
 
-/// Adds what the lines of a log say, from the first line `From ` of this day or a later one on, where a day is given. Lines of
-/// no known form count for nothing. `Memory` is the only error.
+/// Adds what the lines of a log say, from the first line `From ` of this day or a later one on, where a day is given.
+/// Lines of no known form count for nothing. `Memory` is the only error.
 pub fn add_log(
     alloc: Global,
     sums: &mut Summary,

@@ -151,8 +151,8 @@ fn search_part(
     mail: &mut Mail,
     place: Place,
 ) -> Result<Outcome, Memory>
-    ensures outcome { let asked = question.now in IfOk result (λ come.
-        come ≡ sought_outcome asked.weight asked.inverted distinguish (area_of mail.old place) (expression_of text.now)) }
+    ensures outcome { let asked = question.now in let expression = expression_of text.now in IfOk result (λ come.
+        come ≡ sought_outcome asked.weight asked.inverted distinguish (area_of mail.old place) expression) }
     ensures same { mail.new ≡ mail.old }
 {
     let area = mail.area(alloc, place)?;

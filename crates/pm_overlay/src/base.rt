@@ -20,7 +20,8 @@ pub trait Base {
     /// Bytes of the file from the offset `at` on, into the front of `room`; `Got(0)` at or past the file's end.
     fn read(&mut self, name: &str, at: u64, room: &mut [u8]) -> Got
         requires { 0 < length room.old }
-        ensures asks { Asks (Call.Read name.now at (length room.old)) (read_answer result room.new) (told self.old) (told self.new) }
+        ensures asks { Asks (Call.Read name.now at (length room.old)) (read_answer result room.new) (told self.old)
+            (told self.new) }
         ensures within { IsWithin result (length room.old) };
 
     /// The last parts of the names directly in the folder, in the order of their bytes.

@@ -70,7 +70,8 @@ pub(crate) fn read_at<B: Base>(
 ) -> Got
     requires { 0 < length room.old }
     ensures stays { Stays (B.told base.old) (B.told base.new) }
-    ensures right { Holds (B.told base.new) (λ w. ReadsAs (stands (option_copied change.entry) w name.now) at result room.new) }
+    ensures right { Holds (B.told base.new) (λ w. ReadsAs (stands (option_copied change.entry) w name.now)
+        at result room.new) }
     ensures within { IsWithin result (length room.old) }
 {
     match change {
@@ -115,7 +116,8 @@ pub(crate) fn age_at<B: Base>(
     slept: u64,
 ) -> Aged
     ensures stays { Stays (B.told base.old) (B.told base.new) }
-    ensures right { Holds (B.told base.new) (λ w. AgesRight (stands (option_copied change.entry) w name.now) (later_moment w.moment slept) result) }
+    ensures right { Holds (B.told base.new) (λ w. AgesRight (stands (option_copied change.entry) w name.now)
+        (later_moment w.moment slept) result) }
 {
     match change {
         None => age_in_base(base, name, slept),
@@ -132,7 +134,8 @@ pub(crate) fn age_at<B: Base>(
 // A file's age by its age before the base's moment.
 fn age_in_base<B: Base>(base: &mut B, name: &str, slept: u64) -> Aged
     ensures stays { Stays (B.told base.old) (B.told base.new) }
-    ensures right { Holds (B.told base.new) (λ w. AgesRight (unchanged (w.nodes name.now) w.moment) (later_moment w.moment slept) result) }
+    ensures right { Holds (B.told base.new) (λ w. AgesRight (unchanged (w.nodes name.now) w.moment)
+        (later_moment w.moment slept) result) }
 {
     match base.age(name) {
         Aged::Age(age) => {

@@ -25,7 +25,8 @@ impl<B: Base + Drop> Host for Overlay<B> {
     }
 
     fn look(&mut self, name: &str) -> Looked
-        ensures makes { Makes (Call.Look name.now) (Answer.Look result) (quiet self.old.faults self.old.child) (quiet self.new.faults self.new.child) }
+        ensures makes { Makes (Call.Look name.now) (Answer.Look result) (quiet self.old.faults self.old.child)
+            (quiet self.new.faults self.new.child) }
         ensures step { IsStep (Call.Look name.now) (Answer.Look result)
             (layer (B.told self.old.tree.base) self.old.tree.changes self.old.tree.slept)
             (layer (B.told self.new.tree.base) self.new.tree.changes self.new.tree.slept) }
@@ -39,7 +40,8 @@ impl<B: Base + Drop> Host for Overlay<B> {
 
     fn read(&mut self, name: &str, at: u64, room: &mut [u8]) -> Got
         requires { 0 < length room.old }
-        ensures makes { Makes (Call.Read name.now at (length room.old)) (read_answer result room.new) (quiet self.old.faults self.old.child) (quiet self.new.faults self.new.child) }
+        ensures makes { Makes (Call.Read name.now at (length room.old)) (read_answer result room.new)
+            (quiet self.old.faults self.old.child) (quiet self.new.faults self.new.child) }
         ensures step { IsStep (Call.Read name.now at (length room.old)) (read_answer result room.new)
             (layer (B.told self.old.tree.base) self.old.tree.changes self.old.tree.slept)
             (layer (B.told self.new.tree.base) self.new.tree.changes self.new.tree.slept) }
@@ -53,7 +55,8 @@ impl<B: Base + Drop> Host for Overlay<B> {
     }
 
     fn create(&mut self, name: &str) -> Made
-        ensures makes { Makes (Call.Create name.now) (Answer.Create result) (quiet self.old.faults self.old.child) (quiet self.new.faults self.new.child) }
+        ensures makes { Makes (Call.Create name.now) (Answer.Create result) (quiet self.old.faults self.old.child)
+            (quiet self.new.faults self.new.child) }
         ensures step { IsStep (Call.Create name.now) (Answer.Create result)
             (layer (B.told self.old.tree.base) self.old.tree.changes self.old.tree.slept)
             (layer (B.told self.new.tree.base) self.new.tree.changes self.new.tree.slept) }
@@ -67,7 +70,8 @@ impl<B: Base + Drop> Host for Overlay<B> {
 
     fn append(&mut self, name: &str, piece: &[u8]) -> Took
         requires { 0 < length piece.now }
-        ensures makes { Makes (Call.Append name.now piece.now) (Answer.Append result) (quiet self.old.faults self.old.child) (quiet self.new.faults self.new.child) }
+        ensures makes { Makes (Call.Append name.now piece.now) (Answer.Append result)
+            (quiet self.old.faults self.old.child) (quiet self.new.faults self.new.child) }
         ensures step { IsStep (Call.Append name.now piece.now) (Answer.Append result)
             (layer (B.told self.old.tree.base) self.old.tree.changes self.old.tree.slept)
             (layer (B.told self.new.tree.base) self.new.tree.changes self.new.tree.slept) }
@@ -80,7 +84,8 @@ impl<B: Base + Drop> Host for Overlay<B> {
     }
 
     fn sync(&mut self, name: &str) -> Synced
-        ensures makes { Makes (Call.Sync name.now) (Answer.Sync result) (quiet self.old.faults self.old.child) (quiet self.new.faults self.new.child) }
+        ensures makes { Makes (Call.Sync name.now) (Answer.Sync result) (quiet self.old.faults self.old.child)
+            (quiet self.new.faults self.new.child) }
         ensures step { IsStep (Call.Sync name.now) (Answer.Sync result)
             (layer (B.told self.old.tree.base) self.old.tree.changes self.old.tree.slept)
             (layer (B.told self.new.tree.base) self.new.tree.changes self.new.tree.slept) }
@@ -93,7 +98,8 @@ impl<B: Base + Drop> Host for Overlay<B> {
     }
 
     fn cut(&mut self, name: &str, len: u64) -> Cut
-        ensures makes { Makes (Call.Cut name.now len) (Answer.Cut result) (quiet self.old.faults self.old.child) (quiet self.new.faults self.new.child) }
+        ensures makes { Makes (Call.Cut name.now len) (Answer.Cut result) (quiet self.old.faults self.old.child)
+            (quiet self.new.faults self.new.child) }
         ensures step { IsStep (Call.Cut name.now len) (Answer.Cut result)
             (layer (B.told self.old.tree.base) self.old.tree.changes self.old.tree.slept)
             (layer (B.told self.new.tree.base) self.new.tree.changes self.new.tree.slept) }
@@ -106,7 +112,8 @@ impl<B: Base + Drop> Host for Overlay<B> {
     }
 
     fn remove(&mut self, name: &str) -> Removed
-        ensures makes { Makes (Call.Remove name.now) (Answer.Remove result) (quiet self.old.faults self.old.child) (quiet self.new.faults self.new.child) }
+        ensures makes { Makes (Call.Remove name.now) (Answer.Remove result) (quiet self.old.faults self.old.child)
+            (quiet self.new.faults self.new.child) }
         ensures step { IsStep (Call.Remove name.now) (Answer.Remove result)
             (layer (B.told self.old.tree.base) self.old.tree.changes self.old.tree.slept)
             (layer (B.told self.new.tree.base) self.new.tree.changes self.new.tree.slept) }
@@ -119,7 +126,8 @@ impl<B: Base + Drop> Host for Overlay<B> {
     }
 
     fn rename(&mut self, from: &str, to: &str) -> Moved
-        ensures makes { Makes (Call.Rename from.now to.now) (Answer.Rename result) (quiet self.old.faults self.old.child) (quiet self.new.faults self.new.child) }
+        ensures makes { Makes (Call.Rename from.now to.now) (Answer.Rename result)
+            (quiet self.old.faults self.old.child) (quiet self.new.faults self.new.child) }
         ensures step { IsStep (Call.Rename from.now to.now) (Answer.Rename result)
             (layer (B.told self.old.tree.base) self.old.tree.changes self.old.tree.slept)
             (layer (B.told self.new.tree.base) self.new.tree.changes self.new.tree.slept) }
@@ -132,7 +140,8 @@ impl<B: Base + Drop> Host for Overlay<B> {
     }
 
     fn make_folder(&mut self, name: &str) -> Made
-        ensures makes { Makes (Call.MakeFolder name.now) (Answer.MakeFolder result) (quiet self.old.faults self.old.child) (quiet self.new.faults self.new.child) }
+        ensures makes { Makes (Call.MakeFolder name.now) (Answer.MakeFolder result)
+            (quiet self.old.faults self.old.child) (quiet self.new.faults self.new.child) }
         ensures step { IsStep (Call.MakeFolder name.now) (Answer.MakeFolder result)
             (layer (B.told self.old.tree.base) self.old.tree.changes self.old.tree.slept)
             (layer (B.told self.new.tree.base) self.new.tree.changes self.new.tree.slept) }
@@ -145,7 +154,8 @@ impl<B: Base + Drop> Host for Overlay<B> {
     }
 
     fn names(&mut self, alloc: Global, folder: &str) -> Listed
-        ensures makes { Makes (Call.Names folder.now) (names_answer result) (quiet self.old.faults self.old.child) (quiet self.new.faults self.new.child) }
+        ensures makes { Makes (Call.Names folder.now) (names_answer result) (quiet self.old.faults self.old.child)
+            (quiet self.new.faults self.new.child) }
         ensures same { IsSame
             (layer (B.told self.old.tree.base) self.old.tree.changes self.old.tree.slept)
             (layer (B.told self.new.tree.base) self.new.tree.changes self.new.tree.slept) }
@@ -158,7 +168,8 @@ impl<B: Base + Drop> Host for Overlay<B> {
     }
 
     fn age(&mut self, name: &str) -> Aged
-        ensures makes { Makes (Call.Age name.now) (Answer.Age result) (quiet self.old.faults self.old.child) (quiet self.new.faults self.new.child) }
+        ensures makes { Makes (Call.Age name.now) (Answer.Age result) (quiet self.old.faults self.old.child)
+            (quiet self.new.faults self.new.child) }
         ensures step { IsStep (Call.Age name.now) (Answer.Age result)
             (layer (B.told self.old.tree.base) self.old.tree.changes self.old.tree.slept)
             (layer (B.told self.new.tree.base) self.new.tree.changes self.new.tree.slept) }
@@ -171,7 +182,8 @@ impl<B: Base + Drop> Host for Overlay<B> {
     }
 
     fn sleep(&mut self, seconds: u64)
-        ensures makes { Makes (Call.Sleep seconds) Answer.Slept (quiet self.old.faults self.old.child) (quiet self.new.faults self.new.child) }
+        ensures makes { Makes (Call.Sleep seconds) Answer.Slept (quiet self.old.faults self.old.child)
+            (quiet self.new.faults self.new.child) }
         ensures slept { self.new.tree.slept ≡ min (self.old.tree.slept + seconds) (2 ^ 64 - 1) }
         ensures base { self.new.tree.base ≡ self.old.tree.base }
         ensures changes { self.new.tree.changes ≡ self.old.tree.changes }
@@ -180,7 +192,8 @@ impl<B: Base + Drop> Host for Overlay<B> {
     }
 
     fn now(&mut self) -> i64
-        ensures makes { Makes Call.Now (Answer.Now result) (quiet self.old.faults self.old.child) (quiet self.new.faults self.new.child) }
+        ensures makes { Makes Call.Now (Answer.Now result) (quiet self.old.faults self.old.child)
+            (quiet self.new.faults self.new.child) }
         ensures step { IsStep Call.Now (Answer.Now result)
             (layer (B.told self.old.tree.base) self.old.tree.changes self.old.tree.slept)
             (layer (B.told self.new.tree.base) self.new.tree.changes self.new.tree.slept) }
@@ -189,9 +202,11 @@ impl<B: Base + Drop> Host for Overlay<B> {
     }
 
     fn start(&mut self, command: &Command, want: bool) -> Started
-        ensures makes { Makes (Call.Start command.now want) (Answer.Start result) (quiet self.old.faults self.old.child) (quiet self.new.faults self.new.child) }
+        ensures makes { Makes (Call.Start command.now want) (Answer.Start result) (quiet self.old.faults self.old.child)
+            (quiet self.new.faults self.new.child) }
         ensures tree { self.new.tree ≡ self.old.tree }
-        ensures started { result ≡ Started.Started → Starts (answer_to self.old.programs.given.items (line_of command.now)) want self.old.programs self.new.programs }
+        ensures started { result ≡ Started.Started → Starts (answer_to self.old.programs.given.items
+            (line_of command.now)) want self.old.programs self.new.programs }
     {
         match self.programs.start(self.alloc, command, want) {
             Ok(()) => {
@@ -208,7 +223,8 @@ impl<B: Base + Drop> Host for Overlay<B> {
     fn feed(&mut self, piece: &[u8]) -> Fed
         requires some { 0 < length piece.now }
         requires feeding { self.old.child ≡ Child.Feeding }
-        ensures makes { Makes (Call.Feed piece.now) (Answer.Feed result) (quiet self.old.faults self.old.child) (quiet self.new.faults self.new.child) }
+        ensures makes { Makes (Call.Feed piece.now) (Answer.Feed result) (quiet self.old.faults self.old.child)
+            (quiet self.new.faults self.new.child) }
         ensures tree { self.new.tree ≡ self.old.tree }
         ensures all { IsFedAll piece.now self.old.programs self.new.programs result }
     {
@@ -224,7 +240,8 @@ impl<B: Base + Drop> Host for Overlay<B> {
     fn take(&mut self, room: &mut [u8]) -> Got
         requires some { 0 < length room.old }
         requires running { IsRunning self.old.child }
-        ensures makes { Makes (Call.Take (length room.old)) (take_answer result room.new) (quiet self.old.faults self.old.child) (quiet self.new.faults self.new.child) }
+        ensures makes { Makes (Call.Take (length room.old)) (take_answer result room.new)
+            (quiet self.old.faults self.old.child) (quiet self.new.faults self.new.child) }
         ensures within { IsWithin result (length room.old) }
         ensures tree { self.new.tree ≡ self.old.tree }
         ensures came { IsTaken (length room.old) room.new self.old.programs self.new.programs result }
@@ -235,7 +252,8 @@ impl<B: Base + Drop> Host for Overlay<B> {
 
     fn finish(&mut self) -> Finished
         requires { IsRunning self.old.child }
-        ensures makes { Makes Call.Finish (Answer.Finish result) (quiet self.old.faults self.old.child) (quiet self.new.faults self.new.child) }
+        ensures makes { Makes Call.Finish (Answer.Finish result) (quiet self.old.faults self.old.child)
+            (quiet self.new.faults self.new.child) }
         ensures tree { self.new.tree ≡ self.old.tree }
         ensures code { result ≡ Finished.Code self.old.programs.code }
     {

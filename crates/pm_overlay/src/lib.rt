@@ -1,5 +1,5 @@
-//! A host for trying a run: it reads what is there and keeps what the run changes in memory. Programs aren't started: they
-//! have given answers.
+//! A host for trying a run: it reads what is there and keeps what the run changes in memory. Programs aren't started:
+//! they have given answers.
 #![tactic(auto)]
 
 mod base;

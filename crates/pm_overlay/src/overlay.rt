@@ -8,8 +8,8 @@ use crate::tree::Tree;
 use pm_host::Child;
 use std::alloc::Global;
 
-/// A host for trying a run. What it changes stays in memory, `sleep` moves its own time alone, programs have given answers,
-/// and others don't act.
+/// A host for trying a run. What it changes stays in memory, `sleep` moves its own time alone, programs have given
+/// answers, and others don't act.
 #[derive(Drop)]
 pub struct Overlay<B: Base + Drop> {
     pub(crate) alloc: Global,

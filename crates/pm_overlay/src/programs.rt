@@ -1,5 +1,5 @@
-//! Programs that aren't started: each takes all its input and ends with a given code and output, and without a given output
-//! gives back what it got.
+//! Programs that aren't started: each takes all its input and ends with a given code and output, and without a given
+//! output gives back what it got.
 ghost use Rattle.std.specs.Prelude.{◌≡◌, ◌≤◌, ◌++◌, IfOk, OnOk, OnErr, length, take, option_copied};
 ghost use Rattle.pm_overlay.specs.Given.{line_of, spaced, answer_to, bytes_or_none, output_of, code_of, echoes_where};
 
@@ -8,8 +8,8 @@ use pm_bytes::{Blob, Memory, Name};
 use pm_host::Command;
 use std::alloc::Global;
 
-/// What a program does that isn't started: the line that runs it, the code with which it ends, and its output, where one is
-/// given.
+/// What a program does that isn't started: the line that runs it, the code with which it ends, and its output, where
+/// one is given.
 #[derive(Drop)]
 pub struct Given {
     pub line: Blob,
@@ -50,7 +50,8 @@ impl Programs {
         command: &Command,
         want: bool,
     ) -> Result<(), Memory>
-        ensures ok { OnOk result (Starts (answer_to self.old.given.items (line_of command.now)) want self.old self.new) }
+        ensures ok { OnOk result (Starts (answer_to self.old.given.items
+            (line_of command.now)) want self.old self.new) }
         ensures err { OnErr result (self.new ≡ self.old) }
     {
         let line = line_of(alloc, command)?;

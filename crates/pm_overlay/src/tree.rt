@@ -4,7 +4,8 @@ ghost use Rattle.std.specs.BTreeMap.{get_by_text};
 ghost use Rattle.pm_host.specs.Answers.{IsWithin, read_answer};
 ghost use Rattle.pm_host.specs.World.{grown, kept, TookAtMost};
 ghost use Rattle.pm_overlay.specs.Changes.{Puts};
-ghost use Rattle.pm_overlay.specs.Steps.{layer, IsStep, IsSame, Has, HoldsFile, Becomes, Grows, Copies, IsFree, IsFileAt};
+ghost use Rattle.pm_overlay.specs.Steps.{layer, IsStep, IsSame, Has, HoldsFile, Becomes, Grows, Copies, IsFree};
+ghost use Rattle.pm_overlay.specs.Steps.{IsFileAt};
 
 use crate::Base;
 use crate::changed::Changed;

@@ -16,8 +16,8 @@ use pm_meaning::{Chain, Process, Stored, new_chain};
 use std::alloc::Global;
 use std::collections::VecDeque;
 
-/// The copy of a process that runs the block whose first statement stands at this place, and goes on as the process does
-/// after the block, where that stands now. It holds no lock, and gives none back.
+/// The copy of a process that runs the block whose first statement stands at this place, and goes on as the process
+/// does after the block, where that stands now. It holds no lock, and gives none back.
 pub fn copy_for_block(
     alloc: Global,
     place: usize,

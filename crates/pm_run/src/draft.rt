@@ -5,8 +5,8 @@ ghost use Rattle.pm_meaning.specs.Telling.{log_name as name_of_log};
 
 use pm_bytes::{Blob, Name};
 
-/// What the abstract says of a mail with this head, and the log file by LOGFILE's value and the directory from which names
-/// are seen.
+/// What the abstract says of a mail with this head, and the log file by LOGFILE's value and the directory from which
+/// names are seen.
 #[derive(Drop)]
 pub struct Draft {
     pub head: Blob,

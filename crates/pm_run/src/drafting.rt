@@ -1,5 +1,5 @@
-//! Drafts of abstracts. What an abstract says of the mail is written before a delivery, with room for the rest, and the name
-//! of its log file too. So no memory is wanted for it once the mail is delivered.
+//! Drafts of abstracts. What an abstract says of the mail is written before a delivery, with room for the rest, and the
+//! name of its log file too. So no memory is wanted for it once the mail is delivered.
 ghost use Rattle.std.specs.Prelude.{◌≡◌, ◌≤◌, ◌-◌, true, [], codes, IfOk, vec_capacity, vec_len};
 ghost use Rattle.pm_journal.specs.Executed.{Carries};
 ghost use Rattle.pm_journal.specs.Held.{Keeping};

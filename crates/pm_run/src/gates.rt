@@ -6,7 +6,8 @@ ghost use Rattle.pm_journal.specs.Held.{Keeping, holds_name};
 ghost use Rattle.pm_journal.specs.Locking.{lock_act};
 ghost use Rattle.pm_journal.specs.LogText.{couldnt_lock_line, forcing_lock_line};
 ghost use Rattle.pm_journal.specs.Plan.{Ends, and_then, ask};
-ghost use Rattle.pm_meaning.specs.Blocks.{enter_block as block_entered, enter_under as entered_under, enter_with as entered_with};
+ghost use Rattle.pm_meaning.specs.Blocks.{enter_block as block_entered, enter_under as entered_under};
+ghost use Rattle.pm_meaning.specs.Blocks.{enter_with as entered_with};
 ghost use Rattle.pm_meaning.specs.Blocks.{lock_block as block_locked, got_block_lock};
 ghost use Rattle.pm_meaning.specs.Judging.{judge_first};
 ghost use Rattle.pm_meaning.specs.Locks.{rule_of};
@@ -29,8 +30,8 @@ use pm_recipe::Recipe;
 use pm_subst::Mode;
 use std::alloc::Global;
 
-/// What comes of a recipe with a block: it is passed by, the process ends, the block is entered under this lock, or a copy
-/// of the process is wanted for it.
+/// What comes of a recipe with a block: it is passed by, the process ends, the block is entered under this lock, or a
+/// copy of the process is wanted for it.
 #[derive(Drop)]
 pub enum Gate {
     Passes,

@@ -45,7 +45,8 @@ fn is_read(words: &[String]) -> bool
 
 // Whether no text is wanting, and a mail filter has its rcfile.
 fn can_end(place: Place) -> bool
-    ensures { (line : CommandLine) → has_some line.rcfiles ≡ place.named → result ≡ is_some (closed place.next (at place line)) }
+    ensures { (line : CommandLine) → has_some line.rcfiles ≡ place.named
+        → result ≡ is_some (closed place.next (at place line)) }
 {
     let ends = match place.next {
         Next::Any | Next::Operand => true,

@@ -1,5 +1,6 @@
 //! What holds over every schedule, as the contract of a call that does nothing.
-ghost use Rattle.pm_turns.specs.Laws.{Always, RestsWhereFree, IsInOrder, OneAtATime, EachClean, LockIsKept, OrderIsWhole};
+ghost use Rattle.pm_turns.specs.Laws.{Always, RestsWhereFree, IsInOrder, OneAtATime, EachClean, LockIsKept};
+ghost use Rattle.pm_turns.specs.Laws.{OrderIsWhole};
 ghost use Rattle.pm_turns.specs.Laws.{OrderGrows, SomeDeliversAll, EachDelivers, StandsInTree};
 
 /// Deliveries under one lock leave what they would leave one after another, for every opening, number of writers and

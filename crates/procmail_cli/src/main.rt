@@ -72,7 +72,8 @@ fn surroundings(rt: &HostRuntime) -> Result<Environ, Memory> {
     })
 }
 
-// The host has no name if `/etc/hostname` can't be read, or if its line can't be a part of the name of a maildir's file.
+// The host has no name if `/etc/hostname` can't be read, or if its line can't be a part of the name of a maildir's
+// file.
 fn host_name(rt: &HostRuntime) -> Result<Name, Memory> {
     let alloc = rt.alloc();
     match read_regular(rt, "/etc/hostname") {

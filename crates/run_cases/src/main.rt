@@ -1,5 +1,6 @@
-//! Runs the cases of procmail and of formail that standard input has, prints each one that fails after its line's number, and last how many tries
-//! passed and failed. Its status is 0 only if none failed. It is safe and total; what it prints is not stated.
+//! Runs the cases of procmail and of formail that standard input has, prints each one that fails after its line's
+//! number, and last how many tries passed and failed. Its status is 0 only if none failed. It is safe and total; what
+//! it prints is not stated.
 #![tactic(auto)]
 
 mod entries;

@@ -8,8 +8,8 @@ use std::io::{self, Write};
 /// The widest bar, in characters.
 const WIDEST: u64 = 20;
 
-/// A table of folders as mailstat(1) prints it, and one of messages where there are some. With `bars` each folder has a bar in
-/// proportion to its mails.
+/// A table of folders as mailstat(1) prints it, and one of messages where there are some. With `bars` each folder has a
+/// bar in proportion to its mails.
 pub fn write_text<W: Write>(out: &mut W, sums: &Summary, bars: bool) -> io::Result<()> {
     let all = total(&sums.folders);
     out.write_all(b"\n  Total  Number Folder\n  -----  ------ ------\n")?;

@@ -45,8 +45,8 @@ fn text_of(reason: Reason) -> &'static str {
     }
 }
 
-/// The name of a file from where the program runs: names are as seen from the directory of the file of tests, and `~/` is
-/// the home directory. It begins with a slash or a dot.
+/// The name of a file from where the program runs: names are as seen from the directory of the file of tests, and `~/`
+/// is the home directory. It begins with a slash or a dot.
 pub fn path_of(alloc: Global, place: Place<'_>, name: &str) -> Result<String, Stopped> {
     if name.starts_with("/") {
         return Ok(String::from_str(alloc, name)?);

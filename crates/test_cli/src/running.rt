@@ -48,8 +48,8 @@ pub fn run_test(
     report(rt.alloc(), place, test, &delivered, status)
 }
 
-// The log and the last program tell where the mail went. MAILDIR is the home directory, as for an rcfile there, whatever
-// the rcfile's name is.
+// The log and the last program tell where the mail went. MAILDIR is the home directory, as for an rcfile there,
+// whatever the rcfile's name is.
 fn words(alloc: Global, home: &str, rcfile: &str) -> Result<Vec<String>, Stopped> {
     let folder = format!(in alloc; "MAILDIR={home}")?;
     let mut words = Vec::new(alloc);

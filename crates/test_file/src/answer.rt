@@ -52,7 +52,8 @@ fn answer_with(
     code: &[u8],
     file: Option<&[u8]>,
 ) -> Result<Option<Answer>, Memory>
-    ensures { IfOk result (λ answer. answer ≡ answer_with line.now (count_of code.now) (option_map (λ name. name.now) file.entry)) }
+    ensures { IfOk result (λ answer. answer ≡ answer_with line.now (count_of code.now)
+        (option_map (λ name. name.now) file.entry)) }
 {
     match read_count(code) {
         Some(code) if code <= 255 => Ok(Some(Answer {

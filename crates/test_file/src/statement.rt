@@ -3,7 +3,8 @@ ghost use Rattle.std.specs.Prelude.{◌≡◌, IfOk, option_map};
 ghost use Rattle.test_file.specs.Cuts.{pieces_at};
 ghost use Rattle.test_file.specs.Answers.{answers_of};
 ghost use Rattle.test_file.specs.Expected.{parts_of};
-ghost use Rattle.test_file.specs.Statements.{statement_of, statement_in, rcfile_named, mail_test, test_cut, test_of, is_comment};
+ghost use Rattle.test_file.specs.Statements.{statement_of, statement_in, rcfile_named, mail_test, test_cut, test_of};
+ghost use Rattle.test_file.specs.Statements.{is_comment};
 
 use crate::answer::read_answers;
 use crate::cut::{behind_word, cut_at};

@@ -20,7 +20,13 @@ impl Model for Test {
 
     ghost Value = { Said };
 
-    ghost view = { λ t. record { line = t.line; mail = t.mail; answers = t.answers.items; wanted = t.wanted.items; status = t.status } };
+    ghost view = { λ t. record {
+      line = t.line;
+      mail = t.mail;
+      answers = t.answers.items;
+      wanted = t.wanted.items;
+      status = t.status;
+    } };
 }
 
 impl Test {
@@ -31,7 +37,13 @@ impl Test {
         wanted: Vec<Blob>,
         status: Option<u8>,
     ) -> Test
-        ensures { result ≡ record { line = line; mail = mail; answers = answers.items; wanted = wanted.items; status = status } }
+        ensures { result ≡ record {
+          line = line;
+          mail = mail;
+          answers = answers.items;
+          wanted = wanted.items;
+          status = status;
+        } }
     {
         Test {
             line,

@@ -1,6 +1,7 @@
 //! The report of tests as XML in the form of JUnit.
 ghost use Rattle.std.specs.Prelude.{◌≡◌, ◌++◌, IfOk, OnOk, flat_map, decimal, count_by, not};
-ghost use Rattle.test_text.specs.Junit.{junit, head, case_of, case_named, failure_in, failure_front, failure_end, message_in, line_in, xml_byte, expectation};
+ghost use Rattle.test_text.specs.Junit.{junit, head, case_of, case_named, failure_in, failure_front, failure_end};
+ghost use Rattle.test_text.specs.Junit.{message_in, line_in, xml_byte, expectation};
 
 use crate::Report;
 use crate::tap::push_number;

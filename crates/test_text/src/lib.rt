@@ -1,4 +1,5 @@
-//! What came of tests of an rcfile: where the mail went against where it was to go, and the report as TAP or as JUnit's XML.
+//! What came of tests of an rcfile: where the mail went against where it was to go, and the report as TAP or as JUnit's
+//! XML.
 #![tactic(auto)]
 
 mod compare;

@@ -15,8 +15,8 @@ pub struct Places<'a> {
 }
 
 /// The destination that a text names, as a run has it. A name is as seen from the home directory, `~/` is that as well,
-/// an ending that makes it a directory counts for nothing, and `default` is the default mailbox. Programs, addresses and
-/// standard output are as they stand.
+/// an ending that makes it a directory counts for nothing, and `default` is the default mailbox. Programs, addresses
+/// and standard output are as they stand.
 pub fn name_of(alloc: Global, text: &[u8], places: Places<'_>) -> Result<Blob, Memory>
     ensures { IfOk result (λ name. name ≡ name_of text.now places.entry.home.now places.entry.default.now) }
 {

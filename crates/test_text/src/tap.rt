@@ -1,6 +1,7 @@
 //! The report of tests as TAP, version 13 (the Test Anything Protocol).
 ghost use Rattle.std.specs.Prelude.{◌≡◌, ◌<◌, ◌-◌, ◌^◌, ◌++◌, IfOk, OnOk, flat_map, decimal};
-ghost use Rattle.test_text.specs.Tap.{tap, tap_lines, tap_test, tap_details, place_fields, outcome_fields, tap_byte, quoted_byte, field, number_field, verdict};
+ghost use Rattle.test_text.specs.Tap.{tap, tap_lines, tap_test, tap_details, place_fields, outcome_fields, tap_byte};
+ghost use Rattle.test_text.specs.Tap.{quoted_byte, field, number_field, verdict};
 
 use itoa::Buffer;
 use pm_bytes::{Blob, Memory};
