@@ -4,7 +4,11 @@ name=$(basename "$0" .sh)
 programs=${BIN:+$(cd "$BIN" && pwd)}
 cd "$(dirname "$0")/.."
 top=$PWD
-[ -n "$programs" ] || [ "${ARE_BUILT:-}" = yes ] || make -s build > /dev/null
+if [ -z "$programs" ] && [ "${ARE_BUILT:-}" != yes ]; then
+    echo "$name: make build proves and builds the programs first, an hour's work where nothing is built yet;" \
+        "BIN=DIRECTORY or ARE_BUILT=yes takes those that are there" >&2
+    make -s build > /dev/null
+fi
 programs=${programs:-$top/bin}
 program=$programs/procmail
 folder=$(mktemp -d)
