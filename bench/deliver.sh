@@ -23,6 +23,7 @@ message 819200 > m50m
 
 printf ':0:\nmbox\n' > one
 printf ':0\nmbox\n' > plain
+printf ':0\nfolder/\n' > maildir
 for _ in $(seq 1000); do printf ':0 c\n/dev/null\n\n'; done > null
 printf ':0\n/dev/null\n' >> null
 for number in $(seq 100); do printf ':0 c\nbox%s\n\n' "$number"; done > hundred
@@ -37,7 +38,7 @@ cost() {
     local label=$1 program=$2 rc=$3 mail=$4
     shift 4
     for what in "$@"; do
-        rm -f mbox box* trace
+        rm -rf mbox box* folder trace
         case $what in
             calls)
                 command -v strace > /dev/null || continue
@@ -77,6 +78,7 @@ both() {
 }
 both "4 KiB under a lock" one m4k calls instructions
 both "4 KiB without a lock" plain m4k calls instructions
+both "4 KiB to a maildir" maildir m4k calls instructions
 both "1 MiB" one m1m calls instructions
 both "50 MiB" one m50m calls instructions memory
 both "1,000 to /dev/null" null m4k calls instructions
