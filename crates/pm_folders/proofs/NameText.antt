@@ -1,5 +1,5 @@
 -- Texts in a row.
-use Rattle.std.proofs.Common.{◌≡◌, ℕ, List, [], ◌∷◌, ◌++◌, codes, map, append_assoc, ap, ◌∙◌}
+use Rattle.std.proofs.Common.{◌≡◌, ℕ, List, ◌∷◌, ◌++◌, codes, map, append_assoc, ap, ◌∙◌}
 use Rattle.pm_host.specs.World.{inside}
 use Rattle.pm_journal.specs.Naming.{stem, mark, maildir_part, unslashed}
 use Rattle.pm_journal.specs.declared.placing.Stamp.{Stamp}

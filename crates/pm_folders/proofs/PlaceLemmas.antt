@@ -1,5 +1,5 @@
 -- The filing in a folder, put together.
-use Rattle.std.proofs.Common.{◌≡◌, ◌≤◌, ◌<◌, ◌+◌, ℕ, suc, add-one, Bool, true, false, List, [], ◌∷◌, ◌++◌, length, drop, get_or, arith, refl, sym, ap, subst, inl, inr, append_assoc, append-nil, length-drop}
+use Rattle.std.proofs.Common.{◌≡◌, ◌≤◌, ◌<◌, ◌+◌, ℕ, zero, suc, add-one, Bool, true, false, List, [], ◌∷◌, ◌++◌, length, drop, get_or, arith, refl, sym, ap, subst, inl, inr, append_assoc, append-nil, length-drop}
 use Rattle.std.proofs.Math.Seq.{drop-cons}
 use Rattle.pm_host.specs.Told.{HostView, Makes}
 use Rattle.pm_host.specs.Runs.{Ran, logged}
@@ -10,14 +10,25 @@ use Rattle.pm_host.specs.declared.calls.Call.TheVariants.{MakeFolder, Names}
 use Rattle.pm_host.specs.declared.calls.Answer.{Answer}
 use Rattle.pm_host.specs.declared.calls.Answer.TheVariants.{MakeFolder as AnswerMakeFolder, Names as AnswerNames, Failed as AnswerFailed}
 use Rattle.pm_host.specs.declared.calls.Logged.{Logged}
-use Rattle.pm_journal.specs.Naming.{Numbered, plain_candidate, mh_candidate, maildir_candidate, maildir_folders, first_number}
+use Rattle.pm_journal.specs.Naming.{AreFrom, Numbered, plain_candidate, mh_candidate, maildir_candidate, maildir_folders, first_number}
 use Rattle.pm_journal.specs.Placing.{Numbers, MakesFolders, AfterMaking}
 use Rattle.pm_journal.specs.declared.placing.FolderKind.TheVariants.{Maildir, Mh, Plain}
 use Rattle.pm_journal.specs.declared.placing.Stamp.{Stamp}
 use Rattle.pm_journal.specs.declared.placing.Candidate.{Candidate}
+use Rattle.pm_folders.specs.Trying.{candidates_from}
+use Rattle.pm_folders.proofs.TriesLemmas.{candidates_count}
 use Rattle.pm_folders.specs.Filing.{TriesAll, EndsPlace, PlacesIn, MakesAll, MadeSoFar}
 use Rattle.pm_folders.specs.declared.tries.PlaceEnd.{PlaceEnd}
 use Rattle.pm_folders.specs.declared.tries.PlaceEnd.TheVariants.{Undone, Memory}
+
+-- the candidates from a number on are the same where each is
+are_from : (make other : ℕ → Candidate) (k n : ℕ) → ((j : ℕ) → make j ≡ other j) → AreFrom other k (candidates_from make k n)
+are_from make other k zero same = tt
+are_from make other k (suc n) same = (same k, are_from make other (k + 1) n same)
+
+-- 100 candidates of these names
+pub numbered : (make other : ℕ → Candidate) → ((j : ℕ) → make j ≡ other j) → Numbered other (candidates_from make 0 100)
+numbered make other same = record { count = candidates_count make 0 100; are = are_from make other 0 100 same }
 
 numbers_of : (make : ℕ → Candidate) (all : List Candidate) (piece : List ℕ) (end : PlaceEnd) (a b : HostView) → Numbered make all → (t : TriesAll all piece end a b) → Numbers make piece t.reply t.calls
 numbers_of make all piece end a b are t = record { all = all; are = are; tries = t.tries }

@@ -1,5 +1,5 @@
 -- Names that are tried in order, put together.
-use Rattle.std.proofs.Common.{◌≡◌, ◌≤◌, ◌<◌, ◌+◌, ℕ, List, [], ◌∷◌, ◌++◌, length, drop, get_or, suc, add-one, Option, Some, None, arith, refl, sym, ap, ◌∙◌, subst, inl, inr, append_assoc, append-nil, length-drop}
+use Rattle.std.proofs.Common.{◌≡◌, ◌≤◌, ◌<◌, ◌+◌, ℕ, zero, List, [], ◌∷◌, ◌++◌, length, drop, get_or, suc, add-one, Option, Some, None, arith, refl, sym, ap, ◌∙◌, subst, inl, inr, append_assoc, append-nil, length-drop}
 use Rattle.std.proofs.Math.Seq.{drop-cons}
 use Rattle.std.specs.Option.{unwrap_or}
 use Rattle.pm_host.specs.Told.{HostView}
@@ -9,6 +9,7 @@ use Rattle.pm_journal.specs.declared.placing.Candidate.{Candidate}
 use Rattle.pm_journal.specs.declared.placing.FileEnd.{FileEnd}
 use Rattle.pm_journal.specs.declared.placing.FileEnd.TheVariants.{Filed, Taken, Torn as FileTorn}
 use Rattle.pm_journal.specs.declared.acts.Reply.TheVariants.{Placed, TornAt, NamesOut as ReplyNamesOut}
+use Rattle.pm_folders.specs.Trying.{candidates_from}
 use Rattle.pm_folders.specs.Filing.{Tried, place_reply, TriesAll, TriedSoFar}
 use Rattle.pm_folders.specs.declared.tries.PlaceEnd.{PlaceEnd}
 use Rattle.pm_folders.specs.declared.tries.PlaceEnd.TheVariants.{Done, Torn, NamesOut}
@@ -58,9 +59,6 @@ tried_out all k piece a b so_far h = record {
       (so_far.goes_on ReplyNamesOut [] (subst (λ l. Tries l piece ReplyNamesOut []) (sym (nil_of (drop k all) (omega (arith, length-drop k all)))) (refl, refl)));
 }
 
-pub same_item : (all : List Candidate) (k : ℕ) (c d : Candidate) → k < length all → c ≡ get_or all k c → d ≡ get_or all k d → c ≡ d
-same_item all k c d h e f = let p : c ∷ drop (k + 1) all ≡ d ∷ drop (k + 1) all = sym (rest_is all k c h e) ∙ rest_is all k d h f in cc
-
 final_is : (at : List ℕ) (to : Option (List ℕ)) → final_name at to ≡ unwrap_or to at
 final_is at (Some to) = refl
 final_is at None = refl
@@ -68,5 +66,18 @@ final_is at None = refl
 pub filed_reply : (c : Candidate) (name : List ℕ) → name ≡ unwrap_or c.to c.at → place_reply (Done name) ≡ Some (try_reply c Filed)
 filed_reply c name e = ap (λ n. Some (Placed n)) (e ∙ sym (final_is c.at c.to))
 
-pub torn_reply : (c d : Candidate) (taken : ℕ) → c ≡ d → place_reply (Torn c.at taken) ≡ Some (try_reply d (FileTorn taken))
-torn_reply c d taken e = ap (λ x. Some (TornAt x.at taken)) e
+pub torn_reply : (c : Candidate) (name : List ℕ) (taken : ℕ) → name ≡ c.at → place_reply (Torn name taken) ≡ Some (try_reply c (FileTorn taken))
+torn_reply c name taken e = ap (λ n. Some (TornAt n taken)) e
+
+pub candidates_count : (make : ℕ → Candidate) (k n : ℕ) → length (candidates_from make k n) ≡ n
+candidates_count make k zero = refl
+candidates_count make k (suc n) = ap suc (candidates_count make (k + 1) n)
+
+get_from : (make : ℕ → Candidate) (k n i : ℕ) (d : Candidate) → i < n → get_or (candidates_from make k n) i d ≡ make (k + i)
+get_from make k zero i d h = absurd (omega arith)
+get_from make k (suc n) zero d h = let e : k ≡ k + 0 = omega arith in ap make e
+get_from make k (suc n) (suc i) d h = let e : k + 1 + i ≡ k + suc i = omega arith in get_from make (k + 1) n i d (omega arith) ∙ ap make e
+
+-- the candidate of this number stands at its place
+pub candidate_at : (make : ℕ → Candidate) (n i : ℕ) → i < n → make i ≡ get_or (candidates_from make 0 n) i (make i)
+candidate_at make n i h = let e : 0 + i ≡ i = omega arith in sym (get_from make 0 n i (make i) h ∙ ap make e)

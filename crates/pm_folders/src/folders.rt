@@ -3,7 +3,7 @@ ghost use Rattle.std.specs.Prelude.{List, ℕ};
 ghost use Rattle.pm_journal.specs.declared.placing.Stamp.{Stamp as Stamped};
 ghost use Rattle.pm_folders.specs.Filing.{PlacesIn, MakesAll};
 
-use crate::names::{maildir_candidates, maildir_folders, mh_candidates, plain_candidates};
+use crate::names::{maildir_folders, maildir_names, mh_names, plain_names};
 use crate::numbers::first_number;
 use crate::tries::{PlaceEnd, file_in_first};
 use pm_bytes::{Memory, Name};
@@ -44,16 +44,16 @@ fn place_plain<H: Host>(
     ensures { PlacesIn FolderKind.Plain folder.now prefix.now piece.now stamp.now result (H.told host.old)
         (H.told host.new) }
 {
-    match plain_candidates(alloc, folder, prefix, stamp) {
-        Ok(candidates) => file_in_first(host, candidates, piece),
+    match plain_names(alloc, folder, prefix, stamp) {
+        Ok(names) => file_in_first(host, names, piece),
         Err(Memory) => PlaceEnd::Memory,
     }
 }
 
 // Files the piece in an MH folder. Want of memory comes before any file is made.
 fn place_mh<H: Host>(alloc: Global, host: &mut H, folder: &Name, piece: &[u8]) -> PlaceEnd
-    ensures { (prefix : List ℕ) (stamp : Stamped) → PlacesIn FolderKind.Mh folder.now prefix piece.now stamp result (H.told host.old)
-        (H.told host.new) }
+    ensures { (prefix : List ℕ) (stamp : Stamped) → PlacesIn FolderKind.Mh folder.now prefix piece.now stamp result
+        (H.told host.old) (H.told host.new) }
 {
     if let Made::Failed = host.make_folder(folder.as_str()) {
         return PlaceEnd::Undone;
@@ -63,8 +63,8 @@ fn place_mh<H: Host>(alloc: Global, host: &mut H, folder: &Name, piece: &[u8]) -
         Listed::Failed => return PlaceEnd::Undone,
         Listed::Memory => return PlaceEnd::Memory,
     };
-    match mh_candidates(alloc, folder, first_number(parts.as_slice())) {
-        Ok(candidates) => file_in_first(host, candidates, piece),
+    match mh_names(alloc, folder, first_number(parts.as_slice())) {
+        Ok(names) => file_in_first(host, names, piece),
         Err(Memory) => PlaceEnd::Memory,
     }
 }
@@ -77,17 +77,17 @@ fn place_maildir<H: Host>(
     piece: &[u8],
     stamp: &Stamp,
 ) -> PlaceEnd
-    ensures { (prefix : List ℕ) → PlacesIn FolderKind.Maildir folder.now prefix piece.now stamp.now result (H.told host.old)
-        (H.told host.new) }
+    ensures { (prefix : List ℕ) → PlacesIn FolderKind.Maildir folder.now prefix piece.now stamp.now result
+        (H.told host.old) (H.told host.new) }
 {
     let Ok(folders) = maildir_folders(alloc, folder) else {
         return PlaceEnd::Memory;
     };
-    let Ok(candidates) = maildir_candidates(alloc, folder, stamp) else {
+    let Ok(names) = maildir_names(alloc, folder, stamp) else {
         return PlaceEnd::Memory;
     };
     if make_folders(host, folders.as_slice()) {
-        file_in_first(host, candidates, piece)
+        file_in_first(host, names, piece)
     } else {
         PlaceEnd::Undone
     }

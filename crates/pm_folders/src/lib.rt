@@ -7,6 +7,7 @@ mod folders;
 mod names;
 mod numbers;
 mod path;
+mod slot;
 mod tries;
 
 pub use folders::place;

@@ -34,16 +34,6 @@ impl Path {
         })
     }
 
-    /// A copy, with room for so many bytes more.
-    pub fn copy(&self, alloc: Global, room: usize) -> Result<Path, Memory>
-        ensures { IfOk result (λ path. path ≡ self.now) }
-    {
-        let text = self.text.as_str();
-        let mut copy = String::with_capacity(alloc, text.len().saturating_add(room))?;
-        copy.push_str(text)?;
-        Ok(Path { text: copy })
-    }
-
     pub fn as_str(&self) -> &str
         ensures same { result.now ≡ self.now }
         ensures plain { has_zero result.now ≡ false }

@@ -1,11 +1,15 @@
 //! A piece is filed under the first name that isn't taken.
-ghost use Rattle.std.specs.Prelude.{◌<◌, length};
 ghost use Rattle.pm_folders.specs.Filing.{TriesAll};
+ghost use Rattle.pm_folders.specs.Trying.{nth_try, candidates_from};
 
 use crate::file::file_under;
+use crate::names::Names;
 use pm_bytes::Name;
 use pm_host::Host;
-use pm_journal::{Candidate, FileEnd};
+use pm_journal::FileEnd;
+
+// How many names are tried.
+const MOST: u32 = 100;
 
 /// How the filing in a folder ended.
 #[derive(Debug, Drop)]
@@ -23,26 +27,22 @@ pub enum PlaceEnd {
 }
 
 /// Tries the names in order. It takes no memory.
-pub fn file_in_first<H: Host>(
-    host: &mut H,
-    mut candidates: Vec<Candidate>,
-    piece: &[u8],
-) -> PlaceEnd
-    ensures { TriesAll candidates.items piece.now result (H.told host.old) (H.told host.new) }
+pub fn file_in_first<H: Host>(host: &mut H, mut names: Names, piece: &[u8]) -> PlaceEnd
+    ensures { TriesAll (candidates_from (nth_try names) 0 100) piece.now result (H.told host.old) (H.told host.new) }
 {
-    for k in 0..candidates.len() {
-        match file_under(host, &candidates[k], piece) {
+    for k in 0..MOST {
+        names.write(k);
+        match file_under(host, &names, piece) {
             FileEnd::Taken => {}
             FileEnd::Undone => return PlaceEnd::Undone,
             FileEnd::Filed => {
-                let tried = candidates.swap_remove(k);
                 return PlaceEnd::Done {
-                    name: tried.to.unwrap_or(tried.at),
+                    name: names.into_filed(),
                 };
             }
             FileEnd::Torn(taken) => {
                 return PlaceEnd::Torn {
-                    name: candidates.swap_remove(k).at,
+                    name: names.into_made(),
                     taken,
                 };
             }

@@ -1,4 +1,4 @@
-use Rattle.pm_folders.proofs.PlaceLemmas.{mh_no_names, mh_left, mh_placed, there_of}
+use Rattle.pm_folders.proofs.PlaceLemmas.{mh_no_names, mh_left, mh_placed, numbered, there_of}
 use Rattle.pm_folders.proofs.folders.place_mh.Goals as goal
 
 pub returns-in-Failed-names : goal.returns-in-Failed-names
@@ -18,7 +18,7 @@ returns-in-Ok g c = λ prefix stamp.
     let made = rw c.as_str.ensures.same at c.make_folder.ensures in
     let lists = rw c.as_str-2.ensures.same at c.in-Names.ensures in
     let are = rw (c.first_number.ensures.is, c.as_slice.ensures) at c.in-Ok.ensures in
-    mh_placed _ _ _ _ _ _ _ _ _ _ _ _ made (there_of c.make_folder.result c.in_default.not-Failed) lists are c.file_in_first.ensures
+    mh_placed _ _ _ _ _ _ _ _ _ _ _ _ made (there_of c.make_folder.result c.in_default.not-Failed) lists (numbered _ _ are) c.file_in_first.ensures
 
 pub returns : goal.returns
 returns g c = λ prefix stamp.
