@@ -161,6 +161,41 @@ fn is_final(best: Option<Match>, left_labels: &Labels, right_labels: &Labels) ->
     }
 }
 
+/// Hands the labels of both parts on to the next place.
+fn hand_on(automata: &Automata, room: &mut Room, area: &[u8], place: usize)
+    requires automata { AreWhole automata.now }
+    requires room { Fits automata.now room.old }
+    requires place { place < length area.now }
+    ensures room { Fits automata.now room.new }
+    ensures left { let left = automata.now.left in (from : ℕ)
+        → IsHeld left.steps.items area.now left.entry
+        (LeftSeed left.steps.items area.now left.entry left.exit from) place room.old.left.of.items
+        → IsArrived left.steps.items area.now left.entry
+        (LeftSeed left.steps.items area.now left.entry left.exit from) (place + 1) room.new.left.of.items }
+    ensures right { let left = automata.now.left in (from : ℕ)
+        → IsHeld automata.now.right.steps.items area.now automata.now.right.entry
+        (RightSeed left.steps.items area.now left.entry left.exit from) place room.old.right.of.items
+        → IsArrived automata.now.right.steps.items area.now automata.now.right.entry
+        (RightSeed left.steps.items area.now left.entry left.exit from) (place + 1) room.new.right.of.items }
+{
+    advance(
+        &automata.left.steps,
+        &room.left,
+        &mut room.left_next,
+        area,
+        place,
+    );
+    mem::swap(&mut room.left, &mut room.left_next);
+    advance(
+        &automata.right.steps,
+        &room.right,
+        &mut room.right_next,
+        area,
+        place,
+    );
+    mem::swap(&mut room.right, &mut room.right_next);
+}
+
 /// The first match from a place on: the least start, for it the least cut, and for both the greatest end.
 pub fn find(automata: &Automata, room: &mut Room, area: &[u8], from: usize) -> Option<Match>
     requires automata { AreWhole automata.now }
@@ -186,22 +221,7 @@ pub fn find(automata: &Automata, room: &mut Room, area: &[u8], from: usize) -> O
             room.last = place;
             return best;
         }
-        advance(
-            &automata.left.steps,
-            &room.left,
-            &mut room.left_next,
-            area,
-            place,
-        );
-        mem::swap(&mut room.left, &mut room.left_next);
-        advance(
-            &automata.right.steps,
-            &room.right,
-            &mut room.right_next,
-            area,
-            place,
-        );
-        mem::swap(&mut room.right, &mut room.right_next);
+        hand_on(automata, room, area, place);
         let on = go_on(
             &automata.starts,
             best,

@@ -30,6 +30,11 @@ const LARGE: usize = 65536;
 /// How many of its first bytes show whether it does.
 const SAMPLE: usize = 1024;
 
+/// How many pieces of an area show whether it has many labels, and how many bytes each has.
+const PIECES: usize = 16;
+
+const PIECE: usize = 128;
+
 /// How many bytes for each state an area must have to pay for sets of states.
 const STATE: usize = 1024;
 
@@ -51,6 +56,15 @@ fn is_needed(starts: &Option<Starts>, size: usize) -> bool {
         None => size >= LONG,
         Some(tables) => size >= VERY_LONG && !tables.is_whole,
     }
+}
+
+/// The piece of this number, of pieces at equal distances from the area's front on.
+fn piece_of(area: &[u8], number: usize) -> &[u8] {
+    let start = (area.len() / PIECES).saturating_mul(number);
+    if area.len() < PIECE || start > area.len() - PIECE {
+        return &area[..0];
+    }
+    &area[start..start + PIECE]
 }
 
 /// The tables of an automaton. Where there is no memory for them the search goes on without.
@@ -230,21 +244,22 @@ impl Search {
         }
     }
 
-    /// How many labels of the left part a search of so many of the area's first bytes has at all of their places.
-    fn labels_of(&mut self, area: &[u8], first: usize) -> usize
+    /// How many labels of the left part a search of pieces from all over the area has at all of their places.
+    fn labels_of(&mut self, area: &[u8]) -> usize
         requires { (l : Re) × (r : Re) × (fold : Bool) × Runs self.old l r fold }
         ensures { (l r : Re) (fold : Bool) → Runs self.old l r fold → Runs self.new l r fold }
     {
-        if area.len() < first {
-            return 0;
-        }
         self.prepare(area);
-        let _found = self.first(&area[..first], 0);
-        self.room.labels
+        let mut labels: usize = 0;
+        for number in 0..PIECES {
+            let _found = self.first(piece_of(area, number), 0);
+            labels = labels.saturating_add(self.room.labels);
+        }
+        labels
     }
 
     /// Whether a pass from the front is worth it: a large automaton, for which the area is long enough, has many labels at
-    /// most of the first places.
+    /// the places of pieces of it.
     fn is_crowded(&mut self, area: &[u8]) -> bool
         requires { (l : Re) × (r : Re) × (fold : Bool) × Runs self.old l r fold }
         ensures kept { (l r : Re) (fold : Bool) → Runs self.old l r fold → Runs self.new l r fold }
@@ -254,7 +269,7 @@ impl Search {
         if area.len() < VERY_LONG || size < MANY || area.len() / FEWER < size {
             return false;
         }
-        self.labels_of(area, SAMPLE) / SAMPLE >= CROWD
+        self.labels_of(area) / (PIECES * PIECE) >= CROWD
     }
 
     /// Makes the sets for a pass from the front.
