@@ -17,6 +17,34 @@ fn takes_at(steps: &[Step], test: Test, area: &[u8], place: usize) -> bool
     place < area.len() && takes_byte(steps, test, area[place])
 }
 
+/// Whether the test takes nothing at a place, where that leads into a set.
+fn passes_into(test: Test, area: &[u8], place: usize, is_in: bool) -> bool
+    requires place { place ≤ length area.now }
+    ensures sound { IsTrue result → IsTrue is_in × IsTrue (passes test area.now place) }
+    ensures whole { IsTrue is_in → IsTrue (passes test area.now place) → IsTrue result }
+{
+    if is_in {
+        passes_at(test, area, place)
+    } else {
+        false
+    }
+}
+
+/// Whether the test takes this place's byte, where that leads into a set.
+fn takes_into(steps: &[Step], test: Test, area: &[u8], place: usize, is_in: bool) -> bool
+    requires ranges { RangesBelow test (length steps.now) }
+    ensures sound { IsTrue result → IsTrue is_in
+        × (b : ℕ) × (slice_get area.now place ≡ Some b) × IsTrue (takes steps.now test b) }
+    ensures whole { (b : ℕ) → IsTrue is_in → slice_get area.now place ≡ Some b → IsTrue (takes steps.now test b)
+        → IsTrue result }
+{
+    if is_in {
+        takes_at(steps, test, area, place)
+    } else {
+        false
+    }
+}
+
 /// Whether the state's step leads into the set at its place, or by the byte there into the set of the next place.
 fn leads_into(
     steps: &[Step],
@@ -43,11 +71,11 @@ fn leads_into(
             is_first | is_second
         }
         Step::Take(test, to) => {
-            let is_passed = passes_at(test, area, place);
-            let is_taken = takes_at(steps, test, area, place);
             let is_here = set[to];
             let is_there = next[to];
-            is_passed & is_here | is_taken & is_there
+            let is_passed = passes_into(test, area, place, is_here);
+            let is_taken = takes_into(steps, test, area, place, is_there);
+            is_passed | is_taken
         }
         Step::Range(_, _) => false,
     }

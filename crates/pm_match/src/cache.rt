@@ -15,6 +15,9 @@ use std::alloc::{AllocError, Global};
 /// How many sets there is room for at most.
 const MOST: usize = 128;
 
+/// For how many places of an area there is room for a set.
+const PLACES: usize = 128;
+
 /// How many links a set has: one for each byte in each context.
 pub const KEYS: usize = 768;
 
@@ -47,8 +50,8 @@ fn room_for(reach: usize) -> usize
     ensures few { result ≤ 128 }
     ensures many { 2 ≤ result }
 {
-    if reach / 512 < MOST - 2 {
-        reach / 512 + 2
+    if reach / PLACES < MOST - 2 {
+        reach / PLACES + 2
     } else {
         MOST
     }

@@ -48,7 +48,7 @@ const FEWER: usize = 32;
 const CROWD: usize = 3;
 
 /// The length of areas that the cache of a search for the first match has room for sets by.
-const REACH: usize = 16384;
+const REACH: usize = 4096;
 
 /// Whether tables are still to be made.
 fn is_needed(starts: &Option<Starts>, size: usize) -> bool {

@@ -1,8 +1,8 @@
-use Rattle.std.proofs.Common.{sym, ◌∙◌, ⊎_elim, arith}
+use Rattle.std.proofs.Common.{⊎_elim, arith}
 use Rattle.pm_match.specs.declared.step.Step.TheVariants.{Stop}
 use Rattle.pm_match.proofs.EdgeLemmas.{read_step, go_edge, fork_first, fork_second, take_edge, take_on, range_of}
 use Rattle.pm_match.proofs.CloseLemmas.{or_true}
-use Rattle.pm_match.proofs.BackwardLemmas.{held_read, read_held, and_true, true_and, true_or, or_true_too, into_here, into_next, stop_into, range_into, go_into, fork_into, take_into}
+use Rattle.pm_match.proofs.BackwardLemmas.{held_read, read_held, true_or, or_true_too, into_here, into_next, stop_into, range_into, go_into, fork_into, take_into}
 use Rattle.pm_match.proofs.backward.leads_into.Goals as goal
 
 pub bounds-set-to : goal.bounds-set-to
@@ -20,8 +20,8 @@ bounds-set-second c =
     let r = range_of c.args.steps.now c.args.state _ c.requires.program (read_step c.args.steps.now c.args.state Stop _ c.requires.state c.in-Fork.is) in
     omega (arith, r.1, c.requires.set)
 
-pub takes_at-is_taken-requires : goal.takes_at-is_taken-requires
-takes_at-is_taken-requires c =
+pub takes_into-is_taken-requires : goal.takes_into-is_taken-requires
+takes_into-is_taken-requires c =
     let r = range_of c.args.steps.now c.args.state _ c.requires.program (read_step c.args.steps.now c.args.state Stop _ c.requires.state c.in-Take.is) in
     record { ranges = r.1 }
 
@@ -83,20 +83,19 @@ returns-in-Take-clause-sound c = λ e.
     let below = r.0 in
     ⊎_elim
     (λ one.
-    let both = and_true _ _ one in
+    let both = c.passes_into-is_passed.ensures.sound one in
     into_here c.args.steps.now c.args.area.now c.args.place c.args.set.now c.args.next.now c.args.state c.in-Take.to
-    (take_edge _ _ _ _ _ _ is (sym c.passes_at-is_passed.ensures ∙ both.0)) (held_read c.args.set.now c.in-Take.to (omega (arith, below, c.requires.set)) both.1))
+    (take_edge _ _ _ _ _ _ is both.1) (held_read c.args.set.now c.in-Take.to (omega (arith, below, c.requires.set)) both.0))
     (λ two.
-    let both = and_true _ _ two.1 in
-    let taken = c.takes_at-is_taken.ensures.sound both.0 in
+    let taken = c.takes_into-is_taken.ensures.sound two.1 in
     into_next c.args.steps.now c.args.area.now c.args.place c.args.set.now c.args.next.now c.args.state c.in-Take.to
-    (take_on _ _ _ _ _ _ taken.0 is taken.1 taken.2) (held_read c.args.next.now c.in-Take.to (omega (arith, below, c.requires.next)) both.1))
+    (take_on _ _ _ _ _ _ taken.1 is taken.2 taken.3) (held_read c.args.next.now c.in-Take.to (omega (arith, below, c.requires.next)) taken.0))
     (or_true _ _ e)
 
 pub returns-in-Take-clause-whole : goal.returns-in-Take-clause-whole
 returns-in-Take-clause-whole c = λ h.
     ⊎_elim
-    (λ one. true_or _ _ (true_and _ _ (c.passes_at-is_passed.ensures ∙ one.0) (read_held c.args.set.now c.in-Take.to one.1)))
-    (λ two. or_true_too _ _ (true_and _ _ (c.takes_at-is_taken.ensures.whole two.0 two.1 two.2) (read_held c.args.next.now c.in-Take.to two.3)))
+    (λ one. true_or _ _ (c.passes_into-is_passed.ensures.whole (read_held c.args.set.now c.in-Take.to one.1) one.0))
+    (λ two. or_true_too _ _ (c.takes_into-is_taken.ensures.whole two.0 (read_held c.args.next.now c.in-Take.to two.3) two.1 two.2))
     (take_into c.args.steps.now c.args.area.now c.args.place c.args.set.now c.args.next.now c.args.state _ _
     (read_step c.args.steps.now c.args.state Stop _ c.requires.state c.in-Take.is) h)
