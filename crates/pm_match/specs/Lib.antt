@@ -16,4 +16,5 @@ pub mod Forward
 pub mod Begins
 pub mod Lists
 pub mod Anywhere
+pub mod Examples
 pub mod Checkpoints

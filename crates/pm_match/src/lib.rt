@@ -14,6 +14,7 @@ mod engine;
 mod find;
 mod forward;
 mod labels;
+mod laws;
 mod marks;
 mod row;
 mod search;
@@ -23,3 +24,4 @@ mod step;
 mod tables;
 
 pub use engine::Engine;
+pub use laws::examples;

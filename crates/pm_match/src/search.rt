@@ -36,7 +36,7 @@ const PIECES: usize = 16;
 const PIECE: usize = 128;
 
 /// How many bytes for each state an area must have to pay for sets of states.
-const STATE: usize = 1024;
+const STATE: usize = 32;
 
 /// How many states a large automaton has: as many as that of a list of some fifteen words.
 const MANY: usize = 256;
