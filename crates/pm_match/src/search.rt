@@ -25,7 +25,7 @@ const LONG: usize = 256;
 const VERY_LONG: usize = 16384;
 
 /// How long an area is if a pass from its end may save more than it takes.
-const LARGE: usize = 65536;
+const LARGE: usize = 16384;
 
 /// How many of its first bytes show whether it does.
 const SAMPLE: usize = 1024;
@@ -48,7 +48,7 @@ const FEWER: usize = 32;
 const CROWD: usize = 3;
 
 /// The length of areas that the cache of a search for the first match has room for sets by.
-const REACH: usize = 4096;
+const REACH: usize = 16384;
 
 /// Whether tables are still to be made.
 fn is_needed(starts: &Option<Starts>, size: usize) -> bool {
