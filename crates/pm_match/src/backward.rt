@@ -122,7 +122,8 @@ fn sweep_up(steps: &[Step], area: &[u8], place: usize, set: &mut Vec<bool>, next
     requires next { length next.now ≡ length steps.now }
     ensures kept { (q : ℕ) → Holds set.old.items q → Holds set.new.items q }
     ensures sound { (exit : ℕ) → (place < length area.now → AllReachExit steps.now area.now exit (place + 1) next.now)
-        → AllReachExit steps.now area.now exit place set.old.items → AllReachExit steps.now area.now exit place set.new.items }
+        → AllReachExit steps.now area.now exit place set.old.items
+        → AllReachExit steps.now area.now exit place set.new.items }
     ensures len { vec_len set.new ≡ vec_len set.old }
     ensures fewer { IsTrue result → missing set.new.items < missing set.old.items }
     ensures closed { IsFalse result → IsClosedBackward steps.now area.now place set.new.items next.now }
@@ -143,7 +144,8 @@ fn sweep_down(steps: &[Step], area: &[u8], place: usize, set: &mut Vec<bool>, ne
     requires next { length next.now ≡ length steps.now }
     ensures kept { (q : ℕ) → Holds set.old.items q → Holds set.new.items q }
     ensures sound { (exit : ℕ) → (place < length area.now → AllReachExit steps.now area.now exit (place + 1) next.now)
-        → AllReachExit steps.now area.now exit place set.old.items → AllReachExit steps.now area.now exit place set.new.items }
+        → AllReachExit steps.now area.now exit place set.old.items
+        → AllReachExit steps.now area.now exit place set.new.items }
     ensures len { vec_len set.new ≡ vec_len set.old }
     ensures lighter { missing set.new.items ≤ missing set.old.items }
 {
@@ -162,7 +164,8 @@ fn sweep_both(steps: &[Step], area: &[u8], place: usize, set: &mut Vec<bool>, ne
     requires next { length next.now ≡ length steps.now }
     ensures kept { (q : ℕ) → Holds set.old.items q → Holds set.new.items q }
     ensures sound { (exit : ℕ) → (place < length area.now → AllReachExit steps.now area.now exit (place + 1) next.now)
-        → AllReachExit steps.now area.now exit place set.old.items → AllReachExit steps.now area.now exit place set.new.items }
+        → AllReachExit steps.now area.now exit place set.old.items
+        → AllReachExit steps.now area.now exit place set.new.items }
     ensures len { vec_len set.new ≡ vec_len set.old }
     ensures fewer { IsTrue result → missing set.new.items < missing set.old.items }
     ensures closed { IsFalse result → IsClosedBackward steps.now area.now place set.new.items next.now }

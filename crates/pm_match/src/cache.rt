@@ -1,6 +1,8 @@
-//! A cache of the backward pass. It is a deterministic automaton that reads an area from its end (a lazy DFA): its states
-//! are the sets that the pass has met, and its links are made as they are needed. Runs that read on have another one.
-ghost use Rattle.std.specs.Prelude.{◌≡◌, ℕ, ◌+◌, ◌*◌, ◌<◌, ◌≤◌, ◌↔◌, Bool, true, false, List, Some, IfOk, IsTrue, IsFalse};
+//! A cache of the backward pass. It is a deterministic automaton that reads an area from its end (a lazy DFA): its
+//! states are the sets that the pass has met, and its links are made as they are needed. Runs that read on have another
+//! one.
+ghost use Rattle.std.specs.Prelude.{◌≡◌, ℕ, ◌+◌, ◌*◌, ◌<◌, ◌≤◌, ◌↔◌, Bool, true, false, List, Some};
+ghost use Rattle.std.specs.Prelude.{IfOk, IsTrue, IsFalse};
 ghost use Rattle.std.specs.Prelude.{length, vec_len, slice_get};
 ghost use Rattle.pm_match.specs.declared.step.Step.{Step};
 ghost use Rattle.pm_match.specs.declared.cache.States.{States};
@@ -326,7 +328,8 @@ pub fn mark_starts(
     ensures ready { AreReady false program.now.steps.items program.now.exit cache.new }
     ensures marks { vec_len marks.new ≡ vec_len marks.old }
     ensures before { IsExitSet program.now.steps.items area.now program.now.exit low set.new.items }
-    ensures marked { AreMarks program.now.steps.items program.now.entry program.now.exit area.now low high marks.new.items }
+    ensures marked { AreMarks program.now.steps.items program.now.entry program.now.exit area.now low high
+        marks.new.items }
 {
     let mut at = enter(cache, set);
     let mut place = high;

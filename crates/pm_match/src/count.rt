@@ -67,8 +67,9 @@ fn expected(search: &mut Search, area: &[u8]) -> usize
     }
 }
 
-/// How many places the last search visited that the next one visits again. If it visited many of those that it went past,
-/// and the area is long beside the automaton, it is all that it visited, four times over: sets cost less for each.
+/// How many places the last search visited that the next one visits again. If it visited many of those that it went
+/// past, and the area is long beside the automaton, it is all that it visited, four times over: sets cost less for
+/// each.
 fn burden(search: &Search, length: usize, before: usize, after: usize) -> usize {
     let visits = search.visits();
     if search.is_small(length) && visits > after.saturating_sub(before) / 8 {
@@ -80,8 +81,8 @@ fn burden(search: &Search, length: usize, before: usize, after: usize) -> usize 
 
 /// How many matches of the left part there are; the right part is to match nothing.
 ///
-/// A search may have to visit places after its match, and the next one visits them again. Once these, or what sets would
-/// save, are an eighth of the area's, the rest is counted by marks, if room for them was reserved.
+/// A search may have to visit places after its match, and the next one visits them again. Once these, or what sets
+/// would save, are an eighth of the area's, the rest is counted by marks, if room for them was reserved.
 pub fn count(search: &mut Search, area: &[u8]) -> u64
     requires { (e : Re) × (fold : Bool) × Runs search.old e nothing fold }
     ensures kept { (l r : Re) (fold : Bool) → Runs search.old l r fold → Runs search.new l r fold }

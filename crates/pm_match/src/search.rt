@@ -203,8 +203,8 @@ impl Search {
         self.visits() > first / 2
     }
 
-    /// Whether a pass from the end is worth it: a search by labels visits most bytes, and ends in none of the first ones.
-    /// So the pass costs little beside a search that ends early.
+    /// Whether a pass from the end is worth it: a search by labels visits most bytes, and ends in none of the first
+    /// ones. So the pass costs little beside a search that ends early.
     fn is_worth(&mut self, area: &[u8]) -> bool
         requires { (l : Re) × (r : Re) × (fold : Bool) × Runs self.old l r fold }
         ensures { (l r : Re) (fold : Bool) → Runs self.old l r fold → Runs self.new l r fold }
@@ -258,8 +258,8 @@ impl Search {
         labels
     }
 
-    /// Whether a pass from the front is worth it: a large automaton, for which the area is long enough, has many labels at
-    /// the places of pieces of it.
+    /// Whether a pass from the front is worth it: a large automaton, for which the area is long enough, has many labels
+    /// at the places of pieces of it.
     fn is_crowded(&mut self, area: &[u8]) -> bool
         requires { (l : Re) × (r : Re) × (fold : Bool) × Runs self.old l r fold }
         ensures kept { (l r : Re) (fold : Bool) → Runs self.old l r fold → Runs self.new l r fold }
@@ -346,8 +346,8 @@ impl Search {
         Ok(())
     }
 
-    /// How many matches of the left part there are, those before a place being counted already; the right part is to match
-    /// nothing.
+    /// How many matches of the left part there are, those before a place being counted already; the right part is to
+    /// match nothing.
     pub fn count_on(&mut self, area: &[u8], from: Progress) -> u64
         requires runs { (e : Re) × (fold : Bool) × Runs self.old e nothing fold }
         requires few { from.count ≤ from.place }
