@@ -12,7 +12,7 @@ use std::alloc::{AllocError, Global};
 const MOST: usize = 512;
 
 /// How many states of a set there is room for in the mean.
-const MEAN: usize = 16;
+const MEAN: usize = 128;
 
 /// How many slots there are for each set.
 const SLOTS: usize = 4;
