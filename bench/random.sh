@@ -7,10 +7,11 @@
 #     bench/random.sh PROGRAM              with another build of procmail
 #     bench/random.sh PROGRAM COUNT SEED.. so many expressions of each of these seeds
 #
-# Each expression is ten conditions of one rcfile. From the processor time of the run that of one without conditions is
-# subtracted. Where ours takes 5 milliseconds more than five times 3.22's, both are run five times more, and the medians
-# count: a smaller difference on 16 KiB is noise. 3.22 takes almost no time for some weighted expressions that match
-# the empty text, as `.?`. So its time counts as at least 0.3 milliseconds a search, which is 18 nanoseconds a byte.
+# One run evaluates many expressions, each in a recipe of its own, with a line of the log after it. What passes between
+# two lines is the time of an expression; the least of three runs counts, so that other work on the machine does little.
+# Where ours is above five times 3.22's, the condition is evaluated ten times in a run of its own, and the medians of five
+# such runs decide, by processor time. 3.22 takes almost no time for some weighted expressions that match the empty text,
+# as `.?`. So its time counts as at least 0.3 milliseconds, which is 18 nanoseconds a byte.
 set -eu
 cd "$(dirname "$0")/.."
 ours=${1:-bin/procmail}
@@ -28,7 +29,9 @@ cd "$folder"
 unset MAILDIR DEFAULT ORGMAIL
 turns=5
 repeats=10
-least=$((3 * repeats / 10))
+least=300
+batch=50
+limit=2
 
 # mail SIZE: a mail whose body is ordinary lines, up to so many bytes
 mail() {
@@ -79,22 +82,24 @@ expressions() {
         }'
 }
 
-# rcfile IS-WEIGHTED EXPRESSION TIMES: so many recipes with that condition, of which none delivers
+# recipe NUMBER EXPRESSION: a recipe with that condition, weighted where the number is odd, and an empty block
+recipe() {
+    local weight=
+    if (($1 % 2)); then weight='1^1 '; fi
+    printf ':0 B\n* %s%s\n{ }\n\n' "$weight" "$2"
+}
+
+# rcfile NUMBER EXPRESSION TIMES: the same condition so many times
 rcfile() {
-    local recipe
-    if [ "$1" = yes ]; then
-        recipe=":0 B"$'\n'"* 1^1 $2"$'\n'"* -2147483647^0"$'\n'"/dev/null"$'\n\n'
-    else
-        recipe=":0 B"$'\n'"* $2"$'\n'"* < 0"$'\n'"/dev/null"$'\n\n'
-    fi
+    local done
     echo DEFAULT=/dev/null
-    for ((done = 0; done < $3; done++)); do printf '%s' "$recipe"; done
+    for ((done = 0; done < $3; done++)); do recipe "$1" "$2"; done
 }
 
 # took PROGRAM MAIL: sets `time` to the processor time of a run by `rc` in milliseconds
 took() {
     local TIMEFORMAT='%U %S' all
-    all=$( { time timeout 10 "$1" -m ./rc < "$2" > /dev/null 2>&1; } 2>&1 ) || true
+    all=$( { time timeout 60 "$1" -m ./rc < "$2" > /dev/null 2>&1; } 2>&1 ) || true
     all=${all##*$'\n'}
     local user=${all% *} system=${all#* }
     time=$((10#${user/./} + 10#${system/./}))
@@ -110,52 +115,109 @@ median() {
     time=$(printf '%s\n' "${all[@]}" | sort -n | sed -n "$(((turns + 1) / 2))p")
 }
 
+# lap PROGRAM: for each line `lap NUMBER` that a run by `rc` logs its number, and the microseconds since the line before
+lap() {
+    timeout "$limit" "$1" -m ./rc < small 2>&1 > /dev/null | {
+        before=${EPOCHREALTIME/./}
+        while IFS= read -r line; do
+            now=${EPOCHREALTIME/./}
+            case $line in
+                'lap 0') before=$now ;;
+                'lap '*) echo "${line#lap } $((now - before))" && before=${EPOCHREALTIME/./} ;;
+            esac
+        done
+    } || true
+}
+
+# laps PROGRAM: one run over the expressions of `part`, lines of a number and an expression. 3.22 never ends with some:
+# these have the time limit, and the run goes on after them.
+laps() {
+    local number expression last
+    cp part left
+    while [ -s left ]; do
+        {
+            printf 'DEFAULT=/dev/null\nLOG="lap 0\n"\n'
+            while read -r number expression; do
+                recipe "$number" "$expression"
+                printf 'LOG="lap %d\n"\n' "$number"
+            done < left
+        } > rc
+        lap "$1" > got
+        cat got
+        last=$(tail -n 1 got)
+        awk -v last="${last%% *}" 'last == "" || $1 > last' left > rest
+        read -r number expression < rest || break
+        echo "$number $((limit * 1000000))"
+        sed 1d rest > left
+    done
+}
+
+# least_of PROGRAM FILE: writes the least of three runs for each number. What had no end in the first isn't run again.
+least_of() {
+    local turn
+    cp all part
+    laps "$1" > runs
+    for turn in 2 3; do
+        awk -v limit="$((limit * 1000000))" 'NR == FNR { if ($2 == limit) out[$1]; next } !($1 in out)' runs all > part
+        laps "$1" >> runs
+    done
+    awk '!($1 in least) || $2 < least[$1] { least[$1] = $2 }
+        END { for (number in least) print number, least[number] }' runs | sort -n >> "$2"
+}
+
 mail 16384 > small
 mail 1048576 > large
-rcfile no x 0 > rc
+rcfile 0 x 0 > rc
 median "$ours" small
 our_start=$time
 median "$theirs" small
 their_start=$time
 
 failed=0
+# again NUMBER EXPRESSION: measures one expression by processor time
+again() {
+    rcfile "$1" "$2" "$repeats" > rc
+    median "$ours" small
+    local mine=$((time - our_start))
+    median "$theirs" small
+    local other=$(((time - their_start) * 1000 / repeats))
+    [ "$other" -ge "$least" ] || other=$least
+    ratio=$((mine * 1000 / repeats * 10 / other))
+}
+
 for seed in "$@"; do
     expressions "$seed" "$count" > list
-    : > worst
-    number=0
-    while IFS= read -r expression; do
-        number=$((number + 1))
-        if ((number % 2)); then is_weighted=yes; else is_weighted=no; fi
-        rcfile "$is_weighted" "$expression" "$repeats" > rc
-        took "$ours" small
-        mine=$((time - our_start))
-        took "$theirs" small
-        other=$((time - their_start))
-        [ "$other" -ge "$least" ] || other=$least
-        if ((mine > 5 * other + 5)); then
-            median "$ours" small
-            mine=$((time - our_start))
-            median "$theirs" small
-            other=$((time - their_start))
-            [ "$other" -ge "$least" ] || other=$least
-        fi
-        printf '%d %d %d %s %s\n' "$((10 * mine / other))" "$mine" "$other" "$is_weighted" "$expression" >> worst
-    done < list
-    echo "Seed $seed, the worst of $count (tenths of 3.22, milliseconds of $repeats searches, 3.22's, weighted, expression):"
-    sort -rn worst > sorted
-    sed -n 1,5p sorted
-    while read -r ratio mine other is_weighted expression; do
-        [ "$ratio" -gt 50 ] && [ "$mine" -gt $((5 * other + 5)) ] || continue
-        if [ "$ratio" -gt 100 ]; then
-            echo "  above ten times: $expression"
-            failed=1
-        fi
-        rcfile "$is_weighted" "$expression" 1 > rc
+    : > mine
+    : > others
+    for ((first = 1; first <= count; first += batch)); do
+        awk -v first="$first" -v last="$((first + batch))" 'NR >= first && NR < last { print NR, $0 }' list > all
+        least_of "$ours" mine
+        least_of "$theirs" others
+    done
+    [ "$(wc -l < mine)" -eq "$count" ] && [ "$(wc -l < others)" -eq "$count" ] || {
+        echo "seed $seed: $(wc -l < mine) and $(wc -l < others) of $count were evaluated"
+        failed=1
+    }
+    join <(sort mine) <(sort others) | awk -v least="$least" \
+        '{ other = $3 < least ? least : $3; printf "%d %d %d %d\n", $1, 10 * $2 / other, $2, $3 }' > times
+    echo "Seed $seed, the worst of $count (tenths of 3.22, microseconds, 3.22's, weighted if the number is odd, expression):"
+    sort -k2,2nr times | sed -n 1,5p | while read -r number ratio mine other; do
+        echo "  $ratio $mine $other $number $(sed -n "${number}p" list)"
+    done
+    awk '$2 > 50' times > worst
+    while read -r number ratio mine other; do
+        expression=$(sed -n "${number}p" list)
+        again "$number" "$expression"
+        echo "  again: $ratio tenths: $expression"
+        [ "$ratio" -le 100 ] || { echo "  above ten times: $expression" && failed=1; }
+    done < worst
+    sort -k3,3nr times | sed -n 1,5p > slow
+    while read -r number ratio mine other; do
+        expression=$(sed -n "${number}p" list)
+        rcfile "$number" "$expression" 1 > rc
         took "$ours" large
-        if [ "$time" -gt 1000 ]; then
-            echo "  $time milliseconds on 1 MiB: $expression"
-            failed=1
-        fi
-    done < sorted
+        echo "  on 1 MiB $time milliseconds: $expression"
+        [ "$time" -le 1000 ] || { echo "  above a second: $expression" && failed=1; }
+    done < slow
 done
 exit "$failed"
