@@ -1,10 +1,10 @@
 -- An automaton with four steps more, which read any bytes before a match.
-use Rattle.std.proofs.Common.{◌≡◌, ◌⊎◌, ℕ, Bool, true, false, zero, suc, ◌+◌, ◌<◌, ◌≤◌, ◌==◌, not, List, [], ◌∷◌, ◌++◌, Some, None, length, refl, sym, ◌∙◌, subst, ap, ⊎_elim, arith, length-append}
+use Rattle.std.proofs.Common.{◌≡◌, ℕ, Bool, false, zero, suc, ◌+◌, ◌<◌, ◌≤◌, ◌==◌, not, List, [], ◌∷◌, ◌++◌, Some, length, refl, sym, ◌∙◌, subst, ap, ⊎_elim, arith, length-append}
 use Rattle.std.specs.Prelude.{slice_get}
 use Rattle.pm_regex.specs.declared.op.Atom.TheVariants.{Any, LineStart}
 use Rattle.pm_regex.specs.Re.{Re}
 use Rattle.pm_match.specs.declared.step.Step.{Step}
-use Rattle.pm_match.specs.declared.step.Step.TheVariants.{Stop, Fork, Take}
+use Rattle.pm_match.specs.declared.step.Step.TheVariants.{Fork, Take}
 use Rattle.pm_match.specs.declared.step.Test.TheVariants.{One}
 use Rattle.pm_match.specs.declared.build.Program.{Program}
 use Rattle.pm_match.specs.Automaton.{Built, Edge}

@@ -1,5 +1,5 @@
 -- An automaton that reads any bytes before a match of another one.
-use Rattle.std.specs.Prelude.{◌≡◌, ℕ, ◌<◌, ◌≤◌, Bool, List, Some, length, slice_get}
+use Rattle.std.specs.Prelude.{ℕ, ◌<◌, ◌≤◌, Bool, List, length}
 use Rattle.pm_regex.specs.Re.{Re}
 use Rattle.pm_regex.specs.Matching.{At}
 use Rattle.pm_match.specs.declared.build.Program.{Program}

@@ -1,8 +1,7 @@
 use Rattle.std.specs.Prelude.{codes, slice_get}
-use Rattle.std.proofs.Common.{◌≡◌, ℕ, zero, suc, ◌<◌, ◌≤◌, Bool, false, true, List, [], ◌∷◌, Some, refl, inl, inr, ⊎_elim, ap, sym, ◌∙◌, subst, arith}
-use Rattle.pm_match.specs.Examples.{OfLists, OfAnywhere, states, last_two, middle, anywhere}
+use Rattle.std.proofs.Common.{◌≡◌, ℕ, zero, suc, ◌<◌, ◌≤◌, false, true, List, [], ◌∷◌, Some, refl, inl, inr, ⊎_elim, ap, sym, ◌∙◌, subst, arith}
+use Rattle.pm_match.specs.Examples.{states, last_two, middle, anywhere}
 use Rattle.pm_regex.specs.declared.op.Atom.TheVariants.{Byte}
-use Rattle.pm_match.specs.declared.step.Step.{Step}
 use Rattle.pm_match.specs.declared.step.Step.TheVariants.{Stop, Take}
 use Rattle.pm_match.specs.declared.step.Test.{Test}
 use Rattle.pm_match.specs.declared.step.Test.TheVariants as test

@@ -1,4 +1,4 @@
-use Rattle.std.proofs.Common.{◌∙◌, arith}
+use Rattle.std.proofs.Common.{arith}
 use Rattle.std.proofs.lemmas.Option.{slice_get_read}
 use Rattle.pm_match.proofs.ListLemmas.{listed_set}
 use Rattle.pm_match.proofs.sets.is_set.Goals as goal

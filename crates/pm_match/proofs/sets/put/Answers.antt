@@ -1,5 +1,4 @@
-use Rattle.std.proofs.Common.{◌≡◌, ◌++◌, ◌∷◌, [], length, length-append, ap, ◌∙◌, refl, arith}
-use Rattle.pm_match.specs.declared.sets.Span.{Span}
+use Rattle.std.proofs.Common.{◌++◌, length, length-append, ap, ◌∙◌, refl, arith}
 use Rattle.pm_match.proofs.ListLemmas.{put_bounded, put_kept, put_set, put_met}
 use Rattle.pm_match.proofs.sets.put.Goals as goal
 
