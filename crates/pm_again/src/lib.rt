@@ -5,4 +5,4 @@ mod again;
 #[cfg(test)]
 mod tests;
 
-pub use again::{MOST_TRIES, open, read, read_at, write};
+pub use again::{MOST_TRIES, open, read, read_at, until_answered, write};
