@@ -1,2 +1,4 @@
 pub mod Cut
 pub mod Machine
+pub mod Taken
+pub mod Variables

@@ -1,2 +1,5 @@
 pub mod Entry
+pub mod Examples
 pub mod Login
+pub mod Variables
+pub mod Words

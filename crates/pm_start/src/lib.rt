@@ -3,10 +3,12 @@
 
 mod environment;
 mod first;
+mod laws;
 mod user;
 mod words;
 
-pub use environment::{machine_name, read_environment, read_pair};
+pub use environment::{Entries, machine_name, read_entries, read_environment, read_pair};
 pub use first::{before_sign, first_line};
+pub use laws::examples;
 pub use user::login;
 pub use words::{Words, read_words, without_first};
