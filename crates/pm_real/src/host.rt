@@ -1,8 +1,13 @@
 //! The files, the clock and the children of the machine.
-ghost use Rattle.std.specs.Prelude.{◌≡◌, ◌≤◌, IfOk};
-ghost use Rattle.pm_host.specs.Told.{Rose};
+ghost use Rattle.std.specs.Prelude.{◌≡◌, ◌≤◌, ◌<◌, None, true, false, length, IfOk};
+ghost use Rattle.pm_host.specs.Told.{Rose, Makes};
+ghost use Rattle.pm_host.specs.declared.calls.Call.TheVariants as call;
+ghost use Rattle.pm_host.specs.declared.calls.Answer.TheVariants as answer;
 ghost use Rattle.pm_host.specs.declared.answers.Child.TheVariants.{NoChild};
 ghost use Rattle.pm_real.specs.Quiet.{quiet_host};
+ghost use Rattle.pm_real.specs.Kept.{is_open_target};
+ghost use Rattle.pm_real.specs.Calls.{state_of, count_of, Adds, IsUsed, IsCutBy, IsEmptied};
+ghost use Rattle.pm_real.specs.declared.mode.Mode.TheVariants.{Appending};
 
 use crate::child::Running;
 use crate::kept_file::KeptFile;
@@ -74,6 +79,7 @@ where
         ensures rose { Rose self.old.faults self.new.faults }
         ensures later { self.old.faults ≤ self.new.faults }
         ensures child { self.new.child ≡ self.old.child }
+        ensures kept { self.new.kept ≡ self.old.kept }
     {
         self.faults = self.faults.saturating_add(1);
     }
@@ -132,7 +138,10 @@ where
         self.faults
     }
 
-    fn look(&mut self, name: &str) -> Looked {
+    fn look(&mut self, name: &str) -> Looked
+        ensures made { Makes (call.Look name.now) (answer.Look result) (quiet_host self.old.faults self.old.child) (quiet_host self.new.faults self.new.child) }
+        ensures closed { self.new.kept.opened ≡ None }
+    {
         self.kept.close();
         let looked = folders::look(&self.rt, name);
         match looked {
@@ -164,7 +173,11 @@ where
         }
     }
 
-    fn append(&mut self, name: &str, piece: &[u8]) -> Took {
+    fn append(&mut self, name: &str, piece: &[u8]) -> Took
+        requires { 0 < length piece.now }
+        ensures made { Makes (call.Append name.now piece.now) (answer.Append result) (quiet_host self.old.faults self.old.child) (quiet_host self.new.faults self.new.child) }
+        ensures kept { Adds name.now (count_of result) (state_of self.old.kept.opened) (state_of self.new.kept.opened) }
+    {
         match self
             .kept
             .append(&self.rt, self.alloc, name, piece, self.limit)
@@ -187,7 +200,10 @@ where
         }
     }
 
-    fn cut(&mut self, name: &str, len: u64) -> Cut {
+    fn cut(&mut self, name: &str, len: u64) -> Cut
+        ensures made { Makes (call.Cut name.now len) (answer.Cut result) (quiet_host self.old.faults self.old.child) (quiet_host self.new.faults self.new.child) }
+        ensures kept { IsUsed name.now Appending (IsCutBy result len) (state_of self.old.kept.opened) (state_of self.new.kept.opened) }
+    {
         match self.kept.cut(&self.rt, self.alloc, name, len) {
             Ok(()) => Cut::Cut,
             Err(_) => {
@@ -197,7 +213,11 @@ where
         }
     }
 
-    fn remove(&mut self, name: &str) -> Removed {
+    fn remove(&mut self, name: &str) -> Removed
+        ensures made { Makes (call.Remove name.now) (answer.Remove result) (quiet_host self.old.faults self.old.child) (quiet_host self.new.faults self.new.child) }
+        ensures closed { is_open_target name.now (state_of self.old.kept.opened) ≡ false → self.new.kept.opened ≡ None }
+        ensures emptied { is_open_target name.now (state_of self.old.kept.opened) ≡ true → IsEmptied result (state_of self.old.kept.opened) (state_of self.new.kept.opened) }
+    {
         let removed = if self.kept.is_target(name) {
             self.kept.empty()
         } else {
@@ -210,7 +230,10 @@ where
         removed
     }
 
-    fn rename(&mut self, from: &str, to: &str) -> Moved {
+    fn rename(&mut self, from: &str, to: &str) -> Moved
+        ensures made { Makes (call.Rename from.now to.now) (answer.Rename result) (quiet_host self.old.faults self.old.child) (quiet_host self.new.faults self.new.child) }
+        ensures closed { self.new.kept.opened ≡ None }
+    {
         self.kept.close();
         let moved = folders::rename(&self.rt, from, to);
         if moved == Moved::Failed {
@@ -251,7 +274,10 @@ where
         seconds(&self.rt)
     }
 
-    fn start(&mut self, command: &Command, want: bool) -> Started {
+    fn start(&mut self, command: &Command, want: bool) -> Started
+        ensures made { Makes (call.Start command.now want) (answer.Start result) (quiet_host self.old.faults self.old.child) (quiet_host self.new.faults self.new.child) }
+        ensures closed { self.new.kept.opened ≡ None }
+    {
         self.kept.close();
         if self.child != Child::NoChild {
             self.count_fault();

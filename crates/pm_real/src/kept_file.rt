@@ -1,9 +1,13 @@
 //! The file that was opened last. It is kept open for the calls that follow on the same name, so that all of an append
 //! goes to one file, also where another one is put at its name meanwhile.
-ghost use Rattle.std.specs.Prelude.{◌≡◌, ◌≤◌, ◌<◌, None, length, IfSome};
+ghost use Rattle.std.specs.Prelude.{◌≡◌, ◌≤◌, ◌<◌, ◌⊎◌, true, None, Some, length, take, IfSome, IfOk, IsOk, IsErr, MatchResult};
+ghost use Rattle.pm_real.specs.declared.mode.Mode.TheVariants.{Reading, Appending};
+ghost use Rattle.pm_real.specs.Kept.{just_opened, is_open, in_use, is_open_target, made_target};
+ghost use Rattle.pm_real.specs.Calls.{state_of, IsAfterRead, IsAfterCut, IsEmptied, IsMade, IsUsed, Adds, AddedTo};
 
 use crate::limit::SizeLimit;
-use crate::opened::{Mode, Opened};
+use crate::mode::Mode;
+use crate::opened::Opened;
 use pm_host::Removed;
 use std::alloc::Global;
 use std::fs::{OpenFile, OpenOptions};
@@ -52,9 +56,11 @@ impl<F: Read + Write + OpenFile + FileExt + Drop> KeptFile<F> {
         self.opened = None;
     }
 
-    fn is(&self, name: &str, mode: Mode) -> bool {
+    fn has_open(&self, name: &str, mode: Mode) -> bool
+        ensures { result ≡ is_open name.now mode (state_of self.now.opened) }
+    {
         match &self.opened {
-            Some(opened) => opened.is_for(mode) && opened.is(name),
+            Some(opened) => opened.serves(name, mode),
             None => false,
         }
     }
@@ -67,7 +73,9 @@ impl<F: Read + Write + OpenFile + FileExt + Drop> KeptFile<F> {
     }
 
     // Without memory for the name nothing is known of it.
-    fn note(&mut self, alloc: Global, name: &str, seen: Seen) {
+    fn note(&mut self, alloc: Global, name: &str, seen: Seen)
+        ensures { self.new.opened ≡ self.old.opened }
+    {
         self.seen = match String::from_str(alloc, name) {
             Ok(name) => Some((name, seen)),
             Err(_) => None,
@@ -75,16 +83,20 @@ impl<F: Read + Write + OpenFile + FileExt + Drop> KeptFile<F> {
     }
 
     /// A look found nothing. A name that couldn't be made before the look, as that of a lock file, stays taken.
-    pub fn note_missing(&mut self, alloc: Global, name: &str) {
+    pub fn note_missing(&mut self, alloc: Global, name: &str)
+        ensures { self.new.opened ≡ self.old.opened }
+    {
         if !self.was_seen(name, Seen::Taken) {
             self.note(alloc, name, Seen::Missing);
         }
     }
 
     /// Whether the open file was made here as the target of a symbolic link of this name.
-    pub fn is_target(&self, name: &str) -> bool {
+    pub fn is_target(&self, name: &str) -> bool
+        ensures { result ≡ is_open_target name.now (state_of self.now.opened) }
+    {
         match &self.opened {
-            Some(opened) => opened.is_target() && opened.is(name),
+            Some(opened) => opened.is_target(name),
             None => false,
         }
     }
@@ -97,32 +109,35 @@ impl<F: Read + Write + OpenFile + FileExt + Drop> KeptFile<F> {
         name: &str,
         how: &OpenOptions,
         mode: Mode,
-    ) -> io::Result<()> {
+    ) -> io::Result<()>
+        ensures { MatchResult result (λ _. state_of self.new.opened ≡ Some (just_opened name.now mode)) (λ _. self.new.opened ≡ None) }
+    {
         self.close();
         let kept_name = String::from_str(alloc, name)?;
         self.opened = Some(Opened::new(kept_name, mode, pm_again::open(rt, how, name)?));
         Ok(())
     }
 
-    fn used<R: Files<File = F>>(
+    // Sees that the file of a call is open: it opens one unless it was opened by that name for that.
+    fn use_file<R: Files<File = F>>(
         &mut self,
         rt: &R,
         alloc: Global,
         name: &str,
         mode: Mode,
-    ) -> io::Result<&mut Opened<F>> {
-        if !self.is(name, mode) {
-            let mut how = OpenOptions::new();
-            match mode {
-                Mode::Reading => how.read(true),
-                Mode::Appending => how.append(true),
-            };
-            self.open(rt, alloc, name, &how, mode)?;
+    ) -> io::Result<()>
+        ensures used { MatchResult result (λ _. state_of self.new.opened ≡ Some (in_use name.now mode (state_of self.old.opened))) (λ _. self.new.opened ≡ None) }
+        ensures same { is_open name.now mode (state_of self.old.opened) ≡ true → IsOk result × (self.new.opened ≡ self.old.opened) }
+    {
+        if self.has_open(name, mode) {
+            return Ok(());
         }
-        match &mut self.opened {
-            Some(opened) => Ok(opened),
-            None => Err(io::Error::from(ErrorKind::NotFound)),
-        }
+        let mut how = OpenOptions::new();
+        match mode {
+            Mode::Reading => how.read(true),
+            Mode::Appending => how.append(true),
+        };
+        self.open(rt, alloc, name, &how, mode)
     }
 
     /// Makes an empty file, only if nothing has the name. If a look just found nothing though a symbolic link has the
@@ -132,7 +147,9 @@ impl<F: Read + Write + OpenFile + FileExt + Drop> KeptFile<F> {
         rt: &R,
         alloc: Global,
         name: &str,
-    ) -> io::Result<()> {
+    ) -> io::Result<()>
+        ensures { MatchResult result (λ _. IsMade name.now (state_of self.new.opened)) (λ _. self.new.opened ≡ None) }
+    {
         let mut how = OpenOptions::new();
         how.append(true);
         how.create_new(true);
@@ -155,7 +172,9 @@ impl<F: Read + Write + OpenFile + FileExt + Drop> KeptFile<F> {
         rt: &R,
         alloc: Global,
         name: &str,
-    ) -> io::Result<()> {
+    ) -> io::Result<()>
+        ensures { MatchResult result (λ _. state_of self.new.opened ≡ Some (made_target (just_opened name.now Appending))) (λ _. self.new.opened ≡ None) }
+    {
         let mut how = OpenOptions::new();
         how.append(true);
         how.create(true);
@@ -172,7 +191,9 @@ impl<F: Read + Write + OpenFile + FileExt + Drop> KeptFile<F> {
     }
 
     /// Takes back what was appended to the target of a link, which stays as an empty file.
-    pub fn empty(&mut self) -> Removed {
+    pub fn empty(&mut self) -> Removed
+        ensures { IsEmptied result (state_of self.old.opened) (state_of self.new.opened) }
+    {
         match &mut self.opened {
             Some(opened) => match opened.cut(0) {
                 Ok(()) => Removed::Removed,
@@ -191,12 +212,16 @@ impl<F: Read + Write + OpenFile + FileExt + Drop> KeptFile<F> {
         at: u64,
         room: &mut [u8],
     ) -> Option<usize>
-        ensures { IfSome result (λ count. count ≤ length room.new) }
+        ensures within { IfSome result (λ count. count ≤ length room.new) }
+        ensures kept { IsUsed name.now Reading (IsAfterRead result) (state_of self.old.opened) (state_of self.new.opened) }
     {
-        let Ok(opened) = self.used(rt, alloc, name, Mode::Reading) else {
+        if self.use_file(rt, alloc, name, Mode::Reading).is_err() {
             return None;
-        };
-        opened.read(room, at)
+        }
+        match &mut self.opened {
+            Some(opened) => opened.read(room, at),
+            None => None,
+        }
     }
 
     /// How many bytes were added at the end of the file, at least one; None is an error. The file isn't made where it
@@ -211,21 +236,27 @@ impl<F: Read + Write + OpenFile + FileExt + Drop> KeptFile<F> {
     ) -> Option<usize>
         ensures some { IfSome result (λ count. 0 < count) }
         ensures within { IfSome result (λ count. count ≤ length piece.now) }
+        ensures kept { Adds name.now result (state_of self.old.opened) (state_of self.new.opened) }
+        ensures file { is_open name.now Appending (state_of self.old.opened) ≡ true → IfSome result (λ count. AddedTo F.contents (take count piece.now) self.old.opened self.new.opened) }
     {
-        let Ok(opened) = self.used(rt, alloc, name, Mode::Appending) else {
+        if self.use_file(rt, alloc, name, Mode::Appending).is_err() {
             return None;
-        };
-        opened.append(piece, limit)
+        }
+        match &mut self.opened {
+            Some(opened) => opened.append(piece, limit),
+            None => None,
+        }
     }
 
     /// Syncs the file to disk.
-    pub fn sync<R: Files<File = F>>(
-        &mut self,
-        rt: &R,
-        alloc: Global,
-        name: &str,
-    ) -> io::Result<()> {
-        self.used(rt, alloc, name, Mode::Appending)?.sync()
+    pub fn sync<R: Files<File = F>>(&mut self, rt: &R, alloc: Global, name: &str) -> io::Result<()>
+        ensures { IsUsed name.now Appending (λ before now. now ≡ before) (state_of self.old.opened) (state_of self.new.opened) }
+    {
+        self.use_file(rt, alloc, name, Mode::Appending)?;
+        match &self.opened {
+            Some(opened) => opened.sync(),
+            None => Err(io::Error::from(ErrorKind::NotFound)),
+        }
     }
 
     /// Keeps the first bytes of the file. One that has fewer isn't filled up with zeros, and from one that was appended
@@ -236,7 +267,13 @@ impl<F: Read + Write + OpenFile + FileExt + Drop> KeptFile<F> {
         alloc: Global,
         name: &str,
         len: u64,
-    ) -> io::Result<()> {
-        self.used(rt, alloc, name, Mode::Appending)?.cut(len)
+    ) -> io::Result<()>
+        ensures { IsUsed name.now Appending (IsAfterCut len result) (state_of self.old.opened) (state_of self.new.opened) }
+    {
+        self.use_file(rt, alloc, name, Mode::Appending)?;
+        match &mut self.opened {
+            Some(opened) => opened.cut(len),
+            None => Err(io::Error::from(ErrorKind::NotFound)),
+        }
     }
 }

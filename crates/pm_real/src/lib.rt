@@ -8,14 +8,18 @@ mod folders;
 mod host;
 mod host_name;
 mod kept_file;
+mod laws;
 mod limit;
+mod mode;
 mod opened;
 mod setup;
 mod sink;
 mod source;
+mod state;
 
 pub use host::RealHost;
 pub use host_name::{can_be_host_name, read_regular};
+pub use laws::{examples, no_more_is_cut};
 pub use setup::Setup;
 pub use sink::RealSink;
 pub use source::RealSource;

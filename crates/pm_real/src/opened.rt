@@ -1,74 +1,58 @@
 //! An open file, and what the calls of a host do with it.
-ghost use Rattle.std.specs.Prelude.{◌≡◌, ◌≤◌, ◌<◌, ◌-◌, None, false, length, IfSome, MatchOption};
-ghost use Rattle.pm_real.specs.Kept.{AreLeft, IsNotCut};
+ghost use Rattle.std.specs.Prelude.{◌≡◌, ◌≤◌, ◌<◌, length, take, IfSome, IfOk, IfErr, IsNone, string_bytes};
+ghost use Rattle.std.specs.Io.KnownBytes.{Appends, Keeps};
+ghost use Rattle.pm_real.specs.Kept.{just_opened, is_use, is_target_of, made_target};
+ghost use Rattle.pm_real.specs.Calls.{IsAfterRead, IsAfterAppend, IsAfterCut};
 
 use crate::limit::SizeLimit;
+use crate::mode::Mode;
+use crate::state::FileState;
 use std::fs::OpenFile;
 use std::io;
 use std::io::{ErrorKind, Read, Write};
 use std::os::unix::fs::FileExt;
 
-/// What a file was opened for.
-#[derive(Clone, Copy, PartialEq, Eq)]
-pub enum Mode {
-    Reading,
-    Appending,
-}
-
-/// An open file with its name.
+/// An open file, and what is known of it.
 #[derive(Drop)]
 pub struct Opened<F: Drop> {
-    name: String,
-    mode: Mode,
+    state: FileState,
     file: F,
-    /// How many of the bytes that were appended to it are there still, if any were.
-    added: Option<u64>,
-    /// How many bytes were read in sequence.
-    passed: u64,
-    /// It was made as the target of a symbolic link of its name.
-    is_target: bool,
 }
 
 impl<F: Read + Write + OpenFile + FileExt + Drop> Opened<F> {
     /// A file that was just opened.
     pub fn new(name: String, mode: Mode, file: F) -> Opened<F>
-        ensures added { result.added ≡ None }
-        ensures target { result.is_target ≡ false }
-        ensures mode { result.mode ≡ mode }
+        ensures { result.state ≡ just_opened (string_bytes name) mode }
     {
         Opened {
-            name,
-            mode,
+            state: FileState::new(name, mode),
             file,
-            added: None,
-            passed: 0,
-            is_target: false,
         }
     }
 
-    /// Whether this file was opened by that name.
-    pub fn is(&self, name: &str) -> bool {
-        self.name.as_str() == name
+    /// Whether it was opened by that name for that.
+    pub fn serves(&self, name: &str, mode: Mode) -> bool
+        ensures { result ≡ is_use name.now mode self.now.state }
+    {
+        self.state.serves(name, mode)
     }
 
-    /// Whether it was opened for that.
-    pub fn is_for(&self, mode: Mode) -> bool {
-        self.mode == mode
-    }
-
-    /// Whether it was made as the target of a symbolic link of its name.
-    pub fn is_target(&self) -> bool {
-        self.is_target
+    /// Whether it was made as the target of a symbolic link of that name.
+    pub fn is_target(&self, name: &str) -> bool
+        ensures { result ≡ is_target_of name.now self.now.state }
+    {
+        self.state.is_target(name)
     }
 
     /// Takes a file that was opened through a link for a made one. One that has bytes is another's.
-    pub fn take_as_target(&mut self) -> io::Result<()> {
+    pub fn take_as_target(&mut self) -> io::Result<()>
+        ensures { IfOk result (λ _. self.new.state ≡ made_target self.old.state) }
+    {
         let found = self.file.metadata()?;
         if !found.is_file() || found.len() != 0 {
             return Err(io::Error::from(ErrorKind::AlreadyExists));
         }
-        self.added = Some(0);
-        self.is_target = true;
+        self.state.make_target();
         Ok(())
     }
 
@@ -93,7 +77,8 @@ impl<F: Read + Write + OpenFile + FileExt + Drop> Opened<F> {
     /// How many bytes came into the room, from the offset `at` on; None is an error. What has no offsets, as a pipe, is
     /// read in sequence.
     pub fn read(&mut self, room: &mut [u8], at: u64) -> Option<usize>
-        ensures { IfSome result (λ count. count ≤ length room.new) }
+        ensures within { IfSome result (λ count. count ≤ length room.new) }
+        ensures state { IsAfterRead result self.old.state self.new.state }
     {
         match pm_again::read_at(&self.file, room, at) {
             Some(count) => Some(count),
@@ -102,13 +87,14 @@ impl<F: Read + Write + OpenFile + FileExt + Drop> Opened<F> {
     }
 
     fn read_on(&mut self, room: &mut [u8], at: u64) -> Option<usize>
-        ensures { IfSome result (λ count. count ≤ length room.new) }
+        ensures within { IfSome result (λ count. count ≤ length room.new) }
+        ensures state { IsAfterRead result self.old.state self.new.state }
     {
-        if at != self.passed || self.is_regular() {
+        if at != self.state.passed() || self.is_regular() {
             return None;
         }
         let count = pm_again::read(&mut self.file, room)?;
-        self.passed = self.passed.saturating_add(count as u64);
+        self.state.pass(count);
         Some(count)
     }
 
@@ -116,13 +102,15 @@ impl<F: Read + Write + OpenFile + FileExt + Drop> Opened<F> {
     pub fn append(&mut self, piece: &[u8], limit: SizeLimit) -> Option<usize>
         ensures some { IfSome result (λ count. 0 < count) }
         ensures within { IfSome result (λ count. count ≤ length piece.now) }
+        ensures state { IsAfterAppend result self.old.state self.new.state }
+        ensures file { IfSome result (λ count. Appends (F.contents self.old.file) (F.contents self.new.file) (take count piece.now)) }
+        ensures keeps { IsNone result → Keeps (F.contents self.old.file) (F.contents self.new.file) }
     {
         if !self.may_grow(limit) {
             return None;
         }
         let count = pm_again::write(&mut self.file, piece)?;
-        let added = self.added.unwrap_or(0).saturating_add(count as u64);
-        self.added = Some(added);
+        self.state.append(count);
         Some(count)
     }
 
@@ -136,28 +124,14 @@ impl<F: Read + Write + OpenFile + FileExt + Drop> Opened<F> {
 
     /// Keeps the first bytes. A file that has fewer isn't filled up with zeros, and from one that was appended to no more
     /// is cut off than was added: both are errors.
-    pub fn cut(&mut self, len: u64) -> io::Result<()> {
+    pub fn cut(&mut self, len: u64) -> io::Result<()>
+        ensures { IsAfterCut len result self.old.state self.new.state }
+    {
         let size = self.file.metadata()?.len();
-        let Some(left) = left_after(self.added, size, len) else {
+        if !self.state.cut(size, len) {
             return Err(io::Error::from(ErrorKind::InvalidInput));
-        };
-        self.added = left;
+        }
         self.file.set_len(len)
-    }
-}
-
-// How many of the bytes that were added are left if a file of this size is cut to a length; None where it may not be cut.
-fn left_after(added: Option<u64>, size: u64, len: u64) -> Option<Option<u64>>
-    ensures { MatchOption result (IsNotCut size len added)
-        (λ left. (len ≤ size) × AreLeft (size - len) added left) }
-{
-    let off = size.checked_sub(len)?;
-    match added {
-        None => Some(None),
-        Some(added) => match added.checked_sub(off) {
-            None => None,
-            Some(left) => Some(Some(left)),
-        },
     }
 }
 
