@@ -142,6 +142,85 @@ while IFS= read -r code && IFS= read -r wrong && IFS= read -r right; do
 done < rows
 [ "$count" -ge 30 ] || fail "only $count rows were read"
 
+# All that is found in a text, as LINE:COLUMN CODE: a mistake, and beside it a right form of it.
+cat > exact_rows <<'ROWS'
+:0:\n* ^TO_joe\ninbox\n
+nothing
+A=b\n  what, is it\n
+2:3 defect
+:0 x:\ninbox\n
+1:1 defect
+:0:\n* ^TO_joe\n\n:0:\ninbox\n
+1:1 defect
+:0 x\n* ^TO_joe\n
+1:1 defect, 1:1 defect
+:0\n{\nA=b\n
+1:1 defect
+:0:\n* 9999999999^1 x\n* (\n* a)\n* [z-a]\ninbox\n
+2:1 weight, 3:1 expression, 4:1 expression, 5:1 expression
+:0:\n* < 10 KB\n* > \n* ! < 10\n* $ < $X\n* 5^1 ! < 10\ninbox\n
+2:1 size, 3:1 size, 6:1 size
+:0:\n  * \\\n ( \\\n* $ (\n* ? ((\n* B ?? ! [\ninbox\n
+2:3 expression, 6:1 expression
+A="b\n:0:\ninbox\n
+1:1 defect
+* ^TO_joe\n
+1:1 defect
+:0\ninbox\n
+2:1 no-lock
+:0\ninbox/\n:0 c\nmh/.\n:0 c\n$DEFAULT\n:0 c\n/dev/null\n
+nothing
+:0 c\n| cat >> log\n:0 c\n| cat 2>>errors\n:0 c:\n| cat >> log\n
+2:1 no-lock
+:0:\n{\n:0 c\ninbox\n}\nLOCKFILE=all\n:0\ninbox\n
+nothing
+:0:\nSent Items\n:0 c:\ninbox archive\n
+2:1 words
+:0:\n* ^From:.*joe@example.org\n* ^From:.*@example\\.org\ninbox\n
+2:1 dot
+:0:\n* Subject:.*x\n* ^Subject:.*x\n* B ?? Subject:\ninbox\n
+2:1 unanchored
+:0:\n* ^TO_joe+work@x\n* ^TO_joe\\+work@x\n* ^TO_[a-z]+@x\ninbox\n
+2:1 plus
+:0:\n* ^Subject:.*[users]\n* ^Subject:.*\\[users\\]\n* ^Subject:.*[a-z]\ninbox\n
+2:1 tag
+:0:\n* ^Subject:.*\\bx\n* ^Subject: x{2,3}\n* ^Subject:.*\\<x\ninbox\n
+2:1 pcre, 3:1 pcre
+:0:\n* ^TO_joe # me\n* ? true # me\ninbox\n
+2:1 comment
+:0:\n^TO_joe\n
+2:1 no-star
+:0 f\n| cat\n:0 fw\n| cat\n
+2:1 filter-w
+:0\n| formail -A "X-Seen: 1"\n:0 fw\n| formail -A "X-Seen: 1"\n
+2:1 pipe-f
+:0 c\n! joe@example.org\n
+2:1 loop
+:0 c\n* ! ^X-Loop: joe\n! joe@example.org\n
+nothing
+:0 h:\ninbox\n:0 hc:\ninbox\n:0 h\n/dev/null\n
+2:1 lost-part
+:0 Wh: msgid.lock\n| formail -D 8192 msgid\n:0 Wh: m.lock\n| formail -D 8192 msgid\n
+2:1 formail-lock
+MAILDIR=~/Mail\n:0:\n~/inbox\n
+1:1 tilde, 3:1 tilde
+:0:\n* ^TO_joe\ninbox\narchive\n\n:0 c:\ninbox\n\nlast\nVERBOSE\n
+4:1 bare-word
+:0:\ninbox\n\n:0:\n* ^TO_joe\njoe\n
+5:1 unreachable
+:0 $FLAGS:\ninbox\n:0 c: # $5\ninbox\n:0 c\n/dev/tty\n
+1:1 defect, 1:1 colon-variable, 6:1 dev
+ROWS
+exact_count=0
+while IFS= read -r text && IFS= read -r wanted; do
+    printf '%b' "$text" > rc
+    "$check" --no-disk ./rc > out 2> said || true
+    found=$(sed 's/^[^:]*:\([0-9]*:[0-9]*\): .* \[\(.*\)\]$/\1 \2/' out | paste -sd , | sed 's/,/, /g')
+    [ "${found:-nothing}" = "$wanted" ] || fail "in '$text' is $wanted, and this is found: $(cat out said)"
+    exact_count=$((exact_count + 1))
+done < exact_rows
+[ "$exact_count" -eq 33 ] || fail "only $exact_count texts were read"
+
 # The forms of procmail 3.22: the old form, and what has the form no more.
 cat > old_rows <<'ROWS'
 umask
@@ -507,4 +586,4 @@ small_time=$(checks 16 small)
 large_time=$(checks 1 large)
 [ "$large_time" -lt 1000 ] || fail "1 MiB takes $large_time ms of a processor"
 [ "$large_time" -le $((small_time * 3 / 2)) ] || fail "64 KiB sixteen times take $small_time ms, 1 MiB $large_time ms"
-echo "check: passed, with $count rows and $old_count of forms of 3.22; 1 MiB takes $large_time ms of a processor"
+echo "check: passed, with $count rows, $exact_count whole texts and $old_count forms of 3.22; 1 MiB takes $large_time ms of a processor"

@@ -60,6 +60,21 @@ LOGABSTRACT=no\n:0:\nmbox\n
 DELIVERED=on: stays
 DELIVERED=on\n:0:\nmbox\n
 DELIVERED=yes\n:0:\nmbox\n
+a blank within a value: runs
+X=${Y:- "z z"}\n:0:\n"mbox-$X"\n
+X="${Y:-z z}"\n:0:\n"mbox-$X"\n
+a blank within a value before a comment: runs
+NAME\t= ${NAME:-\t"it's $LOGNAME"}   # "a" name\n:0:\n"mbox-$NAME"\n
+NAME\t= "${NAME:-it's $LOGNAME}"   # "a" name\n:0:\n"mbox-$NAME"\n
+a count of conditions: runs
+:2:\n^Subject: hi\n^From: joe\nmbox\n:1c:\n!^Subject: hi\nother\n
+:0:\n* ^Subject: hi\n* ^From: joe\nmbox\n:0c:\n* !^Subject: hi\nother\n
+a colon alone: runs
+:\n  ^Subject: hi\nmbox\n
+:0\n  * ^Subject: hi\nmbox\n
+a count with a line that can be something else: stays
+:2:\n^Subject: hi\nX=y\nmbox\n
+:2:\n^Subject: hi\nX=y\nmbox\n
 a filter without w: runs
 :0 fbh\n| sed -e s/hi/ho/\n:0:\nmbox\n
 :0 fwbh\n| sed -e s/hi/ho/\n:0:\nmbox\n
@@ -132,6 +147,12 @@ TO=`formail -rt | formail -zx To:`\n:0 whi\n| echo "$TO" >to\n
 a field of a reply in two words: runs
 FORMAIL=formail\nTO="`$FORMAIL -rt -xTo:`"\n:0 whi\n| echo $TO >to\n
 FORMAIL=formail\nTO="`$FORMAIL -rt | $FORMAIL -xTo:`"\n:0 whi\n| echo $TO >to\n
+a field of a reply is renamed: runs
+:0 w\n| formail -rt -R Subject: X-Subject: >reply\n
+:0 w\n| formail -f -R Subject: X-Subject:  | formail -rt | formail -f -R Subject: X-Subject: >reply\n
+a field of the mail is renamed before the reply: runs
+TO=`formail -r -R To: X-To:`\n:0 whi\n| echo "$TO" >to\n
+TO=`formail -f -R To: X-To: | formail -r | formail -f -R To: X-To:`\n:0 whi\n| echo "$TO" >to\n
 the separator is removed: runs
 :0 fhw\n| formail -I "From "\n:0 h\n| cat >header\n
 :0 fhw\n| formail -f -I "From "\n:0 h\n| cat >header\n
@@ -164,7 +185,7 @@ while IFS= read -r title; do
     cmp -s there.tree here.tree || fail "$title (left: 3.22 by the old text): $(diff there.tree here.tree)"
     tried=$((tried + 1))
 done < rows
-[ "$count" -eq 33 ] || fail "only $count rows"
+[ "$count" -eq 40 ] || fail "only $count rows"
 [ -n "$old_procmail" ] || echo "$name: no procmail 3.22 here: what it does with the old texts: skipped"
 
 # What can't be brought over stays, and is reported for the new text; the status says whether anything is left.

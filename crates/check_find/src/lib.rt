@@ -15,8 +15,6 @@ mod mistakes;
 mod notices;
 mod reports;
 mod searching;
-#[cfg(test)]
-mod tests;
 mod words;
 
 pub use codes::{Code, Fault, Hint, Mistake, Severity, name_of, severity_of};

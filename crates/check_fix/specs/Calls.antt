@@ -2,6 +2,7 @@
 use Rattle.std.specs.Prelude.{ℕ, ◌+◌, Bool, not, ◌||◌, ◌&&◌, List, [], ◌++◌, drop, length, nat_eq, codes, if◌then◌else◌, position}
 use Rattle.std.specs.List.{starts_with}
 use Rattle.check_moving.specs.Text.{behind_blanks, from_place, has_part}
+use Rattle.check_moving.specs.Words.{is_break_byte}
 use Rattle.check_fix.specs.Edits.{edit_at}
 use Rattle.check_fix.specs.Parts.{before, behind_digits, ends_command, from_part, is_above}
 use Rattle.check_fix.specs.declared.edits.Edit.{Edit}
@@ -62,12 +63,41 @@ next_word text =
 abbrev pub reply_of : List ℕ → List ℕ → List ℕ
 reply_of program text = behind_reply (drop (length program + 3) (from_part (program ++ codes " -r") text))
 
+-- what is asked for by letters is asked of the reply
+abbrev pub split_edits : ℕ → List ℕ → List ℕ → List Edit
+split_edits first text program =
+    edit_at first text (same_word (reply_of program text)) 0 ((codes " | " ++ program) ++ codes " -")
+    ++ edit_at first text (next_word (reply_of program text)) 0 (codes " | " ++ program)
+
+-- from the end of a command on
+abbrev pub from_break : List ℕ → List ℕ
+from_break text = from_place text (position (λ byte. is_break_byte byte) text)
+
+-- `-R` and its names
+abbrev pub renaming : List ℕ → List ℕ
+renaming text = before text (from_break text)
+
+-- and no other option
+abbrev pub is_renaming : List ℕ → Bool
+is_renaming text = starts_with nat_eq text (codes " -R ") && not (has_part (codes " -") (drop 3 (renaming text)))
+
+-- the letters of the first reply of this program
+abbrev pub reply_start : List ℕ → List ℕ → List ℕ
+reply_start program text = drop (length program) (from_part (program ++ codes " -r") text)
+
+-- `formail -rt -R a b`: `formail -f -R a b | formail -rt | formail -f -R a b`, as the fields of the mail are renamed before
+-- those of the reply, and neither run is to make a line From
+abbrev pub rename_edits : ℕ → List ℕ → List ℕ → List Edit
+rename_edits first text program =
+    edit_at first text (reply_start program text) 0 ((codes " -f" ++ renaming (reply_of program text)) ++ (codes " | " ++ program))
+    ++ edit_at first text (reply_of program text) 0 ((codes " | " ++ program) ++ codes " -f")
+
 -- by the name of the program, and unless it has a path
 abbrev pub replied_by : ℕ → List ℕ → List ℕ → List Edit
 replied_by first text program =
     if has_part (codes "/" ++ program) text then []
-    else edit_at first text (same_word (reply_of program text)) 0 ((codes " | " ++ program) ++ codes " -")
-    ++ edit_at first text (next_word (reply_of program text)) 0 (codes " | " ++ program)
+    else if is_renaming (reply_of program text) then rename_edits first text program
+    else split_edits first text program
 
 -- `formail -rtzxTo:`: `formail -rt | formail -zxTo:`
 abbrev pub reply_edits : ℕ → List ℕ → List Edit

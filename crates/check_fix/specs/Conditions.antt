@@ -143,12 +143,20 @@ end_edits first text = if is_idle_end text then edit_at first text (drop (length
 abbrev pub anchor_edits : ℕ → List ℕ → List Edit
 anchor_edits first text = edit_at first text (drop 3 (from_part (codes ".*$^") text)) 1 []
 
--- the blanks after a newline that joins two lines
+-- the blanks with which a second line begins
+abbrev pub joined_blanks : List ℕ → List ℕ
+joined_blanks text =
+    if starts_with nat_eq text (codes "\\\n ") || starts_with nat_eq text (codes "\\\n\t") then drop 2 text else []
+
+-- none
 abbrev pub indent_edits : ℕ → List ℕ → List ℕ → List Edit
 indent_edits first text rest = edit_at first text rest (length rest - length (behind_blanks rest)) []
 
--- blanks at the beginning of a second line: none
+-- at each place from this rest of the text on
+abbrev pub indents_from : ℕ → List ℕ → List ℕ → List Edit
+indents_from first text [] = []
+indents_from first text (byte ∷ rest) = indent_edits first text (joined_blanks (byte ∷ rest)) ++ indents_from first text rest
+
+-- blanks at the beginning of further lines: none
 abbrev pub continued_edits : ℕ → List ℕ → List Edit
-continued_edits first text =
-    indent_edits first text (drop 2 (from_part (codes "\\\n ") text))
-    ++ indent_edits first text (drop 2 (from_part (codes "\\\n\t") text))
+continued_edits first text = indents_from first text text

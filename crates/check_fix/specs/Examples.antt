@@ -1,11 +1,13 @@
 -- What old forms are brought over by, as docs/MOVING.md says.
-use Rattle.std.specs.Prelude.{◌≡◌, ℕ, List, [], ◌∷◌, length, codes}
+use Rattle.std.specs.Prelude.{◌≡◌, ℕ, true, false, List, [], ◌∷◌, length, codes}
 use Rattle.pm_recipe.specs.Colon.{lock_of}
 use Rattle.pm_recipe.specs.declared.fronts.Kind.TheVariants.{Mailbox, Pipe}
+use Rattle.check_fix.specs.Braces.{is_quoted, opens_brace, close_edits}
 use Rattle.check_fix.specs.Calls.{empty_edits, reply_edits, removed_edits, length_edits, appended_edits, trust_edits}
 use Rattle.check_fix.specs.Changes.{chosen, rewritten}
 use Rattle.check_fix.specs.Colons.{automatic_edits, own_lock_edits, cache_lock_edits, wait_edits}
 use Rattle.check_fix.specs.Conditions.{great_edits, size_edits, late_edits, supreme_edits, backslash_edits, end_edits, anchor_edits, continued_edits}
+use Rattle.check_fix.specs.Counts.{counted, is_bare, zero_edits}
 use Rattle.check_fix.specs.Mailboxes.{several_edits, hash_edits, match_edits}
 use Rattle.check_fix.specs.Values.{host_edits, idle_edits, log_edits, delivered_edits}
 use Rattle.check_fix.specs.declared.edits.Edit.{Edit}
@@ -24,6 +26,29 @@ pub record OfValues : Type 0 where
   pub on : edited (delivered_edits 0 (codes "DELIVERED=on") (codes "on")) (codes "DELIVERED=on") ≡ codes "DELIVERED=yes"
   -- 3.22 reads this one as no
   pub off : edited (delivered_edits 0 (codes "DELIVERED=off") (codes "off")) (codes "DELIVERED=off") ≡ codes "DELIVERED=off"
+
+-- what is behind a blank within `${`
+pub record OfBraces : Type 0 where
+  pub quoted : is_quoted (codes "\"y z\"} # x") ≡ true
+  pub bare : is_quoted (codes "y z}") ≡ false
+  pub more : is_quoted (codes "\"y\"z\"}") ≡ false
+  pub behind : is_quoted (codes "\"y\"}z") ≡ false
+  pub opens : opens_brace (codes "${Y:-") ≡ true
+  pub text : opens_brace (codes "a${Y:-") ≡ false
+  pub closed : edited (close_edits 0 (codes "\"y z\"} # x")) (codes "\"y z\"} # x") ≡ codes "y z}\" # x"
+
+-- counts of conditions
+pub record OfCounts : Type 0 where
+  pub alone : counted (codes ":") ≡ 1
+  pub two : counted (codes ":2 c:") ≡ 2
+  pub nine : counted (codes ":9") ≡ 9
+  pub zero_first : counted (codes ":0:") ≡ 0
+  pub many : counted (codes ":10:") ≡ 0
+  pub flags : counted (codes ":c") ≡ 0
+  pub colon : edited (zero_edits 0 (codes ":")) (codes ":") ≡ codes ":0"
+  pub lock : edited (zero_edits 0 (codes ":2 c:")) (codes ":2 c:") ≡ codes ":0 c:"
+  pub star : is_bare (codes "* ^X: y") ≡ false
+  pub word : is_bare (codes "^X: y") ≡ true
 
 -- by the place of a colon line and its text
 abbrev pub line : (ℕ → List ℕ → List Edit) → List ℕ → List ℕ
@@ -63,7 +88,7 @@ pub record OfConditions : Type 0 where
   pub end : line end_edits (codes "* ^X: \\/.*$") ≡ codes "* ^X: \\/.*"
   pub other_end : line end_edits (codes "* ^X: \\/y$") ≡ codes "* ^X: \\/y$"
   pub anchors : line anchor_edits (codes "* ^X:.*$^Cc:") ≡ codes "* ^X:.*$Cc:"
-  pub continued : line continued_edits (codes "*$ ^X:\\\n  y") ≡ codes "*$ ^X:\\\ny"
+  pub continued : line continued_edits (codes "*$ ^X:\\\n  y\\\n\t z\\\nu") ≡ codes "*$ ^X:\\\ny\\\nz\\\nu"
 
 -- mailboxes
 pub record OfMailboxes : Type 0 where
@@ -81,7 +106,9 @@ pub record OfCalls : Type 0 where
   pub together : line reply_edits (codes "T=`formail -rtzxTo:`") ≡ codes "T=`formail -rt | formail -zxTo:`"
   pub blank : line reply_edits (codes "| formail -rtzx To:") ≡ codes "| formail -rt | formail -zx To:"
   pub apart : line reply_edits (codes "| $FORMAIL -rt -xTo:") ≡ codes "| $FORMAIL -rt | $FORMAIL -xTo:"
-  pub renamed : line reply_edits (codes "| formail -rt -R a b") ≡ codes "| formail -rt -R a b"
+  pub renamed : line reply_edits (codes "| formail -rt -R a b >>o") ≡ codes "| formail -f -R a b  | formail -rt | formail -f -R a b >>o"
+  pub captured : line reply_edits (codes "T=`formail -r -R a b`") ≡ codes "T=`formail -f -R a b | formail -r | formail -f -R a b`"
+  pub options : line reply_edits (codes "| formail -rt -R a b -A c") ≡ codes "| formail -rt -R a b -A c"
   pub path : line reply_edits (codes "| /usr/bin/formail -rxTo:") ≡ codes "| /usr/bin/formail -rxTo:"
   pub removed : line removed_edits (codes "| formail -I 'From '") ≡ codes "| formail -f -I 'From '"
   pub cache : line length_edits (codes "| formail -D 2000000 c") ≡ codes "| formail -D 1048576 c"

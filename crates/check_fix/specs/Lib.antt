@@ -1,6 +1,8 @@
 pub mod Parts
 pub mod Edits
 pub mod Values
+pub mod Braces
+pub mod Counts
 pub mod Colons
 pub mod Conditions
 pub mod Mailboxes

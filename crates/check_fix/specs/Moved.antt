@@ -18,6 +18,7 @@ use Rattle.check_moving.specs.declared.form.ProgramForm.{ProgramForm}
 use Rattle.check_moving.specs.declared.form.ProgramForm.TheVariants as program
 use Rattle.check_moving.specs.declared.form.ReplyForm.{ReplyForm}
 use Rattle.check_moving.specs.declared.form.ReplyForm.TheVariants as reply
+use Rattle.check_fix.specs.Braces.{brace_edits}
 use Rattle.check_fix.specs.Calls.{empty_edits, reply_edits, removed_edits, length_edits, appended_edits, trust_edits}
 use Rattle.check_fix.specs.Colons.{automatic_edits, own_lock_edits, cache_lock_edits}
 use Rattle.check_fix.specs.Conditions.{late_edits, supreme_edits, backslash_edits, end_edits, anchor_edits, continued_edits}
@@ -31,6 +32,7 @@ variable_edits variable.Host span spans = host_edits span.first span.bytes.now s
 variable_edits variable.NoEffect span spans = idle_edits span.first span.bytes.now
 variable_edits variable.LogAbstract span spans = log_edits span.first span.bytes.now span.text.now
 variable_edits variable.Delivered span spans = delivered_edits span.first span.bytes.now span.text.now
+variable_edits variable.OpenBrace span spans = brace_edits span.first span.bytes.now span.text.now spans
 variable_edits _ span spans = []
 
 -- a form of a condition
@@ -117,6 +119,7 @@ moves_variable variable.Host = true
 moves_variable variable.NoEffect = true
 moves_variable variable.LogAbstract = true
 moves_variable variable.Delivered = true
+moves_variable variable.OpenBrace = true
 moves_variable _ = false
 
 abbrev pub moves_recipe : RecipeForm → Bool

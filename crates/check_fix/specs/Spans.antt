@@ -6,6 +6,7 @@ use Rattle.pm_recipe.specs.declared.spans.Span.{Span}
 use Rattle.check_moving.specs.declared.finding.Finding.{Finding}
 use Rattle.check_moving.specs.declared.form.Form.{Form}
 use Rattle.check_fix.specs.Colons.{wait_edits}
+use Rattle.check_fix.specs.Counts.{count_edits}
 use Rattle.check_fix.specs.Conditions.{great_edits, size_edits}
 use Rattle.check_fix.specs.Moved.{all_form_edits, all_lock_edits}
 use Rattle.check_fix.specs.declared.edits.Edit.{Edit}
@@ -39,10 +40,12 @@ abbrev pub colon_edits : Span → List Span → List Finding → List Edit
 colon_edits span [] findings = []
 colon_edits span (action ∷ spans) findings = wait_edits span.first span.bytes.now action.kind ++ all_lock_edits (forms_at action.first findings) span
 
--- what needs no finding: weights above the greatest, sizes by variables, and filters that aren't waited for
+-- what needs no finding: weights above the greatest, sizes by variables, filters that aren't waited for, and counts of
+-- conditions
 abbrev pub kind_edits : Kind → Span → List Span → List Finding → List Edit
 kind_edits kind.Condition span spans findings = great_edits span.first span.bytes.now ++ size_edits span.first span.bytes.now
 kind_edits kind.Colon span spans findings = colon_edits span (from_action spans) findings
+kind_edits kind.Skipped span spans findings = count_edits span spans
 kind_edits _ span spans findings = []
 
 -- a span before these

@@ -2,7 +2,11 @@
 ghost use Rattle.std.specs.Prelude.{◌≡◌, ◌++◌, ◌<◌, IfOk, IfSome, OnOk, length, not, position};
 ghost use Rattle.check_fix.specs.Calls.{whole_call as call_at, call_edits, header_edits, body_edits, empty_edits};
 ghost use Rattle.check_fix.specs.Calls.{is_reply_letter as reply_letter, behind_reply, begins_field as field_at};
-ghost use Rattle.check_fix.specs.Calls.{same_word as in_word, next_word as in_next, reply_of, replied_by, reply_edits};
+ghost use Rattle.check_fix.specs.Calls.{same_word as in_word, next_word as in_next, reply_of as reply_in, replied_by, reply_edits};
+ghost use Rattle.check_fix.specs.Calls.{from_break as broken, renaming as renaming_of, is_renaming as renames, reply_start};
+ghost use Rattle.check_fix.specs.Calls.{split_edits, rename_edits};
+ghost use Rattle.check_moving.specs.Text.{has_part as part_in};
+ghost use Rattle.check_moving.specs.Words.{is_break_byte as breaks};
 ghost use Rattle.check_fix.specs.Calls.{option_at, removed_edits, cache_length as cache_number, length_edits};
 ghost use Rattle.check_fix.specs.Calls.{appended_edits, trust_edits};
 ghost use Rattle.check_fix.specs.Edits.{edit_at};
@@ -10,7 +14,8 @@ ghost use Rattle.std.specs.Prelude.{codes};
 
 use crate::edits::{Edit, put};
 use crate::parts::{
-    before, ends_command, from_part, has_part, is_above, past, past_blanks, past_digits,
+    before, ends_command, from_part, has_part, is_above, is_break_byte, past, past_blanks,
+    past_digits,
 };
 use pm_bytes::{Blob, Memory};
 use pm_recipe::Span;
@@ -151,23 +156,90 @@ fn joined(alloc: Global, one: &[u8], other: &[u8]) -> Result<Blob, Memory>
     Ok(both)
 }
 
-// The letters of the reply that the call begins.
+// What is asked for behind the letters of a reply.
 fn put_split(
     alloc: Global,
     span: &Span<'_>,
     program: &[u8],
-    rest: &[u8],
     edits: &mut Vec<Edit>,
 ) -> Result<(), Memory>
     ensures { OnOk result (edits.new.items ≡ edits.old.items
-        ++ (edit_at span.now.first span.now.bytes.now (in_word rest.now) 0 ((codes " | " ++ program.now) ++ codes " -")
-        ++ edit_at span.now.first span.now.bytes.now (in_next rest.now) 0 (codes " | " ++ program.now))) }
+        ++ split_edits span.now.first span.now.bytes.now program.now) }
 {
+    let rest = reply_of(alloc, program, span.bytes)?;
     let piped = joined(alloc, b" | ", program)?;
-    let word = next_word(rest);
     let letters = joined(alloc, piped.as_slice(), b" -")?;
     put(alloc, span, same_word(rest), 0, letters.as_slice(), edits)?;
-    put(alloc, span, word, 0, piped.as_slice(), edits)
+    put(alloc, span, next_word(rest), 0, piped.as_slice(), edits)
+}
+
+fn break_place(text: &[u8]) -> Option<usize>
+    ensures place { result ≡ position (λ byte. breaks byte) text.now }
+    ensures within { IfSome result (λ end. end < length text.now) }
+{
+    text.iter().position(|byte| is_break_byte(*byte))
+}
+
+fn from_break(text: &[u8]) -> &[u8]
+    ensures { result.now ≡ broken text.now }
+{
+    match break_place(text) {
+        None => &[],
+        Some(place) => &text[place..],
+    }
+}
+
+fn renaming(text: &[u8]) -> &[u8]
+    ensures { result.now ≡ renaming_of text.now }
+{
+    before(text, from_break(text))
+}
+
+fn is_renaming(text: &[u8]) -> bool
+    ensures { result ≡ renames text.now }
+{
+    text.starts_with(b" -R ") && !has_part(b" -", past(3, renaming(text)))
+}
+
+fn start_of<'a>(alloc: Global, program: &[u8], text: &'a [u8]) -> Result<&'a [u8], Memory>
+    ensures { IfOk result (λ rest. rest.now ≡ reply_start program.now text.now) }
+{
+    let call = joined(alloc, program, b" -r")?;
+    Ok(past(program.len(), from_part(call.as_slice(), text)))
+}
+
+fn put_renamed(
+    alloc: Global,
+    span: &Span<'_>,
+    program: &[u8],
+    edits: &mut Vec<Edit>,
+) -> Result<(), Memory>
+    ensures { OnOk result (edits.new.items ≡ edits.old.items
+        ++ rename_edits span.now.first span.now.bytes.now program.now) }
+{
+    let rest = reply_of(alloc, program, span.bytes)?;
+    let start = start_of(alloc, program, span.bytes)?;
+    let piped = joined(alloc, b" | ", program)?;
+    let fields = joined(alloc, b" -f", renaming(rest))?;
+    let before = joined(alloc, fields.as_slice(), piped.as_slice())?;
+    let after = joined(alloc, piped.as_slice(), b" -f")?;
+    put(alloc, span, start, 0, before.as_slice(), edits)?;
+    put(alloc, span, rest, 0, after.as_slice(), edits)
+}
+
+// What follows the letters of the reply that a call begins.
+fn reply_of<'a>(alloc: Global, program: &[u8], text: &'a [u8]) -> Result<&'a [u8], Memory>
+    ensures { IfOk result (λ rest. rest.now ≡ reply_in program.now text.now) }
+{
+    let call = joined(alloc, program, b" -r")?;
+    Ok(past_reply(past(program.len() + 3, from_part(call.as_slice(), text))))
+}
+
+fn has_path(alloc: Global, program: &[u8], text: &[u8]) -> Result<bool, Memory>
+    ensures { IfOk result (λ has. has ≡ part_in (codes "/" ++ program.now) text.now) }
+{
+    let path = joined(alloc, b"/", program)?;
+    Ok(has_part(path.as_slice(), text))
 }
 
 fn put_replied(
@@ -179,16 +251,18 @@ fn put_replied(
     ensures { OnOk result (edits.new.items ≡ edits.old.items
         ++ replied_by span.now.first span.now.bytes.now program.now) }
 {
-    let path = joined(alloc, b"/", program)?;
-    if has_part(path.as_slice(), span.bytes) {
+    if has_path(alloc, program, span.bytes)? {
         return Ok(());
     }
-    let call = joined(alloc, program, b" -r")?;
-    let rest = past_reply(past(program.len() + 3, from_part(call.as_slice(), span.bytes)));
-    put_split(alloc, span, program, rest, edits)
+    let rest = reply_of(alloc, program, span.bytes)?;
+    if is_renaming(rest) {
+        put_renamed(alloc, span, program, edits)
+    } else {
+        put_split(alloc, span, program, edits)
+    }
 }
 
-/// `formail -r` with x or X.
+/// `formail -r` with x, X or R.
 pub fn put_reply(alloc: Global, span: &Span<'_>, edits: &mut Vec<Edit>) -> Result<(), Memory>
     ensures { OnOk result (edits.new.items ≡ edits.old.items ++ reply_edits span.now.first span.now.bytes.now) }
 {

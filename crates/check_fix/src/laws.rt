@@ -1,9 +1,12 @@
 //! What the definitions say of short texts.
-ghost use Rattle.check_fix.specs.Examples.{OfValues, OfColons, OfConditions, OfMailboxes, OfCalls, OfChanges};
+ghost use Rattle.check_fix.specs.Examples.{OfValues, OfBraces, OfCounts, OfColons, OfConditions, OfMailboxes};
+ghost use Rattle.check_fix.specs.Examples.{OfCalls, OfChanges};
 
 /// What old forms are brought over by.
 pub fn examples()
     ensures values { OfValues }
+    ensures braces { OfBraces }
+    ensures counts { OfCounts }
     ensures colons { OfColons }
     ensures conditions { OfConditions }
     ensures mailboxes { OfMailboxes }

@@ -2,10 +2,12 @@
 //! the changes, the new text, and what is left in it.
 #![tactic(auto)]
 
+mod braces;
 mod calls;
 mod changes;
 mod colons;
 mod conditions;
+mod counts;
 mod edits;
 mod fixing;
 mod laws;

@@ -7,6 +7,7 @@ ghost use Rattle.check_fix.specs.Moved.{lock_edits, all_form_edits, all_lock_edi
 ghost use Rattle.check_fix.specs.Moved.{moves_variable, moves_recipe, moves_condition, moves_search, moves_mailbox};
 ghost use Rattle.check_fix.specs.Moved.{moves_program, moves_field, moves as moves_form};
 
+use crate::braces::put_brace;
 use crate::calls::{put_appended, put_empty, put_length, put_removed, put_reply, put_trust};
 use crate::colons::{put_automatic, put_cache_lock, put_own_lock};
 use crate::conditions::{put_late, put_supreme};
@@ -35,6 +36,7 @@ fn put_variable(
         VariableForm::NoEffect => put_idle(alloc, span, edits),
         VariableForm::LogAbstract => put_log(alloc, span, edits),
         VariableForm::Delivered => put_delivered(alloc, span, edits),
+        VariableForm::OpenBrace => put_brace(alloc, span, spans, edits),
         _ => Ok(()),
     }
 }
@@ -251,7 +253,8 @@ fn moves_variable(form: VariableForm) -> bool
         VariableForm::Host
         | VariableForm::NoEffect
         | VariableForm::LogAbstract
-        | VariableForm::Delivered => true,
+        | VariableForm::Delivered
+        | VariableForm::OpenBrace => true,
         _ => false,
     }
 }

@@ -140,7 +140,8 @@ pub fn ends_command(text: &[u8]) -> bool
     }
 }
 
-fn is_break_byte(byte: u8) -> bool
+/// Whether a command ends at this byte.
+pub fn is_break_byte(byte: u8) -> bool
     ensures { result ≡ is_break_byte byte }
 {
     byte == BAR

@@ -2,7 +2,7 @@
 ghost use Rattle.std.specs.Prelude.{◌≡◌, ◌++◌, ◌<◌, OnOk, IfSome, length, not, position};
 ghost use Rattle.check_fix.specs.Conditions.{is_front_byte as front_byte, behind_front, is_escape as escape};
 ghost use Rattle.check_fix.specs.Conditions.{backslash_edits, is_idle_end as idle_end, end_edits, anchor_edits};
-ghost use Rattle.check_fix.specs.Conditions.{indent_edits, continued_edits};
+ghost use Rattle.check_fix.specs.Conditions.{indent_edits, joined_blanks as blanks_joined, continued_edits};
 
 use crate::conditions::{is_lead_byte, is_weight_byte};
 use crate::edits::{Edit, put};
@@ -91,15 +91,24 @@ fn put_indent(
     put(alloc, span, rest, count, &[], edits)
 }
 
-/// Blanks at the beginning of a second line.
+fn joined_blanks(text: &[u8]) -> &[u8]
+    ensures { result.now ≡ blanks_joined text.now }
+{
+    if text.starts_with(b"\\\n ") || text.starts_with(b"\\\n\t") {
+        past(2, text)
+    } else {
+        &[]
+    }
+}
+
+/// Blanks at the beginning of further lines.
 pub fn put_continued(alloc: Global, span: &Span<'_>, edits: &mut Vec<Edit>) -> Result<(), Memory>
     ensures { OnOk result (edits.new.items ≡ edits.old.items ++ continued_edits span.now.first span.now.bytes.now) }
 {
-    put_indent(alloc, span, past(2, from_part(b"\\\n ", span.bytes)), edits)?;
-    put_indent(
-        alloc,
-        span,
-        past(2, from_part(b"\\\n\t", span.bytes)),
-        edits,
-    )
+    let mut rest = span.bytes;
+    while let Some((_, after)) = rest.split_first() {
+        put_indent(alloc, span, joined_blanks(rest), edits)?;
+        rest = after;
+    }
+    Ok(())
 }

@@ -6,6 +6,7 @@ ghost use Rattle.check_fix.specs.Spans.{edits_of as span_by_span};
 
 use crate::colons::put_wait;
 use crate::conditions::{put_great, put_size};
+use crate::counts::put_count;
 use crate::edits::Edit;
 use crate::moved::{put_forms, put_locks};
 use check_moving::{Finding, Form};
@@ -98,6 +99,7 @@ fn put_kind(
             put_size(alloc, span, edits)
         }
         Kind::Colon => put_colon(alloc, span, from_action(spans), findings, edits),
+        Kind::Skipped => put_count(alloc, span, spans, edits),
         _ => Ok(()),
     }
 }

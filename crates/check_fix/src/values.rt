@@ -19,7 +19,8 @@ fn is_line_end(bytes: &[u8]) -> bool
     }
 }
 
-fn is_blank_gap(bytes: &[u8]) -> bool
+/// Whether these bytes begin with a blank.
+pub fn is_blank_gap(bytes: &[u8]) -> bool
     ensures { result ≡ blank_gap bytes.now }
 {
     match bytes {

@@ -12,6 +12,31 @@ returns-clause-values c = record {
   off = refl;
 }
 
+pub returns-clause-braces : goal.returns-clause-braces
+returns-clause-braces c = record {
+  quoted = refl;
+  bare = refl;
+  more = refl;
+  behind = refl;
+  opens = refl;
+  text = refl;
+  closed = refl;
+}
+
+pub returns-clause-counts : goal.returns-clause-counts
+returns-clause-counts c = record {
+  alone = refl;
+  two = refl;
+  nine = refl;
+  zero_first = refl;
+  many = refl;
+  flags = refl;
+  colon = refl;
+  lock = refl;
+  star = refl;
+  word = refl;
+}
+
 pub returns-clause-colons : goal.returns-clause-colons
 returns-clause-colons c = record {
   block = refl;
@@ -67,6 +92,8 @@ returns-clause-calls c = record {
   blank = refl;
   apart = refl;
   renamed = refl;
+  captured = refl;
+  options = refl;
   path = refl;
   removed = refl;
   cache = refl;
