@@ -3,8 +3,8 @@ use crate::words::{are_plain, first_word, from_part, has_part, past_blanks, past
 use pm_bytes::{MINUS, SPACE, is_blank, is_digit};
 use pm_recipe::{Flags, Kind, Span};
 
-/// A file is written to, though two mails can come at once. A directory needs no lock file, and of a name that isn't known
-/// before the run nothing is said.
+/// A file is written to, though two mails can come at once. A directory needs no lock file, and of a name that isn't
+/// known before the run nothing is said.
 pub fn lacks_lock(action: &Span<'_>) -> bool {
     match action.kind {
         Kind::Mailbox => is_mailbox_file(action.text),

@@ -1,5 +1,5 @@
-//! What is wrong in an rcfile, by its text alone: each line that procmail skips, each condition that it can't read, and the
-//! commonest mistakes that it doesn't log.
+//! What is wrong in an rcfile, by its text alone: each line that procmail skips, each condition that it can't read, and
+//! the commonest mistakes that it doesn't log.
 #![tactic(auto)]
 
 mod actions;

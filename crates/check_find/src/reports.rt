@@ -58,7 +58,8 @@ fn put_conditions(
     findings: &mut Vec<Finding>,
 ) -> Result<(), Memory>
     ensures defects { OnOk result (lines_of findings.new.items ≡ lines_of findings.old.items) }
-    ensures conditions { OnOk result (unread_in findings.new.items ≡ unread_in findings.old.items ++ unread_of spans.now) }
+    ensures conditions { OnOk result (unread_in findings.new.items
+        ≡ unread_in findings.old.items ++ unread_of spans.now) }
 {
     for span in spans {
         put_condition(alloc, text, span, findings)?;
@@ -98,7 +99,8 @@ fn put_condition(
 }
 
 fn put(findings: &mut Vec<Finding>, finding: Finding) -> Result<(), Memory>
-    ensures defects { OnOk result (lines_of findings.new.items ≡ lines_of findings.old.items ++ lines_of (finding ∷ [])) }
+    ensures defects { OnOk result (lines_of findings.new.items ≡ lines_of findings.old.items ++ lines_of
+        (finding ∷ [])) }
     ensures conditions { OnOk result (unread_in findings.new.items
         ≡ unread_in findings.old.items ++ unread_in (finding ∷ [])) }
 {

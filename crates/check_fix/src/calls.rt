@@ -2,8 +2,10 @@
 ghost use Rattle.std.specs.Prelude.{◌≡◌, ◌++◌, ◌<◌, IfOk, IfSome, OnOk, length, not, position};
 ghost use Rattle.check_fix.specs.Calls.{whole_call as call_at, call_edits, header_edits, body_edits, empty_edits};
 ghost use Rattle.check_fix.specs.Calls.{is_reply_letter as reply_letter, behind_reply, begins_field as field_at};
-ghost use Rattle.check_fix.specs.Calls.{same_word as in_word, next_word as in_next, reply_of as reply_in, replied_by, reply_edits};
-ghost use Rattle.check_fix.specs.Calls.{from_break as broken, renaming as renaming_of, is_renaming as renames, reply_start};
+ghost use Rattle.check_fix.specs.Calls.{same_word as in_word, next_word as in_next, reply_of as reply_in, replied_by};
+ghost use Rattle.check_fix.specs.Calls.{reply_edits};
+ghost use Rattle.check_fix.specs.Calls.{from_break as broken, renaming as renaming_of, is_renaming as renames};
+ghost use Rattle.check_fix.specs.Calls.{reply_start};
 ghost use Rattle.check_fix.specs.Calls.{split_edits, rename_edits};
 ghost use Rattle.check_moving.specs.Text.{has_part as part_in};
 ghost use Rattle.check_moving.specs.Words.{is_break_byte as breaks};

@@ -139,7 +139,8 @@ where
     }
 
     fn look(&mut self, name: &str) -> Looked
-        ensures made { Makes (call.Look name.now) (answer.Look result) (quiet_host self.old.faults self.old.child) (quiet_host self.new.faults self.new.child) }
+        ensures made { Makes (call.Look name.now) (answer.Look result) (quiet_host self.old.faults self.old.child)
+            (quiet_host self.new.faults self.new.child) }
         ensures closed { self.new.kept.opened ≡ None }
     {
         self.kept.close();
@@ -175,7 +176,8 @@ where
 
     fn append(&mut self, name: &str, piece: &[u8]) -> Took
         requires { 0 < length piece.now }
-        ensures made { Makes (call.Append name.now piece.now) (answer.Append result) (quiet_host self.old.faults self.old.child) (quiet_host self.new.faults self.new.child) }
+        ensures made { Makes (call.Append name.now piece.now) (answer.Append result)
+            (quiet_host self.old.faults self.old.child) (quiet_host self.new.faults self.new.child) }
         ensures kept { Adds name.now (count_of result) (state_of self.old.kept.opened) (state_of self.new.kept.opened) }
     {
         match self
@@ -201,8 +203,10 @@ where
     }
 
     fn cut(&mut self, name: &str, len: u64) -> Cut
-        ensures made { Makes (call.Cut name.now len) (answer.Cut result) (quiet_host self.old.faults self.old.child) (quiet_host self.new.faults self.new.child) }
-        ensures kept { IsUsed name.now Appending (IsCutBy result len) (state_of self.old.kept.opened) (state_of self.new.kept.opened) }
+        ensures made { Makes (call.Cut name.now len) (answer.Cut result) (quiet_host self.old.faults self.old.child)
+            (quiet_host self.new.faults self.new.child) }
+        ensures kept { IsUsed name.now Appending (IsCutBy result len) (state_of self.old.kept.opened)
+            (state_of self.new.kept.opened) }
     {
         match self.kept.cut(&self.rt, self.alloc, name, len) {
             Ok(()) => Cut::Cut,
@@ -214,9 +218,11 @@ where
     }
 
     fn remove(&mut self, name: &str) -> Removed
-        ensures made { Makes (call.Remove name.now) (answer.Remove result) (quiet_host self.old.faults self.old.child) (quiet_host self.new.faults self.new.child) }
+        ensures made { Makes (call.Remove name.now) (answer.Remove result) (quiet_host self.old.faults self.old.child)
+            (quiet_host self.new.faults self.new.child) }
         ensures closed { is_open_target name.now (state_of self.old.kept.opened) ≡ false → self.new.kept.opened ≡ None }
-        ensures emptied { is_open_target name.now (state_of self.old.kept.opened) ≡ true → IsEmptied result (state_of self.old.kept.opened) (state_of self.new.kept.opened) }
+        ensures emptied { is_open_target name.now (state_of self.old.kept.opened) ≡ true → IsEmptied result
+            (state_of self.old.kept.opened) (state_of self.new.kept.opened) }
     {
         let removed = if self.kept.is_target(name) {
             self.kept.empty()
@@ -231,7 +237,8 @@ where
     }
 
     fn rename(&mut self, from: &str, to: &str) -> Moved
-        ensures made { Makes (call.Rename from.now to.now) (answer.Rename result) (quiet_host self.old.faults self.old.child) (quiet_host self.new.faults self.new.child) }
+        ensures made { Makes (call.Rename from.now to.now) (answer.Rename result)
+            (quiet_host self.old.faults self.old.child) (quiet_host self.new.faults self.new.child) }
         ensures closed { self.new.kept.opened ≡ None }
     {
         self.kept.close();
@@ -275,7 +282,8 @@ where
     }
 
     fn start(&mut self, command: &Command, want: bool) -> Started
-        ensures made { Makes (call.Start command.now want) (answer.Start result) (quiet_host self.old.faults self.old.child) (quiet_host self.new.faults self.new.child) }
+        ensures made { Makes (call.Start command.now want) (answer.Start result)
+            (quiet_host self.old.faults self.old.child) (quiet_host self.new.faults self.new.child) }
         ensures closed { self.new.kept.opened ≡ None }
     {
         self.kept.close();

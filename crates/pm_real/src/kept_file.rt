@@ -1,6 +1,7 @@
 //! The file that was opened last. It is kept open for the calls that follow on the same name, so that all of an append
 //! goes to one file, also where another one is put at its name meanwhile.
-ghost use Rattle.std.specs.Prelude.{◌≡◌, ◌≤◌, ◌<◌, ◌⊎◌, true, None, Some, length, take, IfSome, IfOk, IsOk, IsErr, MatchResult};
+ghost use Rattle.std.specs.Prelude.{◌≡◌, ◌≤◌, ◌<◌, ◌⊎◌, true, None, Some, length, take, IfSome, IfOk, IsOk, IsErr};
+ghost use Rattle.std.specs.Prelude.{MatchResult};
 ghost use Rattle.pm_real.specs.declared.mode.Mode.TheVariants.{Reading, Appending};
 ghost use Rattle.pm_real.specs.Kept.{just_opened, is_open, in_use, is_open_target, made_target};
 ghost use Rattle.pm_real.specs.Calls.{state_of, IsAfterRead, IsAfterCut, IsEmptied, IsMade, IsUsed, Adds, AddedTo};
@@ -110,7 +111,8 @@ impl<F: Read + Write + OpenFile + FileExt + Drop> KeptFile<F> {
         how: &OpenOptions,
         mode: Mode,
     ) -> io::Result<()>
-        ensures { MatchResult result (λ _. state_of self.new.opened ≡ Some (just_opened name.now mode)) (λ _. self.new.opened ≡ None) }
+        ensures { MatchResult result (λ _. state_of self.new.opened ≡ Some (just_opened name.now mode))
+            (λ _. self.new.opened ≡ None) }
     {
         self.close();
         let kept_name = String::from_str(alloc, name)?;
@@ -126,8 +128,10 @@ impl<F: Read + Write + OpenFile + FileExt + Drop> KeptFile<F> {
         name: &str,
         mode: Mode,
     ) -> io::Result<()>
-        ensures used { MatchResult result (λ _. state_of self.new.opened ≡ Some (in_use name.now mode (state_of self.old.opened))) (λ _. self.new.opened ≡ None) }
-        ensures same { is_open name.now mode (state_of self.old.opened) ≡ true → IsOk result × (self.new.opened ≡ self.old.opened) }
+        ensures used { MatchResult result (λ _. state_of self.new.opened ≡ Some
+            (in_use name.now mode (state_of self.old.opened))) (λ _. self.new.opened ≡ None) }
+        ensures same { is_open name.now mode (state_of self.old.opened) ≡ true → IsOk result ×
+            (self.new.opened ≡ self.old.opened) }
     {
         if self.has_open(name, mode) {
             return Ok(());
@@ -173,7 +177,8 @@ impl<F: Read + Write + OpenFile + FileExt + Drop> KeptFile<F> {
         alloc: Global,
         name: &str,
     ) -> io::Result<()>
-        ensures { MatchResult result (λ _. state_of self.new.opened ≡ Some (made_target (just_opened name.now Appending))) (λ _. self.new.opened ≡ None) }
+        ensures { MatchResult result (λ _. state_of self.new.opened ≡ Some
+            (made_target (just_opened name.now Appending))) (λ _. self.new.opened ≡ None) }
     {
         let mut how = OpenOptions::new();
         how.append(true);
@@ -213,7 +218,8 @@ impl<F: Read + Write + OpenFile + FileExt + Drop> KeptFile<F> {
         room: &mut [u8],
     ) -> Option<usize>
         ensures within { IfSome result (λ count. count ≤ length room.new) }
-        ensures kept { IsUsed name.now Reading (IsAfterRead result) (state_of self.old.opened) (state_of self.new.opened) }
+        ensures kept { IsUsed name.now Reading (IsAfterRead result) (state_of self.old.opened)
+            (state_of self.new.opened) }
     {
         if self.use_file(rt, alloc, name, Mode::Reading).is_err() {
             return None;
@@ -237,7 +243,8 @@ impl<F: Read + Write + OpenFile + FileExt + Drop> KeptFile<F> {
         ensures some { IfSome result (λ count. 0 < count) }
         ensures within { IfSome result (λ count. count ≤ length piece.now) }
         ensures kept { Adds name.now result (state_of self.old.opened) (state_of self.new.opened) }
-        ensures file { is_open name.now Appending (state_of self.old.opened) ≡ true → IfSome result (λ count. AddedTo F.contents (take count piece.now) self.old.opened self.new.opened) }
+        ensures file { is_open name.now Appending (state_of self.old.opened) ≡ true → IfSome result
+            (λ count. AddedTo F.contents (take count piece.now) self.old.opened self.new.opened) }
     {
         if self.use_file(rt, alloc, name, Mode::Appending).is_err() {
             return None;
@@ -250,7 +257,8 @@ impl<F: Read + Write + OpenFile + FileExt + Drop> KeptFile<F> {
 
     /// Syncs the file to disk.
     pub fn sync<R: Files<File = F>>(&mut self, rt: &R, alloc: Global, name: &str) -> io::Result<()>
-        ensures { IsUsed name.now Appending (λ before now. now ≡ before) (state_of self.old.opened) (state_of self.new.opened) }
+        ensures { IsUsed name.now Appending (λ before now. now ≡ before) (state_of self.old.opened)
+            (state_of self.new.opened) }
     {
         self.use_file(rt, alloc, name, Mode::Appending)?;
         match &self.opened {
@@ -268,7 +276,8 @@ impl<F: Read + Write + OpenFile + FileExt + Drop> KeptFile<F> {
         name: &str,
         len: u64,
     ) -> io::Result<()>
-        ensures { IsUsed name.now Appending (IsAfterCut len result) (state_of self.old.opened) (state_of self.new.opened) }
+        ensures { IsUsed name.now Appending (IsAfterCut len result) (state_of self.old.opened)
+            (state_of self.new.opened) }
     {
         self.use_file(rt, alloc, name, Mode::Appending)?;
         match &mut self.opened {

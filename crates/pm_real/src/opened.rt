@@ -103,7 +103,8 @@ impl<F: Read + Write + OpenFile + FileExt + Drop> Opened<F> {
         ensures some { IfSome result (λ count. 0 < count) }
         ensures within { IfSome result (λ count. count ≤ length piece.now) }
         ensures state { IsAfterAppend result self.old.state self.new.state }
-        ensures file { IfSome result (λ count. Appends (F.contents self.old.file) (F.contents self.new.file) (take count piece.now)) }
+        ensures file { IfSome result (λ count. Appends (F.contents self.old.file) (F.contents self.new.file)
+            (take count piece.now)) }
         ensures keeps { IsNone result → Keeps (F.contents self.old.file) (F.contents self.new.file) }
     {
         if !self.may_grow(limit) {
@@ -122,8 +123,8 @@ impl<F: Read + Write + OpenFile + FileExt + Drop> Opened<F> {
         }
     }
 
-    /// Keeps the first bytes. A file that has fewer isn't filled up with zeros, and from one that was appended to no more
-    /// is cut off than was added: both are errors.
+    /// Keeps the first bytes. A file that has fewer isn't filled up with zeros, and from one that was appended to no
+    /// more is cut off than was added: both are errors.
     pub fn cut(&mut self, len: u64) -> io::Result<()>
         ensures { IsAfterCut len result self.old.state self.new.state }
     {

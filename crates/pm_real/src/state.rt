@@ -1,6 +1,7 @@
 //! What is known of an open file, and how the calls of a host change that.
 ghost use Rattle.std.specs.Prelude.{◌≡◌, true, false, Some, None, string_bytes};
-ghost use Rattle.pm_real.specs.Kept.{just_opened, same_mode, is_use, is_target_of, made_target, appended, read_past, left_of, cut_to};
+ghost use Rattle.pm_real.specs.Kept.{just_opened, same_mode, is_use, is_target_of, made_target, appended, read_past};
+ghost use Rattle.pm_real.specs.Kept.{left_of, cut_to};
 
 use crate::mode::Mode;
 use std::marker::Model;
@@ -24,7 +25,13 @@ impl Model for FileState {
 
     ghost Value = { FileView };
 
-    ghost view = { λ s. record { name = string_bytes s.name; mode = s.mode; added = s.added; passed = s.passed; is_target = s.is_target } };
+    ghost view = { λ s. record {
+      name = string_bytes s.name;
+      mode = s.mode;
+      added = s.added;
+      passed = s.passed;
+      is_target = s.is_target;
+    } };
 }
 
 impl FileState {
@@ -85,8 +92,8 @@ impl FileState {
         self.passed = self.passed.saturating_add(count as u64);
     }
 
-    /// Whether it may be cut from this size to a length; then it is about to be. A file that has fewer bytes isn't filled
-    /// up with zeros, and from one that was appended to no more is cut off than was added.
+    /// Whether it may be cut from this size to a length; then it is about to be. A file that has fewer bytes isn't
+    /// filled up with zeros, and from one that was appended to no more is cut off than was added.
     pub fn cut(&mut self, size: u64, len: u64) -> bool
         ensures cut { result ≡ true → cut_to size len self.old ≡ Some self.new }
         ensures kept { result ≡ false → cut_to size len self.old ≡ None }

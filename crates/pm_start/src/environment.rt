@@ -1,5 +1,6 @@
 //! The environment that the program is started with.
-ghost use Rattle.std.specs.Prelude.{◌≡◌, ◌≤◌, ◌⊎◌, ◌++◌, ℕ, List, Option, None, true, false, codes, slice_get, option_to_list, vec_len, IfOk, IfSome};
+ghost use Rattle.std.specs.Prelude.{◌≡◌, ◌≤◌, ◌⊎◌, ◌++◌, ℕ, List, Option, None, true, false, codes, slice_get};
+ghost use Rattle.std.specs.Prelude.{option_to_list, vec_len, IfOk, IfSome};
 ghost use Rattle.pm_bytes.specs.Name.{is_usable};
 ghost use Rattle.pm_start.specs.Variables.{IsEntryAt, front_if, pair_of, pairs_of};
 ghost use Rattle.pm_start.specs.Entry.{Lacks, IsEntry, HasUnusable, IsMachineName, name_in};
@@ -74,7 +75,8 @@ fn read_entry<E: Entries>(
     room: &mut Vec<u8>,
 ) -> Result<Option<usize>, Memory>
     ensures within { IfOk result (λ found. IfSome found (λ length. length ≤ vec_len room.new)) }
-    ensures entry { IfOk result (λ found. IfSome (E.shown entries.now) (λ shown. slice_get shown index ≡ front_if found room.new.items)) }
+    ensures entry { IfOk result (λ found. IfSome (E.shown entries.now)
+        (λ shown. slice_get shown index ≡ front_if found room.new.items)) }
 {
     for _ in 0..usize::BITS {
         match entries.entry(index, room.as_mut_slice()) {

@@ -23,7 +23,8 @@ pub fn read_words<R: Env>(alloc: Global, env: &R) -> Words {
 
 // The words of the arguments, in order, or why there are none.
 fn words_of(alloc: Global, arguments: io::Result<Args>) -> Words
-    ensures { MatchResult arguments (λ given. AreRead (drop 1 (map string_bytes (into_iter_items given))) result) (λ error. AreRefused error result) }
+    ensures { MatchResult arguments (λ given. AreRead (drop 1 (map string_bytes (into_iter_items given))) result)
+        (λ error. AreRefused error result) }
 {
     match arguments {
         Ok(given) => match words_left(alloc, given) {
