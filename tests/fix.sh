@@ -123,6 +123,12 @@ the mailbox as its lock file: stays
 the lock file of a cache: runs
 :0 Wh: msgid.cache$LOCKEXT\n| formail -D 8192 msgid.cache\n:0:\nmbox\n
 :0 Wh\n| formail -D 8192 msgid.cache\n:0:\nmbox\n
+LOCKFILE for a cache: runs
+C=$HOME/m.cache\nLOCKFILE=${C}.lock\n:0\n* ? formail -D 8192 $C\nagain\nLOCKFILE\n:0:\nmbox\n
+C=$HOME/m.cache\nLOCKFILE=\n:0\n* ? formail -D 8192 $C\nagain\nLOCKFILE\n:0:\nmbox\n
+LOCKFILE for a cache that is used after another value: stays
+LOCKFILE=$C.lock\nLOCKFILE\n:0 W\n| formail -D 8192 $C\n
+LOCKFILE=$C.lock\nLOCKFILE\n:0 W\n| formail -D 8192 $C\n
 several words: runs
 :0:\nmy mail\n
 :0:\nmy\n
@@ -185,7 +191,7 @@ while IFS= read -r title; do
     cmp -s there.tree here.tree || fail "$title (left: 3.22 by the old text): $(diff there.tree here.tree)"
     tried=$((tried + 1))
 done < rows
-[ "$count" -eq 40 ] || fail "only $count rows"
+[ "$count" -eq 42 ] || fail "only $count rows"
 [ -n "$old_procmail" ] || echo "$name: no procmail 3.22 here: what it does with the old texts: skipped"
 
 # What can't be brought over stays, and is reported for the new text; the status says whether anything is left.

@@ -1,8 +1,7 @@
 -- No conditions.
-use Rattle.std.proofs.Common.{◌≡◌, refl, Bool, true, List, [], ◌∷◌}
+use Rattle.std.proofs.Common.{◌≡◌, refl, true, List, [], ◌∷◌}
 use Rattle.pm_recipe.specs.declared.spans.Span.{Span}
 use Rattle.check_fix.specs.Counts.{follow, star_edits}
-use Rattle.check_fix.specs.declared.edits.Edit.{Edit}
 
 -- they follow
 pub none_follow : (spans : List Span) → follow 0 spans ≡ true

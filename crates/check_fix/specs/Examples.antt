@@ -8,6 +8,7 @@ use Rattle.check_fix.specs.Changes.{chosen, rewritten}
 use Rattle.check_fix.specs.Colons.{automatic_edits, own_lock_edits, cache_lock_edits, wait_edits}
 use Rattle.check_fix.specs.Conditions.{great_edits, size_edits, late_edits, supreme_edits, backslash_edits, end_edits, anchor_edits, continued_edits}
 use Rattle.check_fix.specs.Counts.{counted, is_bare, zero_edits}
+use Rattle.check_fix.specs.Locks.{cache_of, without_braces, uses_cache}
 use Rattle.check_fix.specs.Mailboxes.{several_edits, hash_edits, match_edits}
 use Rattle.check_fix.specs.Values.{host_edits, idle_edits, log_edits, delivered_edits}
 use Rattle.check_fix.specs.declared.edits.Edit.{Edit}
@@ -36,6 +37,18 @@ pub record OfBraces : Type 0 where
   pub opens : opens_brace (codes "${Y:-") ≡ true
   pub text : opens_brace (codes "a${Y:-") ≡ false
   pub closed : edited (close_edits 0 (codes "\"y z\"} # x")) (codes "\"y z\"} # x") ≡ codes "y z}\" # x"
+
+-- lock files of caches
+pub record OfLocks : Type 0 where
+  pub name : cache_of (codes "${C}.lock") ≡ codes "${C}"
+  pub ext : cache_of (codes "c$LOCKEXT") ≡ codes "c"
+  pub braces : cache_of (codes "$C${LOCKEXT}") ≡ codes "$C"
+  pub other : cache_of (codes "my.lck") ≡ []
+  pub plain : without_braces (codes "? $F -D 8 ${C}") ≡ codes "? $F -D 8 $C"
+  pub used : uses_cache (codes "$C") (codes "? $FORMAIL -D 8192 $C") ≡ true
+  pub reply : uses_cache (codes "$C") (codes "? formail -rD 8192 $C") ≡ true
+  pub not_used : uses_cache (codes "$D") (codes "? formail -D 8192 $C") ≡ false
+  pub no_call : uses_cache (codes "$C") (codes "? test -s $C") ≡ false
 
 -- counts of conditions
 pub record OfCounts : Type 0 where

@@ -3,6 +3,7 @@ pub mod Edits
 pub mod Values
 pub mod Braces
 pub mod Counts
+pub mod Locks
 pub mod Colons
 pub mod Conditions
 pub mod Mailboxes

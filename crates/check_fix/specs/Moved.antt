@@ -22,6 +22,7 @@ use Rattle.check_fix.specs.Braces.{brace_edits}
 use Rattle.check_fix.specs.Calls.{empty_edits, reply_edits, removed_edits, length_edits, appended_edits, trust_edits}
 use Rattle.check_fix.specs.Colons.{automatic_edits, own_lock_edits, cache_lock_edits}
 use Rattle.check_fix.specs.Conditions.{late_edits, supreme_edits, backslash_edits, end_edits, anchor_edits, continued_edits}
+use Rattle.check_fix.specs.Locks.{held_edits}
 use Rattle.check_fix.specs.Mailboxes.{several_edits, hash_edits, match_edits}
 use Rattle.check_fix.specs.Values.{host_edits, idle_edits, log_edits, delivered_edits}
 use Rattle.check_fix.specs.declared.edits.Edit.{Edit}
@@ -32,6 +33,7 @@ variable_edits variable.Host span spans = host_edits span.first span.bytes.now s
 variable_edits variable.NoEffect span spans = idle_edits span.first span.bytes.now
 variable_edits variable.LogAbstract span spans = log_edits span.first span.bytes.now span.text.now
 variable_edits variable.Delivered span spans = delivered_edits span.first span.bytes.now span.text.now
+variable_edits variable.LockFile span spans = held_edits span.first span.bytes.now span.text.now spans
 variable_edits variable.OpenBrace span spans = brace_edits span.first span.bytes.now span.text.now spans
 variable_edits _ span spans = []
 

@@ -1,11 +1,12 @@
 //! What the definitions say of short texts.
-ghost use Rattle.check_fix.specs.Examples.{OfValues, OfBraces, OfCounts, OfColons, OfConditions, OfMailboxes};
-ghost use Rattle.check_fix.specs.Examples.{OfCalls, OfChanges};
+ghost use Rattle.check_fix.specs.Examples.{OfValues, OfBraces, OfLocks, OfCounts, OfColons, OfConditions};
+ghost use Rattle.check_fix.specs.Examples.{OfMailboxes, OfCalls, OfChanges};
 
 /// What old forms are brought over by.
 pub fn examples()
     ensures values { OfValues }
     ensures braces { OfBraces }
+    ensures locks { OfLocks }
     ensures counts { OfCounts }
     ensures colons { OfColons }
     ensures conditions { OfConditions }

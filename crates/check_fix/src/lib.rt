@@ -11,6 +11,7 @@ mod counts;
 mod edits;
 mod fixing;
 mod laws;
+mod locks;
 mod mailboxes;
 mod moved;
 mod parts;

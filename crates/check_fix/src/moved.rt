@@ -12,6 +12,7 @@ use crate::calls::{put_appended, put_empty, put_length, put_removed, put_reply, 
 use crate::colons::{put_automatic, put_cache_lock, put_own_lock};
 use crate::conditions::{put_late, put_supreme};
 use crate::edits::Edit;
+use crate::locks::put_held;
 use crate::mailboxes::{put_hash, put_match, put_several};
 use crate::searches::{put_anchors, put_backslash, put_continued, put_end};
 use crate::values::{put_delivered, put_host, put_idle, put_log};
@@ -36,6 +37,7 @@ fn put_variable(
         VariableForm::NoEffect => put_idle(alloc, span, edits),
         VariableForm::LogAbstract => put_log(alloc, span, edits),
         VariableForm::Delivered => put_delivered(alloc, span, edits),
+        VariableForm::LockFile => put_held(alloc, span, spans, edits),
         VariableForm::OpenBrace => put_brace(alloc, span, spans, edits),
         _ => Ok(()),
     }

@@ -1,4 +1,4 @@
-use Rattle.std.proofs.Common.{ℕ, ◌≡◌, ◌∙◌, sym, ap, drop}
+use Rattle.std.proofs.Common.{ℕ, ◌∙◌, sym, ap, drop}
 use Rattle.check_fix.specs.Counts.{follow}
 use Rattle.check_fix.proofs.NoneLeft.{none_follow}
 use Rattle.check_fix.proofs.counts.follow.Goals as goal

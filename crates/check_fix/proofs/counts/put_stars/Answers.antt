@@ -1,4 +1,4 @@
-use Rattle.std.proofs.Common.{ℕ, List, ◌≡◌, ◌++◌, ◌∙◌, sym, ap, drop}
+use Rattle.std.proofs.Common.{ℕ, List, ◌++◌, ◌∙◌, sym, ap, drop}
 use Rattle.std.proofs.lemmas.List.{append-nil}
 use Rattle.check_fix.specs.Counts.{star_edits}
 use Rattle.check_fix.specs.declared.edits.Edit.{Edit}

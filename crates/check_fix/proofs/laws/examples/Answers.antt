@@ -23,6 +23,19 @@ returns-clause-braces c = record {
   closed = refl;
 }
 
+pub returns-clause-locks : goal.returns-clause-locks
+returns-clause-locks c = record {
+  name = refl;
+  ext = refl;
+  braces = refl;
+  other = refl;
+  plain = refl;
+  used = refl;
+  reply = refl;
+  not_used = refl;
+  no_call = refl;
+}
+
 pub returns-clause-counts : goal.returns-clause-counts
 returns-clause-counts c = record {
   alone = refl;
