@@ -1,5 +1,5 @@
 -- Short mails, and what is printed of them.
-use Rattle.std.specs.Prelude.{◌≡◌, ℕ, true, false, List, [], ◌∷◌, length, map, Some, None, codes}
+use Rattle.std.specs.Prelude.{◌≡◌, ℕ, true, false, List, [], ◌∷◌, ◌++◌, length, map, Some, None, codes}
 use Rattle.pm_message.specs.declared.renewal.Renew.TheVariants.{Keep, AddMissing, Sender, Date}
 use Rattle.pm_meaning.specs.declared.command_line.CommandLine.{CommandLine}
 use Rattle.explain_text.specs.declared.destination.Destination.TheVariants.{File, Folder, Program, Forward, Output}
@@ -7,7 +7,7 @@ use Rattle.explain_mails.specs.Compared.{goes_elsewhere}
 use Rattle.explain_mails.specs.Lines.{right, mail_line, mail_heading, move_line, comparison}
 use Rattle.explain_mails.specs.Names.{destination_name}
 use Rattle.explain_mails.specs.Subjects.{subject_of, shortened, in_columns}
-use Rattle.explain_mails.specs.Words.{words_with}
+use Rattle.explain_mails.specs.Words.{words_of, words_with}
 use Rattle.explain_mails.specs.Went.{Went}
 use Rattle.explain_mails.specs.declared.outcome.Compared.{Compared}
 
@@ -88,13 +88,17 @@ pub record OfComparisons : Type 0 where
 abbrev pub rcfiles : List (List ℕ) → CommandLine
 rcfiles names = record { filter = false; fails_softly = false; renew = AddMissing; arguments = []; values = []; rcfiles = names }
 
+-- what comes before the variables and rcfiles
+abbrev pub front : List (List ℕ)
+front = codes "--" ∷ codes "LOGABSTRACT=all" ∷ codes "TRAP=procmail-explain" ∷ []
+
 -- Words with another rcfile, in the folder `/w/x`.
 pub record OfWords : Type 0 where
-  pub own : words_with (rcfiles []) (codes "/w/x") (codes "new.rc") ≡ codes "--" ∷ codes "/w/x/new.rc" ∷ []
-  pub here : words_with (rcfiles (codes "./rc" ∷ [])) (codes "/w/x") (codes "new.rc") ≡ codes "--" ∷ codes "./new.rc" ∷ []
-  pub full : words_with (rcfiles (codes "/etc/rc" ∷ [])) (codes "/w/x") (codes "/n/rc") ≡ codes "--" ∷ codes "/n/rc" ∷ []
-  pub full_beside_here : words_with (rcfiles (codes "./rc" ∷ [])) (codes "/w/x") (codes "/n/rc") ≡ codes "--" ∷ codes "./../..//n/rc" ∷ []
-  pub last : words_with (rcfiles (codes "./a" ∷ codes "b" ∷ [])) (codes "/w/x") (codes "new.rc") ≡ codes "--" ∷ codes "./a" ∷ codes "/w/x/new.rc" ∷ []
+  pub own : words_with (rcfiles []) (codes "/w/x") (codes "new.rc") ≡ front ++ codes "/w/x/new.rc" ∷ []
+  pub here : words_with (rcfiles (codes "./rc" ∷ [])) (codes "/w/x") (codes "new.rc") ≡ front ++ codes "./new.rc" ∷ []
+  pub full : words_with (rcfiles (codes "/etc/rc" ∷ [])) (codes "/w/x") (codes "/n/rc") ≡ front ++ codes "/n/rc" ∷ []
+  pub full_beside_here : words_with (rcfiles (codes "./rc" ∷ [])) (codes "/w/x") (codes "/n/rc") ≡ front ++ codes "./../..//n/rc" ∷ []
+  pub last : words_with (rcfiles (codes "./a" ∷ codes "b" ∷ [])) (codes "/w/x") (codes "new.rc") ≡ front ++ codes "./a" ∷ codes "/w/x/new.rc" ∷ []
   pub options : words_with (record (rcfiles (codes "rc" ∷ [])) {
     filter = true;
     fails_softly = true;
@@ -102,9 +106,13 @@ pub record OfWords : Type 0 where
     arguments = codes "a" ∷ codes "-b" ∷ [];
     values = record { name = codes "X"; value = codes "1=2" } ∷ [];
   }) (codes "/w/x") (codes "new.rc")
-      ≡ codes "-m" ∷ codes "-t" ∷ codes "-f" ∷ codes "joe" ∷ codes "-a" ∷ codes "a" ∷ codes "-a" ∷ codes "-b" ∷ codes "--" ∷ codes "X=1=2"
+      ≡ codes "-m" ∷ codes "-t" ∷ codes "-f" ∷ codes "joe" ∷ codes "-a" ∷ codes "a" ∷ codes "-a" ∷ codes "-b" ∷ front ++ codes "X=1=2"
       ∷ codes "/w/x/new.rc" ∷ []
   pub date : words_with (record (rcfiles []) { renew = Date }) (codes "/w/x") (codes "new.rc")
-      ≡ codes "-f" ∷ codes "-" ∷ codes "--" ∷ codes "/w/x/new.rc" ∷ []
+      ≡ codes "-f" ∷ codes "-" ∷ front ++ codes "/w/x/new.rc" ∷ []
   pub as_it_is : words_with (record (rcfiles (codes "rc" ∷ [])) { filter = true; renew = Keep }) (codes "/w/x") (codes "new.rc")
-      ≡ codes "-m" ∷ codes "--" ∷ codes "/w/x/new.rc" ∷ []
+      ≡ codes "-m" ∷ front ++ codes "/w/x/new.rc" ∷ []
+  pub same : words_of (rcfiles (codes "./a" ∷ codes "b" ∷ [])) ≡ front ++ codes "./a" ∷ codes "b" ∷ []
+  pub same_own : words_of (rcfiles []) ≡ front
+  pub same_options : words_of (record (rcfiles (codes "rc" ∷ [])) { filter = true; values = record { name = codes "TRAP"; value = codes "t" } ∷ [] })
+      ≡ codes "-m" ∷ front ++ codes "TRAP=t" ∷ codes "rc" ∷ []

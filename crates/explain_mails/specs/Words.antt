@@ -25,11 +25,19 @@ argument_words argument = codes "-a" ∷ argument ∷ []
 abbrev pub value_word : Pair → List ℕ
 value_word pair = pair.name ++ codes "=" ++ pair.value
 
--- the words of the options, arguments and variables
+-- the variables by which a journal tells each delivery: an abstract of each, and a program at the end
+unfoldable pub telling_words : List (List ℕ)
+telling_words = codes "LOGABSTRACT=all" ∷ codes "TRAP=procmail-explain" ∷ []
+
+-- the words of the options, arguments and variables; those that tell come first, so the others can set them again
 abbrev pub option_words : CommandLine → List (List ℕ)
 option_words line =
     word_if line.filter (codes "-m") ++ word_if line.fails_softly (codes "-t") ++ renewal_words line.renew
-    ++ flat_map argument_words line.arguments ++ codes "--" ∷ map value_word line.values
+    ++ flat_map argument_words line.arguments ++ codes "--" ∷ telling_words ++ map value_word line.values
+
+-- the words of a command line, by which a journal tells each delivery
+abbrev pub words_of : CommandLine → List (List ℕ)
+words_of line = option_words line ++ line.rcfiles
 
 -- the rcfiles but for the last
 abbrev pub earlier : List (List ℕ) → List (List ℕ)

@@ -14,6 +14,6 @@ pub use laws::{begin_alike, examples};
 pub use lines::{mail_heading, mail_line};
 pub use names::destination_names;
 pub use outcome::{Compared, Outcome, goes_elsewhere};
-pub use report::comparison;
+pub use report::{comparison, count_moved};
 pub use subject::subject_of;
-pub use words::words_with;
+pub use words::{words_of, words_with};

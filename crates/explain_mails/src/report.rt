@@ -21,7 +21,8 @@ pub fn comparison(alloc: Global, quiet: bool, mails: &[Compared]) -> Result<Blob
     Ok(text)
 }
 
-fn count_moved(alloc: Global, mails: &[Compared]) -> Result<usize, Memory>
+/// How many of the mails go elsewhere.
+pub fn count_moved(alloc: Global, mails: &[Compared]) -> Result<usize, Memory>
     ensures { IfOk result (λ count. count ≡ count_by goes_elsewhere mails.now) }
 {
     let mut count = 0;

@@ -1,6 +1,6 @@
 //! procmail's words with another rcfile.
 ghost use Rattle.std.specs.Prelude.{◌≡◌, ◌∷◌, [], ◌++◌, IfOk, OnOk, codes, map, flat_map};
-ghost use Rattle.explain_mails.specs.Words.{words_with, option_words, word_if, renewal_words};
+ghost use Rattle.explain_mails.specs.Words.{words_of, words_with, option_words, telling_words, word_if, renewal_words};
 ghost use Rattle.explain_mails.specs.Words.{argument_words, value_word};
 ghost use Rattle.explain_mails.specs.Words.{earlier, last_rcfile, word_beside, seen_from_here, full_name, steps_up};
 
@@ -9,7 +9,17 @@ use pm_meaning::CommandLine;
 use pm_message::Renew;
 use std::alloc::Global;
 
-/// Words that ask for what the command line asks for, with this rcfile in the place of the last one, or of the user's
+/// Words that ask for what the command line asks for. The variables LOGABSTRACT and TRAP are set before all others, so
+/// that the journal tells each delivery (`destination_names`).
+pub fn words_of(alloc: Global, line: &CommandLine) -> Result<Vec<Blob>, Memory>
+    ensures { IfOk result (λ words. words.items ≡ words_of line.now) }
+{
+    let mut words = option_words(alloc, line)?;
+    push_names(alloc, &mut words, line.rcfiles.as_slice())?;
+    Ok(words)
+}
+
+/// As `words_of`: words that ask for what the command line asks for, with this rcfile in the place of the last one, or of the user's
 /// own where none is named. `folder` is the full name of the current folder. Both runs begin in the same folder.
 pub fn words_with(
     alloc: Global,
@@ -35,8 +45,16 @@ fn option_words(alloc: Global, line: &CommandLine) -> Result<Vec<Blob>, Memory>
     push_renewal(alloc, &mut words, &line.renew)?;
     push_arguments(alloc, &mut words, line.arguments.as_slice())?;
     push_word(alloc, &mut words, b"--")?;
+    push_telling(alloc, &mut words)?;
     push_values(alloc, &mut words, line.values.as_slice())?;
     Ok(words)
+}
+
+#[tactic(auto, unfolding(crate::specs::Words::telling_words))]
+fn push_telling(alloc: Global, words: &mut Vec<Blob>) -> Result<(), Memory>
+    ensures { OnOk result (words.new.items ≡ words.old.items ++ telling_words) }
+{
+    push_both(alloc, words, b"LOGABSTRACT=all", b"TRAP=procmail-explain")
 }
 
 fn push_word(alloc: Global, words: &mut Vec<Blob>, word: &[u8]) -> Result<(), Memory>
