@@ -1,13 +1,15 @@
 //! What programs answer that aren't started: `LINE=CODE[:FILE]`.
+use crate::output::complain;
+use crate::status::{Status, Stopped};
 use memchr::{memchr, memrchr};
-use pm_bytes::{Blob, read_count};
+use pm_bytes::{Blob, Memory, read_count};
 use pm_overlay::Given;
 use std::alloc::Global;
-use std::{fs, io};
+use std::fs;
 
 /// An answer, or why there is none.
 #[derive(Drop)]
-pub enum Answer {
+enum Answer {
     Given(Given),
     /// The text has another form, or its code is above 255.
     Unread,
@@ -15,8 +17,31 @@ pub enum Answer {
     NoFile,
 }
 
-/// Reads one answer. The last equals sign ends the line.
-pub fn read_answer(rt: &HostRuntime, text: &str) -> io::Result<Answer> {
+/// Reads the answers, in their order.
+pub fn answers_of(rt: &HostRuntime, texts: &[&str]) -> Result<Vec<Given>, Stopped> {
+    let mut given = Vec::new(rt.alloc());
+    for text in texts {
+        given.push(answer_of(rt, text)?)?;
+    }
+    Ok(given)
+}
+
+fn answer_of(rt: &HostRuntime, text: &str) -> Result<Given, Stopped> {
+    match read_answer(rt, text)? {
+        Answer::Given(given) => Ok(given),
+        Answer::Unread => {
+            complain(rt, "no answer of the form LINE=CODE[:FILE]: ", text)?;
+            Err(Stopped(Status::Usage))
+        }
+        Answer::NoFile => {
+            complain(rt, "can't read the file of ", text)?;
+            Err(Stopped(Status::NoInput))
+        }
+    }
+}
+
+// Reads one answer. The last equals sign ends the line.
+fn read_answer(rt: &HostRuntime, text: &str) -> Result<Answer, Memory> {
     let Some((line, end)) = cut_last(text.as_bytes(), b'=') else {
         return Ok(Answer::Unread);
     };
@@ -29,10 +54,10 @@ pub fn read_answer(rt: &HostRuntime, text: &str) -> io::Result<Answer> {
     }
 }
 
-fn given(alloc: Global, line: &[u8], code: &[u8], output: Option<Blob>) -> io::Result<Answer> {
+fn given(alloc: Global, line: &[u8], code: &[u8], output: Option<Blob>) -> Result<Answer, Memory> {
     match read_count(code) {
         Some(code) if code <= 255 => Ok(Answer::Given(Given {
-            line: Blob::from_vec(line.to_vec(alloc)?),
+            line: Blob::from_slice(alloc, line)?,
             code: code as u8,
             output,
         })),

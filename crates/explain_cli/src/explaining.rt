@@ -1,96 +1,131 @@
-//! The run of one mail over what is there, whose changes stay in memory.
-use crate::Status;
-use crate::answers::{Answer, read_answer};
+//! What becomes of each mail.
+use crate::answers::answers_of;
+use crate::comparing::compare;
+use crate::input::read_mails;
 use crate::options::{Format, Options};
-use crate::written::{json, text};
+use crate::output::{Progress, complain, write_out};
+use crate::running::{Ran, Runs};
+use crate::status::{Status, Stopped};
+use crate::words::{line_of, owned, telling};
 use explain_host::Machine;
-use pm_bytes::Memory;
-use pm_journal::Journal;
-use pm_overlay::{Overlay, Void};
-use pm_real::RealSource;
-use pm_top::procmail;
+use explain_json::{mail_object, outcome_object, run_object};
+use explain_mails::{mail_heading, mail_line, subject_of};
+use explain_text::{explain as steps_text, result_line, steps_of};
+use pm_bytes::{Blob, Memory};
 use std::alloc::Global;
-use std::io::{self, ErrorKind, Write};
 
-/// Prints what procmail would do with the mail on standard input.
-pub fn explain_mail(rt: &HostRuntime, options: &Options<'_>) -> io::Result<Status> {
-    let mut given = Vec::new(rt.alloc());
-    for answer in options.answers.as_slice() {
-        match read_answer(rt, answer)? {
-            Answer::Given(answer) => given.push(answer)?,
-            Answer::Unread => {
-                rt.eprintln(format!(in rt.alloc();
-                    "procmail-explain: no answer of the form LINE=CODE[:FILE]: {answer}"
-                )?)?;
-                return Ok(Status::Usage);
-            }
-            Answer::NoFile => {
-                rt.eprintln(format!(in rt.alloc();
-                    "procmail-explain: can't read the file of {answer}"
-                )?)?;
-                return Ok(Status::NoInput);
-            }
+/// Prints what procmail would do with the mail on standard input, or with each mail of the mailbox there.
+pub fn explain(rt: &HostRuntime, options: &Options<'_>) -> Result<Status, Stopped> {
+    let words = owned(rt.alloc(), options.words.as_slice())?;
+    let line = line_of(rt, words.as_slice())?;
+    let runs = Runs {
+        given: answers_of(rt, options.answers.as_slice())?,
+        machine: Machine::new(rt)?,
+    };
+    let mails = read_mails(rt, options.is_mailbox)?;
+    let mails = mails.as_slice();
+    match options.rcfile {
+        Some(rcfile) => compare(rt, options, &runs, &line, rcfile, mails)?,
+        None if options.is_mailbox && options.quiet => {
+            let words = telling(rt.alloc(), &line)?;
+            explain_all(rt, options, &runs, words.as_slice(), mails)?;
         }
+        None => explain_all(rt, options, &runs, words.as_slice(), mails)?,
     }
-    let machine = Machine::new(rt)?;
-    let mut source = enough(RealSource::stdin(rt, rt.alloc()))?;
-    let mut journal = Journal::new(rt.alloc());
-    let words = enough(owned(rt.alloc(), options.words.as_slice()))?;
-    let base = enough(machine.base(rt))?;
-    let mut host = Overlay::new(rt.alloc(), base, given);
-    let status = procmail(
-        rt.alloc(),
-        words.as_slice(),
-        machine.env(),
-        &mut source,
-        &mut host,
-        &mut Void::new(),
-        &mut Void::new(),
-        &mut journal,
-    );
-    print(rt, options, &journal, status)
+    Ok(Status::Explained)
 }
 
-fn owned(alloc: Global, words: &[&str]) -> Result<Vec<String>, Memory> {
-    let mut owned = Vec::new(alloc);
-    for word in words {
-        owned.push(String::from_str(alloc, word)?)?;
+fn explain_all(
+    rt: &HostRuntime,
+    options: &Options<'_>,
+    runs: &Runs,
+    words: &[String],
+    mails: &[Blob],
+) -> Result<(), Stopped> {
+    let progress = Progress::new(rt, mails.len(), options.is_mailbox);
+    for (index, mail) in mails.iter().enumerate() {
+        progress.show(rt, index);
+        let text = if !options.is_mailbox {
+            one_text(rt, options, runs, words, mail)?
+        } else if options.quiet {
+            outcome_text(rt, options.format, runs, words, index as u64 + 1, mail)?
+        } else {
+            mail_text(rt, options.format, runs, words, index as u64 + 1, mail)?
+        };
+        write_out(rt, &text)?;
     }
-    Ok(owned)
-}
-
-// Want of memory as an error of input and output, as std gives it.
-fn enough<T>(made: Result<T, Memory>) -> io::Result<T> {
-    match made {
-        Ok(value) => Ok(value),
-        Err(Memory) => Err(io::Error::from(ErrorKind::OutOfMemory)),
-    }
+    progress.end(rt);
+    Ok(())
 }
 
 // A run that did nothing at all was refused before it began.
-fn print(
+fn one_text(
     rt: &HostRuntime,
     options: &Options<'_>,
-    journal: &Journal,
-    status: u8,
-) -> io::Result<Status> {
-    let alloc = rt.alloc();
-    let entries = journal.entries();
-    if entries.is_empty() {
-        rt.eprintln(format!(in alloc;
-            "procmail-explain: procmail would end with status {status} before it begins"
-        )?)?;
+    runs: &Runs,
+    words: &[String],
+    mail: &Blob,
+) -> Result<Blob, Stopped> {
+    let ran = runs.run(rt, words, mail)?;
+    if ran.journal.entries().is_empty() {
+        complain_of(rt, ran.status)?;
     }
+    Ok(text_of(rt.alloc(), options, &ran)?)
+}
+
+fn complain_of(rt: &HostRuntime, status: u8) -> Result<(), Stopped> {
+    let what = format!(in rt.alloc(); "procmail would end with status {status} before it begins")?;
+    complain(rt, what.as_str(), "")
+}
+
+fn text_of(alloc: Global, options: &Options<'_>, ran: &Ran) -> Result<Blob, Memory> {
+    let entries = ran.journal.entries();
     match options.format {
-        Format::Text => {
-            let text = enough(text(alloc, entries, status, options.quiet))?;
-            io::writer(rt).write_all(text.as_slice())?;
+        Format::Json => run_object(alloc, options.quiet, entries, ran.status),
+        Format::Text if options.quiet => {
+            let steps = steps_of(alloc, entries)?;
+            result_line(alloc, steps.as_slice(), ran.status)
         }
-        Format::Json => rt.println(json(alloc, entries, status, options.quiet)?.to_string(alloc)?)?,
+        Format::Text => steps_text(alloc, entries, ran.status),
     }
-    Ok(if entries.is_empty() && status == Status::Usage.number() {
-        Status::Usage
-    } else {
-        Status::Explained
-    })
+}
+
+// Where a mail of a mailbox goes.
+fn outcome_text(
+    rt: &HostRuntime,
+    format: Format,
+    runs: &Runs,
+    words: &[String],
+    number: u64,
+    mail: &Blob,
+) -> Result<Blob, Memory> {
+    let subject = subject_of(rt.alloc(), mail.as_slice())?;
+    let outcome = runs.outcome(rt, words, mail)?;
+    match format {
+        Format::Text => mail_line(rt.alloc(), number, &subject, &outcome),
+        Format::Json => outcome_object(rt.alloc(), number, &subject, &outcome),
+    }
+}
+
+// What is done with a mail of a mailbox.
+fn mail_text(
+    rt: &HostRuntime,
+    format: Format,
+    runs: &Runs,
+    words: &[String],
+    number: u64,
+    mail: &Blob,
+) -> Result<Blob, Memory> {
+    let subject = subject_of(rt.alloc(), mail.as_slice())?;
+    let ran = runs.run(rt, words, mail)?;
+    let entries = ran.journal.entries();
+    match format {
+        Format::Json => mail_object(rt.alloc(), number, &subject, entries, ran.status),
+        Format::Text => {
+            let mut text = mail_heading(rt.alloc(), number, &subject)?;
+            let steps = steps_text(rt.alloc(), entries, ran.status)?;
+            text.push_slice(steps.as_slice())?;
+            Ok(text)
+        }
+    }
 }

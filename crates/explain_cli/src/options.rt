@@ -17,7 +17,11 @@ pub enum Format {
 pub struct Options<'a> {
     /// The result alone is printed.
     pub quiet: bool,
+    /// Standard input is a mailbox.
+    pub is_mailbox: bool,
     pub format: Format,
+    /// The rcfile to compare with.
+    pub rcfile: Option<&'a str>,
     /// What programs answer, as `LINE=CODE[:FILE]`.
     pub answers: Vec<&'a str>,
     /// procmail's own options and arguments.
@@ -50,7 +54,9 @@ pub fn read_options<'a>(alloc: Global, words: &'a [String]) -> Parsed<'a> {
     ) {
         (Ok(answers), Ok(words)) => Parsed::Options(Options {
             quiet: matches.get_flag("quiet"),
+            is_mailbox: matches.get_flag("mailbox"),
             format: format_of(matches.get_str("format")),
+            rcfile: matches.get_str("compare"),
             answers,
             words,
         }),
@@ -85,31 +91,57 @@ fn refused<'a>(error: Error) -> Parsed<'a> {
 }
 
 fn command<'a>(alloc: Global) -> Result<Command<'a>, AllocError> {
-    let quiet = Arg::new(alloc, "quiet")
-        .short('q')
+    Command::new(alloc, "procmail-explain")
+        .version(VERSION)
+        .about("Prints what procmail would do with the mail on standard input")
+        .arg(flag(alloc, "quiet", 'q', "Print the result alone"))?
+        .arg(flag(
+            alloc,
+            "mailbox",
+            's',
+            "Standard input is a mailbox: take each mail of it",
+        ))?
+        .arg(format_option(alloc))?
+        .arg(answer_option(alloc))?
+        .arg(compare_option(alloc))?
+        .arg(word(alloc))
+}
+
+fn flag<'a>(alloc: Global, name: &'a str, letter: char, help: &'a str) -> Arg<'a> {
+    Arg::new(alloc, name)
+        .short(letter)
         .action(ArgAction::SetTrue)
-        .help("Print the result alone");
-    let format = Arg::new(alloc, "format")
+        .help(help)
+}
+
+fn format_option<'a>(alloc: Global) -> Arg<'a> {
+    Arg::new(alloc, "format")
         .long("format")
         .value_name("FORMAT")
         .value_parser(["text", "json"].as_slice())
-        .help("How it is written");
-    let answer = Arg::new(alloc, "answer")
+        .help("How it is written")
+}
+
+fn answer_option<'a>(alloc: Global) -> Arg<'a> {
+    Arg::new(alloc, "answer")
         .long("answer")
         .value_name("LINE=CODE[:FILE]")
         .action(ArgAction::Append)
-        .help("The program of this line ends with CODE, and its output is FILE");
-    let word = Arg::new(alloc, "word")
+        .help("The program of this line ends with CODE, and its output is FILE")
+}
+
+fn compare_option<'a>(alloc: Global) -> Arg<'a> {
+    Arg::new(alloc, "compare")
+        .long("compare")
+        .value_name("NEWRC")
+        .help("Print which mails go elsewhere by this rcfile")
+}
+
+fn word<'a>(alloc: Global) -> Arg<'a> {
+    Arg::new(alloc, "word")
         .value_name("WORD")
         .num_args(0..)
         .trailing_var_arg(true)
         .allow_hyphen_values(true)
-        .help("procmail's options, assignments and rcfiles");
-    Command::new(alloc, "procmail-explain")
-        .version(VERSION)
-        .about("Prints what procmail would do with the mail on standard input")
-        .arg(quiet)?
-        .arg(format)?
-        .arg(answer)?
-        .arg(word)
+        .help("procmail's options, assignments and rcfiles")
 }

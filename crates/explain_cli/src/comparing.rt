@@ -1,0 +1,85 @@
+//! The mails by two rcfiles.
+use crate::options::{Format, Options};
+use crate::output::{Progress, complain, write_out};
+use crate::running::Runs;
+use crate::status::{Status, Stopped};
+use crate::words::{telling, telling_with};
+use explain_json::comparison_object;
+use explain_mails::{Compared, comparison, subject_of};
+use pm_bytes::{Blob, Memory};
+use pm_meaning::CommandLine;
+use std::fs;
+
+/// The words of both runs.
+#[derive(Drop)]
+struct Both {
+    old: Vec<String>,
+    new: Vec<String>,
+}
+
+/// Prints which mails go elsewhere by another rcfile.
+pub fn compare(
+    rt: &HostRuntime,
+    options: &Options<'_>,
+    runs: &Runs,
+    line: &CommandLine,
+    rcfile: &str,
+    mails: &[Blob],
+) -> Result<(), Stopped> {
+    check_rcfile(rt, rcfile)?;
+    let both = Both {
+        old: telling(rt.alloc(), line)?,
+        new: telling_with(rt, line, rcfile)?,
+    };
+    let progress = Progress::new(rt, mails.len(), options.is_mailbox);
+    let compared = compare_all(rt, runs, &both, mails, progress)?;
+    progress.end(rt);
+    print(rt, options, compared.as_slice())
+}
+
+// A name that is mistyped would put all mails elsewhere.
+fn check_rcfile(rt: &HostRuntime, rcfile: &str) -> Result<(), Stopped> {
+    if fs::read(rt, rcfile).is_ok() {
+        return Ok(());
+    }
+    complain(rt, "can't read ", rcfile)?;
+    Err(Stopped(Status::NoInput))
+}
+
+fn compare_all(
+    rt: &HostRuntime,
+    runs: &Runs,
+    both: &Both,
+    mails: &[Blob],
+    progress: Progress,
+) -> Result<Vec<Compared>, Memory> {
+    let mut compared = Vec::new(rt.alloc());
+    for (index, mail) in mails.iter().enumerate() {
+        progress.show(rt, index);
+        compared.push(compare_one(rt, runs, both, index as u64 + 1, mail)?)?;
+    }
+    Ok(compared)
+}
+
+fn compare_one(
+    rt: &HostRuntime,
+    runs: &Runs,
+    both: &Both,
+    number: u64,
+    mail: &Blob,
+) -> Result<Compared, Memory> {
+    Ok(Compared {
+        number,
+        subject: subject_of(rt.alloc(), mail.as_slice())?,
+        old: runs.outcome(rt, both.old.as_slice(), mail)?,
+        new: runs.outcome(rt, both.new.as_slice(), mail)?,
+    })
+}
+
+fn print(rt: &HostRuntime, options: &Options<'_>, mails: &[Compared]) -> Result<(), Stopped> {
+    let text = match options.format {
+        Format::Text => comparison(rt.alloc(), options.quiet, mails)?,
+        Format::Json => comparison_object(rt.alloc(), options.quiet, mails)?,
+    };
+    write_out(rt, &text)
+}
