@@ -86,6 +86,7 @@ bench:
 	@bash bench/programs.sh
 	@bash bench/trial.sh
 	@bash bench/formail.sh
+	@bash bench/explain.sh
 	@bash bench/grow.sh
 
 # bench/plots/*.svg, drawn by gnuplot from the data beside them, which bench/measure.sh writes.

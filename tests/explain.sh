@@ -1,6 +1,7 @@
 #!/usr/bin/env bash
 # The built program procmail-explain: on random rcfiles and mails its entries, log lines and status are what bin/procmail
-# does in a copy of the tree, and strace sees no call that changes a file. SEED and COUNT name other runs.
+# does in a copy of the tree, and strace sees no call that changes a file. A mailbox is explained mail by mail, and of 400
+# mails and two rcfiles exactly those are named that real runs put elsewhere. SEED and COUNT name other runs.
 set -eu
 . "$(dirname "$0")/common.bash"
 explain=$programs/procmail-explain
@@ -149,4 +150,161 @@ ends 66 --answer x=0:none -m rc
 ends 64 -x
 ends 0 --version
 [ "$(cat out)" = "procmail-explain $(cat "$top/VERSION")" ] || fail "--version: $(cat out)"
+# A mailbox: each mail is explained as it is alone, whatever the mails before it changed in their runs.
+rm -rf shown
+cp -r before shown
+cat > shown/rc << 'END'
+LOGFILE=log
+:0 c
+box
+INCLUDERC=box
+:0
+* ^Subject: two
+old
+:0
+| taker
+END
+for subject in one two one; do
+    printf 'From ann@example.org  Thu Jan  1 00:00:00 1970\nSubject: %s\n\nX\n\nY\n\n' "$subject"
+done > mailbox
+"$programs/formail" -s sh -c 'cat > piece.$FILENO' < mailbox
+mails=(piece.*)
+[ ${#mails[@]} -eq 3 ] || fail "formail -s splits the mailbox into ${#mails[@]} mails"
+number=0
+for mail in "${mails[@]}"; do
+    number=$((number + 1))
+    echo "mail $number: $(grep -m 1 '^Subject:' "$mail")"
+    (cd shown && "$explain" -m rc < "../$mail")
+done > alone
+(cd shown && "$explain" -s -m rc < ../mailbox) > together
+cmp -s alone together || fail "-s: $(diff alone together)"
+[ ! -e shown/box ] || fail "-s made a mailbox"
+(cd shown && "$explain" -s --format json -m rc < ../mailbox) | python3 -c '
+import json, sys
+told = [json.loads(line) for line in sys.stdin]
+assert [(one["mail"], one["subject"], one["delivered_to"]) for one in told] == [
+    (1, "one", "taker"), (2, "two", "old"), (3, "one", "taker")], told
+assert [[step["bytes"] for step in one["steps"] if step["name"] == "box"] for one in told] == [[67, 67]] * 3, told'
+[ -z "$("$explain" -s -q -m shown/rc < /dev/null)" ] || fail "-s of no mail says something"
+
+# The rows of the manual page.
+cat > page.rc << 'END'
+:0:
+* ^Subject: one
+important
+:0:
+rest
+END
+printf ':0:\n* ^Subject:.*bug\nbugs\n' | cat - page.rc > new.rc
+{
+    printf 'From ann@example.org  Thu Jan  1 00:00:00 1970\nSubject: one\n\nx\n\n'
+    printf 'From ann@example.org  Thu Jan  1 00:00:00 1970\nSubject: [bug] crash\n\nx\n\n'
+    printf 'From ann@example.org  Thu Jan  1 00:00:00 1970\n\nx\n'
+} > last-week
+# on_page ARGUMENT ..: what the example of these arguments prints, as it is in the manual page.
+on_page() {
+    sed -n '/^\.Sh EXAMPLES/,/^\.Sh DIAGNOSTICS/p' "$top/man/procmail-explain.1" | sed 's/\\-/-/g' |
+        awk -v line="\$ procmail-explain $* -m ./rc < last-week" '$0 == line { shown = 1; next } /^\.Ed/ { shown = 0 } shown'
+}
+"$explain" -s -q -m ./page.rc < last-week > lines
+on_page -s -q | cmp -s - lines && [ -s lines ] || fail "-s -q isn't what the page shows: $(cat lines)"
+"$explain" -s --compare new.rc -m ./page.rc < last-week > lines
+on_page -s --compare new.rc | cmp -s - lines && [ -s lines ] || fail "--compare isn't what the page shows: $(cat lines)"
+"$explain" -s -q --compare new.rc -m ./page.rc < last-week > lines
+[ "$(cat lines)" = '1 of 3 mails goes elsewhere.' ] || fail "-q --compare: $(cat lines)"
+printf 'Subject: a bug\n\n' | "$explain" --compare new.rc -m ./page.rc > lines
+printf '1 of 1 mails goes elsewhere:\n     1  Subject: a bug                            rest -> bugs\n' | cmp -s - lines ||
+    fail "--compare of one mail: $(cat lines)"
+"$explain" -s --format json --compare new.rc -m ./page.rc < last-week | python3 -c '
+import json, sys
+assert json.load(sys.stdin) == {"mails": 3, "elsewhere": 1, "moves": [{"mail": 2, "subject": "[bug] crash",
+    "old": {"destinations": ["rest"], "status": 0}, "new": {"destinations": ["bugs"], "status": 0}}]}'
+ends 66 --compare none.rc -m ./page.rc
+[ "$(cat said)" = "procmail-explain: can't read none.rc" ] || fail "an rcfile that isn't there: $(cat said)"
+
+# 400 mails by two rcfiles of 50 recipes: exactly the mails are named that two real runs put elsewhere, and each mail's
+# destinations are where the real runs put it. Each real run begins with an empty tree. Programs and SENDMAIL note that
+# they got a mail; those of conditions note nothing.
+mkdir tools
+printf '#!/bin/sh\ncat > /dev/null\necho >> "ran.$1"\n' > tools/taker
+printf '#!/bin/sh\ncat > /dev/null\necho >> "sent.$*"\n' > tools/sender
+printf '#!/bin/sh\ncat > /dev/null\nexit 0\n' > tools/asked
+chmod +x tools/*
+cat > make.py << 'END'
+import random, sys
+pick = random.Random(int(sys.argv[1]))
+words = ["one", "two", "list", "bug", "deadline", "offer", "news", "report", "lunch", "fix"]
+people = ["ann", "bob", "eve", "joe", "kim"]
+head = "PATH=%s/tools:/bin:/usr/bin\nSENDMAIL=sender\nSHELL=/bin/sh\nLOGFILE=log\nDEFAULT=default\nORGMAIL=default\n" % sys.argv[2]
+
+def condition():
+    return "* " + pick.choice([
+        "^Subject:.*\\<%s" % pick.choice(words), "^From:.*%s" % pick.choice(people), "! ^Subject:.*%s" % pick.choice(words),
+        "B ?? %s" % pick.choice(words), "? asked", "> %d" % pick.randrange(100, 400), "^TO_%s" % pick.choice(people)])
+
+def recipe(number):
+    action = pick.choice(["box%d" % number, "box%d" % number, "md%d/" % number, "| taker %d" % number,
+        "!%s%d@example.org" % (pick.choice(people), number), "/dev/null", "{ EXITCODE=%d }" % pick.randrange(1, 99)])
+    flags = pick.choice(["", "", "c"]) if not action.startswith("{") else ""
+    conditions = [condition() for _ in range(pick.randrange(3, 5))]
+    return "\n".join([":0 " + flags + (":" if action.startswith("box") else "")] + conditions + [action]) + "\n"
+
+recipes = [recipe(number) for number in range(50)]
+other = [recipe(100 + n) if pick.random() < 0.15 else one for n, one in enumerate(recipes)]
+open("old.rc", "w").write(head + "".join(recipes))
+open("other.rc", "w").write(head + "".join(other))
+with open("mails", "w") as out:
+    for _ in range(400):
+        out.write("From %s@example.org  Thu Jan  1 00:00:00 1970\nFrom: %s@example.org\nTo: %s@example.org\n" % (
+            pick.choice(people), pick.choice(people), pick.choice(people)))
+        out.write("Subject: %s %s\n\n" % (pick.choice(words), pick.choice(words)))
+        for _ in range(pick.randrange(1, 12)):
+            out.write(" ".join(pick.choice(words + ["and", "the"]) for _ in range(6)) + "\n")
+        out.write("\n")
+END
+cat > real.py << 'END'
+import collections, json, os, shutil, subprocess, sys
+program, explain, formail = sys.argv[1:4]
+os.mkdir("cut")
+subprocess.run([formail, "-s", "sh", "-c", "cat > cut/$FILENO"], stdin=open("mails"), check=True)
+names = sorted(os.listdir("cut"), key=int)
+assert len(names) == 400, len(names)
+
+def real(rcfile, name):
+    shutil.rmtree("tree", ignore_errors=True)
+    os.mkdir("tree")
+    shutil.copy(rcfile, "tree/rc")
+    status = subprocess.run([program, "-m", "rc"], stdin=open("cut/" + name), cwd="tree", stderr=subprocess.DEVNULL).returncode
+    found = collections.Counter()
+    for place in os.listdir("tree"):
+        if place in ("rc", "log"):
+            continue
+        if place.startswith("md"):
+            found[place] = len(os.listdir("tree/%s/new" % place))
+        elif place.startswith("ran."):
+            found["| taker " + place[4:]] = os.path.getsize("tree/" + place)
+        elif place.startswith("sent."):
+            found["forward " + place[5:].removeprefix("-oi ")] = os.path.getsize("tree/" + place)
+        else:
+            found[place] = sum(line.startswith(b"From ") for line in open("tree/" + place, "rb"))
+    return found, status
+
+def told(rcfile):
+    out = subprocess.run([explain, "-s", "-q", "--format", "json", "-m", rcfile], stdin=open("mails"), capture_output=True, check=True)
+    ones = [json.loads(line) for line in out.stdout.splitlines()]
+    return [(collections.Counter(name for name in one["destinations"] if name != "/dev/null"), one["status"]) for one in ones]
+
+olds, news = [[real(rcfile, name) for name in names] for rcfile in ("old.rc", "other.rc")]
+for rcfile, reals in (("old.rc", olds), ("other.rc", news)):
+    for number, (one, other) in enumerate(zip(reals, told(rcfile)), 1):
+        assert one == other, "%s, mail %d: procmail %s, told %s" % (rcfile, number, one, other)
+moved = [number for number, (old, new) in enumerate(zip(olds, news), 1) if old != new]
+out = subprocess.run([explain, "-s", "--compare", "other.rc", "-m", "old.rc"], stdin=open("mails"), capture_output=True, check=True)
+lines = out.stdout.decode().splitlines()
+assert lines[0].startswith("%d of 400 mails go" % len(moved)), lines[0]
+assert [int(line[:6]) for line in lines[1:]] == moved, (moved, lines)
+assert 0 < len(moved) < 400, "the rcfiles are no test: %d mails go elsewhere" % len(moved)
+END
+python3 make.py "${SEED:-3}" "$folder"
+python3 real.py "$program" "$explain" "$programs/formail" || fail "400 mails by two rcfiles (SEED=${SEED:-3})"
 echo "$name: passed"
