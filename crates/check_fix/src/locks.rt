@@ -1,7 +1,8 @@
 //! The lock of a cache by LOCKFILE that is brought over.
 ghost use Rattle.std.specs.Prelude.{◌≡◌, ◌++◌, ◌||◌, IfOk, OnOk, nat_eq};
 ghost use Rattle.check_fix.specs.Locks.{without_end, cache_of as cache_in, without_braces as braceless};
-ghost use Rattle.check_fix.specs.Locks.{calls_cache as cache_called, uses_cache as cache_used, cache_follows as follows, locks_cache as locks};
+ghost use Rattle.check_fix.specs.Locks.{calls_cache as cache_called, uses_cache as cache_used};
+ghost use Rattle.check_fix.specs.Locks.{cache_follows as follows, locks_cache as locks};
 ghost use Rattle.check_fix.specs.Locks.{held_edits};
 
 use crate::edits::{Edit, put};

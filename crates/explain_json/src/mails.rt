@@ -2,7 +2,8 @@
 ghost use Rattle.std.specs.Prelude.{◌≡◌, IfOk, OnOk, codes, flat_map, count_by};
 ghost use Rattle.explain_mails.specs.Compared.{goes_elsewhere as goes};
 ghost use Rattle.explain_json.specs.Members.{Adds, number_member};
-ghost use Rattle.explain_json.specs.Objects.{mail_object, outcome_object, comparison_object, mail_members, outcome_members, outcome_member, count_members};
+ghost use Rattle.explain_json.specs.Objects.{mail_object, outcome_object, comparison_object, mail_members};
+ghost use Rattle.explain_json.specs.Objects.{outcome_members, outcome_member, count_members};
 ghost use Rattle.explain_json.specs.Objects.{moves_member, listed_tokens, move_tokens};
 
 use crate::members::{put_maybe_member, put_number_member, put_texts_member};
@@ -48,8 +49,8 @@ pub fn outcome_object(
     line_of(writer)
 }
 
-/// `mails` and `elsewhere`, which are counts, and `moves`, with `mail`, `subject`, `old` and `new` for each mail that goes
-/// elsewhere; with `quiet` without `moves`.
+/// `mails` and `elsewhere`, which are counts, and `moves`, with `mail`, `subject`, `old` and `new` for each mail that
+/// goes elsewhere; with `quiet` without `moves`.
 pub fn comparison_object(alloc: Global, quiet: bool, mails: &[Compared]) -> Result<Blob, Memory>
     ensures { IfOk result (λ text. text ≡ comparison_object quiet mails.now) }
 {

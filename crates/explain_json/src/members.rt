@@ -1,6 +1,7 @@
 //! Members of objects. Bytes that are no UTF-8 are written as U+FFFD.
 ghost use Rattle.std.specs.Prelude.{OnOk, ◌∷◌, [], map, option_copied};
-ghost use Rattle.explain_json.specs.Members.{Adds, text_token, text_member, maybe_member, number_member, truth_member, texts_member};
+ghost use Rattle.explain_json.specs.Members.{Adds, text_token, text_member, maybe_member, number_member, truth_member};
+ghost use Rattle.explain_json.specs.Members.{texts_member};
 
 use bstr::ByteSlice;
 use json::Writer;

@@ -4,7 +4,8 @@ ghost use Rattle.json.specs.Print.{print};
 ghost use Rattle.explain_text.specs.Steps.{steps_of};
 ghost use Rattle.explain_text.specs.Lines.{delivered_to};
 ghost use Rattle.explain_json.specs.Members.{Adds};
-ghost use Rattle.explain_json.specs.Objects.{run_object, run_members, steps_member, step_tokens, what_members, how_members, act_member, act_of};
+ghost use Rattle.explain_json.specs.Objects.{run_object, run_members, steps_member, step_tokens, what_members};
+ghost use Rattle.explain_json.specs.Objects.{how_members, act_member, act_of};
 
 use crate::members::{put_maybe_member, put_number_member, put_text_member, put_truth_member};
 use explain_text::{Kind, Step, delivered_to, steps_of};

@@ -19,8 +19,9 @@ pub fn words_of(alloc: Global, line: &CommandLine) -> Result<Vec<Blob>, Memory>
     Ok(words)
 }
 
-/// As `words_of`: words that ask for what the command line asks for, with this rcfile in the place of the last one, or of the user's
-/// own where none is named. `folder` is the full name of the current folder. Both runs begin in the same folder.
+/// As `words_of`: words that ask for what the command line asks for, with this rcfile in the place of the last one, or
+/// of the user's own where none is named. `folder` is the full name of the current folder. Both runs begin in the same
+/// folder.
 pub fn words_with(
     alloc: Global,
     line: &CommandLine,

@@ -1,11 +1,14 @@
-//! Where a run delivered the mail to, copies among it, as its journal tells. That a program got the mail as a delivery, and
-//! wasn't asked by a condition, is seen by what comes after it: the abstract in the log, or a new LASTFOLDER.
+//! Where a run delivered the mail to, copies among it, as its journal tells. That a program got the mail as a delivery,
+//! and wasn't asked by a condition, is seen by what comes after it: the abstract in the log, or a new LASTFOLDER.
 ghost use Rattle.std.specs.Prelude.{◌≡◌, ◌++◌, IfOk, OnOk, option_copied, option_map, codes};
 ghost use Rattle.bstr.specs.Text.{lines_of, without_terminator};
 ghost use Rattle.pm_overlay.specs.Given.{line_of, spaced};
-ghost use Rattle.explain_text.specs.Destinations.{destinations_of, delivered_in, destination_at, added, is_discarded, last_found};
-ghost use Rattle.explain_text.specs.Destinations.{appended_to, placed_in, written_out, ran, delivered_by, forwarded_to, addresses_in, sendmail_front};
-ghost use Rattle.explain_text.specs.Destinations.{tells_delivery, told_by, not_if_done, not_if_placed, not_if_written, is_other_folder, folder_told, folder_among, is_new};
+ghost use Rattle.explain_text.specs.Destinations.{destinations_of, delivered_in, destination_at, added, is_discarded};
+ghost use Rattle.explain_text.specs.Destinations.{last_found};
+ghost use Rattle.explain_text.specs.Destinations.{appended_to, placed_in, written_out, ran, delivered_by, forwarded_to};
+ghost use Rattle.explain_text.specs.Destinations.{addresses_in, sendmail_front};
+ghost use Rattle.explain_text.specs.Destinations.{tells_delivery, told_by, not_if_done, not_if_placed, not_if_written};
+ghost use Rattle.explain_text.specs.Destinations.{is_other_folder, folder_told, folder_among, is_new};
 ghost use Rattle.explain_text.specs.Destinations.{value_in, last_program, found_by};
 
 use bstr::ByteSlice;
@@ -32,9 +35,9 @@ pub enum Destination {
 }
 
 /// All destinations, in order. A program counts where what comes after it tells so: an abstract in the log, or another
-/// program that finds a new LASTFOLDER; SENDMAIL with an address counts where it ended with 0 as well. `/dev/null` counts
-/// where the last program finds it in LASTFOLDER. So a run that is to be read whole has a program at its end, by TRAP
-/// (procmailrc(5)).
+/// program that finds a new LASTFOLDER; SENDMAIL with an address counts where it ended with 0 as well. `/dev/null`
+/// counts where the last program finds it in LASTFOLDER. So a run that is to be read whole has a program at its end, by
+/// TRAP (procmailrc(5)).
 pub fn destinations_of(alloc: Global, entries: &[Entry]) -> Result<Vec<Destination>, Memory>
     ensures { IfOk result (λ made. made.items ≡ destinations_of entries.now) }
 {

@@ -56,7 +56,8 @@ fn push_after(alloc: Global, line: &mut Blob, step: &Step) -> Result<(), Memory>
 }
 
 fn push_ending(line: &mut Blob, bytes: u64, code: u8, end: &[u8]) -> Result<(), Memory>
-    ensures { OnOk result (line.new ≡ line.old ++ (codes " < " ++ decimal bytes ++ codes " bytes: " ++ decimal code ++ end.now)) }
+    ensures { OnOk result (line.new ≡ line.old
+        ++ (codes " < " ++ decimal bytes ++ codes " bytes: " ++ decimal code ++ end.now)) }
 {
     push_amount(line, b" < ", bytes, b" bytes: ")?;
     push_amount(line, b"", code as u64, end)

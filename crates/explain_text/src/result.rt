@@ -1,6 +1,7 @@
 //! All lines of a run, and where the mail went.
 ghost use Rattle.std.specs.Prelude.{◌≡◌, ◌++◌, IfOk, OnOk, Some, option_copied};
-ghost use Rattle.explain_text.specs.Lines.{step_lines, can_deliver, delivers, delivered_to, where_to, ending_line, result_line, explained};
+ghost use Rattle.explain_text.specs.Lines.{step_lines, can_deliver, delivers, delivered_to, where_to, ending_line};
+ghost use Rattle.explain_text.specs.Lines.{result_line, explained};
 ghost use Rattle.explain_text.specs.Steps.{steps_of};
 
 use crate::line::{push_amount, push_quoted};

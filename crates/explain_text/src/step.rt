@@ -28,8 +28,8 @@ pub enum Kind {
     Write,
 }
 
-/// One step of a run. `name` is that of the file, the line of the program, or `standard output`; of a log text that goes to
-/// standard error it is the text.
+/// One step of a run. `name` is that of the file, the line of the program, or `standard output`; of a log text that
+/// goes to standard error it is the text.
 #[derive(Drop)]
 pub struct Step {
     pub kind: Kind,
