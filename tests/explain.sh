@@ -167,7 +167,7 @@ END
 for subject in one two one; do
     printf 'From ann@example.org  Thu Jan  1 00:00:00 1970\nSubject: %s\n\nX\n\nY\n\n' "$subject"
 done > mailbox
-"$programs/formail" -s sh -c 'cat > piece.$FILENO' < mailbox
+"$programs/formail" -s sh -c 'cat > "piece.$(printf %03d "$(ls | grep -c "^piece")")"' < mailbox
 mails=(piece.*)
 [ ${#mails[@]} -eq 3 ] || fail "formail -s splits the mailbox into ${#mails[@]} mails"
 number=0
@@ -266,7 +266,7 @@ cat > real.py << 'END'
 import collections, json, os, shutil, subprocess, sys
 program, explain, formail = sys.argv[1:4]
 os.mkdir("cut")
-subprocess.run([formail, "-s", "sh", "-c", "cat > cut/$FILENO"], stdin=open("mails"), check=True)
+subprocess.run([formail, "-s", "sh", "-c", "cat > cut/$(printf %03d $(ls cut | wc -l))"], stdin=open("mails"), check=True)
 names = sorted(os.listdir("cut"), key=int)
 assert len(names) == 400, len(names)
 
