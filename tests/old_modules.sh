@@ -1,8 +1,8 @@
 #!/usr/bin/env bash
 # Old rcfiles do here what they do under procmail 3.22, once procmail-check --fix has brought them over: each of the 73
 # modules of Debian's procmail-lib is included by an rcfile, with five mails. What it leaves is compared: the mailboxes and
-# other files, the mail after the module, and the variables. tests/moving/old_modules names the modules that differ, each
-# with its reason; at least 60 do the same, and none waits for ever.
+# other files, the mail after the module, and the variables. tests/moving/old_modules names the modules that differ, with
+# what is known of the reasons; at least 60 do the same, and none waits for ever.
 #
 # The modules are in /usr/share/procmail-lib, or in the directory PROCMAIL_LIB. MODULES names those that are tried.
 set -eu
