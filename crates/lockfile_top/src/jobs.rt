@@ -2,7 +2,7 @@
 //! that was made.
 ghost use Rattle.std.specs.Prelude.{◌≡◌, ◌++◌, ◌+◌, ◌*◌, map, codes, IfOk};
 ghost use Rattle.lockfile_top.specs.Jobs.{AllFit, IsReadyFor};
-ghost use Rattle.lockfile_top.specs.Doing.{name_of as its_name};
+ghost use Rattle.lockfile_top.specs.Doing;
 ghost use Rattle.lockfile_top.specs.Jobs.{job_for};
 
 use crate::{Task, Tasks};
@@ -85,7 +85,7 @@ fn make_job(alloc: Global, task: Task) -> Result<Job, Memory>
 
 // The name that the task is about.
 fn name_of(task: &Task) -> &Name
-    ensures { result.now ≡ its_name task.now }
+    ensures { result.now ≡ Doing.name_of task.now }
 {
     match task {
         Task::Take { name, .. } | Task::Give { name } => name,

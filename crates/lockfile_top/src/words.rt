@@ -2,10 +2,10 @@
 ghost use Rattle.std.specs.Prelude.{◌≡◌, ◌≤◌, IfOk, IfSome, option_map, option_and_then};
 ghost use Rattle.pm_bytes.specs.Name.{has_zero};
 ghost use Rattle.pm_bytes.specs.Number.{number_of};
-ghost use Rattle.lockfile_top.specs.Words.{first_rule, seconds_of as seconds_in, tries_for, with_value};
-ghost use Rattle.lockfile_top.specs.Words.{changed as word_for, setting_of as setting_by, value_word as word_with};
-ghost use Rattle.lockfile_top.specs.Words.{setting_word as word_behind, is_lock_name, word_of as what_says};
-ghost use Rattle.lockfile_top.specs.Words.{mailbox_lock as lock_of_mailbox, tasks_in, is_inverted, line_of};
+ghost use Rattle.lockfile_top.specs.Words.{first_rule, tries_for, with_value};
+ghost use Rattle.lockfile_top.specs.Words;
+ghost use Rattle.lockfile_top.specs.Words.{is_lock_name};
+ghost use Rattle.lockfile_top.specs.Words.{tasks_in, is_inverted, line_of};
 ghost use Rattle.lockfile_top.specs.Words.{command_line, all_bytes, ReadsOn, NamesLock, IsNoName};
 ghost use Rattle.lockfile_top.specs.Jobs.{IsFit, AllFit, KeepsFit};
 
@@ -83,7 +83,7 @@ fn read_tasks(
     words: &[String],
 ) -> Result<Option<VecDeque<Task>>, Memory>
     ensures tasks { IfOk result (λ found. option_map (λ tasks. tasks.items) found
-        ≡ tasks_in (lock_of_mailbox env.now) first_rule None (all_bytes words.now)) }
+        ≡ tasks_in (Words.mailbox_lock env.now) first_rule None (all_bytes words.now)) }
     ensures fit { IfOk result (λ found. IfSome found (λ tasks. AllFit tasks.items)) }
 {
     let mut reading = Reading {
@@ -116,7 +116,7 @@ fn read_word(
 ) -> Result<bool, Memory>
     requires rule { IsFit reading.old.rule }
     requires tasks { AllFit reading.old.tasks.items }
-    ensures reads { IfOk result (λ is_read. ReadsOn (lock_of_mailbox env.now) word.now is_read
+    ensures reads { IfOk result (λ is_read. ReadsOn (Words.mailbox_lock env.now) word.now is_read
         reading.old.rule reading.old.waiting reading.old.tasks.items
         reading.new.rule reading.new.waiting reading.new.tasks.items) }
     ensures rule { IsFit reading.new.rule }
@@ -161,7 +161,7 @@ fn read_word(
 
 // What a word says, where these are the settings.
 fn word_of(rule: LockRule, word: &str) -> Word
-    ensures says { result ≡ what_says rule word.now }
+    ensures says { result ≡ Words.word_of rule word.now }
     ensures name { NamesLock result word.now }
     ensures fit { KeepsFit rule result }
 {
@@ -189,7 +189,7 @@ fn can_name_lock(word: &str) -> bool
 
 // A word that begins with `-`, without it.
 fn setting_word(rule: LockRule, text: &[u8]) -> Word
-    ensures says { result ≡ word_behind rule text.now }
+    ensures says { result ≡ Words.setting_word rule text.now }
     ensures name { IsNoName result }
     ensures fit { KeepsFit rule result }
 {
@@ -203,7 +203,7 @@ fn setting_word(rule: LockRule, text: &[u8]) -> Word
 }
 
 fn setting_of(letter: u8) -> Option<Setting>
-    ensures { result ≡ setting_by letter }
+    ensures { result ≡ Words.setting_of letter }
 {
     match letter {
         b'r' => Some(Setting::Retries),
@@ -214,7 +214,7 @@ fn setting_of(letter: u8) -> Option<Setting>
 }
 
 fn value_word(setting: Setting, rule: LockRule, value: &[u8]) -> Word
-    ensures says { result ≡ word_with setting rule value.now }
+    ensures says { result ≡ Words.value_word setting rule value.now }
     ensures name { IsNoName result }
     ensures fit { KeepsFit rule result }
 {
@@ -226,7 +226,7 @@ fn value_word(setting: Setting, rule: LockRule, value: &[u8]) -> Word
 }
 
 fn changed(rule: Option<LockRule>) -> Word
-    ensures says { result ≡ word_for rule }
+    ensures says { result ≡ Words.changed rule }
     ensures name { IsNoName result }
 {
     match rule {
@@ -261,7 +261,7 @@ fn change(setting: Setting, text: &[u8], rule: LockRule) -> Option<LockRule>
 }
 
 fn seconds_of(text: &[u8]) -> Option<u64>
-    ensures { result ≡ seconds_in text.now }
+    ensures { result ≡ Words.seconds_of text.now }
 {
     if text.len() > 9 {
         return None;
@@ -286,7 +286,7 @@ fn tries_of(text: &[u8]) -> Option<u32>
 
 // The lock file of the system mailbox.
 fn mailbox_lock(alloc: Global, env: &Environ) -> Result<Name, Memory>
-    ensures { IfOk result (λ name. name ≡ lock_of_mailbox env.now) }
+    ensures { IfOk result (λ name. name ≡ Words.mailbox_lock env.now) }
 {
     let mut text = String::from_str(alloc, "/var/mail/")?;
     text.push_str(login(env))?;

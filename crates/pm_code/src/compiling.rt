@@ -1,9 +1,10 @@
 //! The code of an rcfile's statements.
-ghost use Rattle.std.specs.Prelude.{◌≡◌, ◌++◌, ◌<◌, [], ◌∷◌, IfOk, OnOk, length, slice_set as set};
+ghost use Rattle.std.specs.Prelude.{◌≡◌, ◌++◌, ◌<◌, [], ◌∷◌, IfOk, OnOk, length, slice_set};
 ghost use Rattle.pm_recipe.specs.View.{tree_of, act_of, top_of};
 ghost use Rattle.pm_code.specs.Between.{IsBetween};
 ghost use Rattle.pm_code.specs.Flat.{flats_of, written, written_one, written_recipe, Does, Enters, Leaves};
-ghost use Rattle.pm_recipe.specs.Tree.{Assign, Unset, Defect, Recipe as Recipes};
+ghost use Rattle.pm_recipe.specs.Tree.{Assign, Unset, Defect};
+ghost use Rattle.pm_recipe.specs.Tree;
 
 use crate::code::Code;
 use crate::steps::Step;
@@ -96,7 +97,7 @@ fn put_defect(alloc: Global, line: u64, text: &Blob, steps: &mut Vec<Step>) -> R
 
 fn put_plain(alloc: Global, recipe: &Recipe, steps: &mut Vec<Step>) -> Result<(), Memory>
     ensures { OnOk result (flats_of steps.new.items ≡ flats_of steps.old.items
-        ++ Does (Recipes (top_of recipe.now) (act_of recipe.now.action)) ∷ []) }
+        ++ Does (Tree.Recipe (top_of recipe.now) (act_of recipe.now.action)) ∷ []) }
 {
     let recipe = recipe.copy(alloc)?;
     steps.push(Step::Plain(recipe))?;
@@ -121,7 +122,8 @@ fn end_block(
 ) -> Result<(), Memory>
     requires { enter < length steps.old.items }
     ensures { OnOk result (flats_of steps.new.items
-        ≡ set (flats_of steps.old.items) enter (Enters (top_of recipe.now) (length steps.old.items)) ++ Leaves enter ∷ []) }
+        ≡ slice_set (flats_of steps.old.items) enter (Enters (top_of recipe.now) (length steps.old.items))
+            ++ Leaves enter ∷ []) }
 {
     let head = recipe.copy_head(alloc, Action::Block(Statements::new(alloc)))?;
     let end = steps.len();
@@ -133,7 +135,7 @@ fn end_block(
 // Puts the beginning of a block at its place.
 fn put_enter(steps: &mut Vec<Step>, enter: usize, recipe: Recipe, end: usize)
     requires { enter < length steps.old.items }
-    ensures { flats_of steps.new.items ≡ set (flats_of steps.old.items) enter (Enters (top_of recipe) end) }
+    ensures { flats_of steps.new.items ≡ slice_set (flats_of steps.old.items) enter (Enters (top_of recipe) end) }
 {
     let step = Step::Enter { recipe, end };
     let _ = mem::replace(&mut steps[enter], step);

@@ -3,8 +3,9 @@ ghost use Rattle.std.specs.Prelude.{◌≡◌};
 ghost use Rattle.pm_journal.specs.Executed.{Carries};
 ghost use Rattle.pm_journal.specs.Held.{Keeping};
 ghost use Rattle.pm_meaning.specs.Leads.{asking_of};
-ghost use Rattle.pm_meaning.specs.Judging.{judge as judged, judged_with, comes_of, comes_within, come_with};
-ghost use Rattle.pm_meaning.specs.Judging.{tested, ask_line as line_asked, ask_program as program_asked};
+ghost use Rattle.pm_meaning.specs.Judging.{judged_with, comes_of, comes_within, come_with};
+ghost use Rattle.pm_meaning.specs.Judging;
+ghost use Rattle.pm_meaning.specs.Judging.{tested};
 ghost use Rattle.pm_meaning.specs.Minds.{mind_of};
 
 use crate::judging::{exited, has_weight, judge_one, question_of, test};
@@ -37,7 +38,7 @@ pub fn judge<D: Asks>(
     journal: &mut Journal,
 ) -> Result<Judgement, Memory>
     requires keeping { Keeping journal.old process.old.locks.names }
-    ensures carries { Carries (judged conditions.now flags (mind_of process.old))
+    ensures carries { Carries (Judging.judge conditions.now flags (mind_of process.old))
         (λ verdict. judged_with verdict (mind_of process.new)) result
         journal.old journal.new (D.told outside.old) (D.told outside.new) }
     ensures keeping { Keeping journal.new process.new.locks.names }
@@ -176,7 +177,7 @@ fn ask_line<D: Asks>(
     journal: &mut Journal,
 ) -> Result<Outcome, Memory>
     requires keeping { Keeping journal.old process.old.locks.names }
-    ensures carries { Carries (line_asked line.now flags question.now (mind_of process.old))
+    ensures carries { Carries (Judging.ask_line line.now flags question.now (mind_of process.old))
         (λ outcome. come_with outcome (mind_of process.new)) result
         journal.old journal.new (D.told outside.old) (D.told outside.new) }
     ensures keeping { Keeping journal.new process.new.locks.names }
@@ -205,7 +206,7 @@ fn ask_program<D: Asks>(
     journal: &mut Journal,
 ) -> Result<Outcome, Memory>
     requires keeping { Keeping journal.old process.old.locks.names }
-    ensures carries { Carries (program_asked command line.now flags question.now (mind_of process.old))
+    ensures carries { Carries (Judging.ask_program command line.now flags question.now (mind_of process.old))
         (λ outcome. come_with outcome (mind_of process.new)) result
         journal.old journal.new (D.told outside.old) (D.told outside.new) }
     ensures keeping { Keeping journal.new process.new.locks.names }

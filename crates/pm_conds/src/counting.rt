@@ -3,7 +3,8 @@ ghost use Rattle.std.specs.Prelude.{◌≡◌, IfOk, IfSome, not, max};
 ghost use Rattle.pm_regex.proofs.FoundOrNot.{found_of};
 ghost use Rattle.pm_regex.proofs.CountOf.{count_of};
 ghost use Rattle.pm_meaning.specs.Searching.{IsWithin, match_in};
-ghost use Rattle.pm_meaning.specs.Weighing.{counted_outcome as outcome, count_in, match_bytes};
+ghost use Rattle.pm_meaning.specs.Weighing.{count_in, match_bytes};
+ghost use Rattle.pm_meaning.specs.Weighing;
 
 use crate::searching::matched;
 use pm_bytes::{Blob, Memory};
@@ -52,7 +53,8 @@ fn counted_outcome(
     matches: Matches,
 ) -> Result<Outcome, Memory>
     requires { IfSome matches.found (IsWithin area.now) }
-    ensures { IfOk result (λ come. come ≡ outcome weight inverted area.now matches.found matches.count) }
+    ensures { IfOk result (λ come. come
+        ≡ Weighing.counted_outcome weight inverted area.now matches.found matches.count) }
 {
     let Matches { found, count } = matches;
     let (matches, bytes) = match found {
@@ -76,7 +78,7 @@ pub fn count_area(
     expr: Expr,
     area: &[u8],
 ) -> Result<Outcome, Memory>
-    ensures { IfOk result (λ come. come ≡ outcome weight inverted area.now
+    ensures { IfOk result (λ come. come ≡ Weighing.counted_outcome weight inverted area.now
         (match_in distinguish expr area.now) (count_in distinguish expr area.now)) }
 {
     let matches = matches_in(alloc, expr, !distinguish, area)?;

@@ -3,7 +3,8 @@ ghost use Rattle.std.specs.Prelude.{◌≡◌, IfOk, pos, neg_ℤ, ◌≤ℤ◌}
 ghost use Rattle.std.specs.List.{list_any};
 ghost use Rattle.pm_meaning.specs.Leads.{asking_of};
 ghost use Rattle.pm_meaning.specs.Searching.{sight_of};
-ghost use Rattle.pm_meaning.specs.Evaluating.{test_outcome, exited as outcome_of_exit, question_by};
+ghost use Rattle.pm_meaning.specs.Evaluating.{test_outcome, question_by};
+ghost use Rattle.pm_meaning.specs.Evaluating;
 ghost use Rattle.pm_meaning.specs.Evaluating.{judged_one, course_of, is_weighted};
 
 use crate::scoring::{end_at, set_match};
@@ -61,7 +62,7 @@ pub fn test(
 
 /// What comes of a program that ended with this code.
 pub fn exited(question: &Question, code: u8) -> Outcome
-    ensures { result ≡ outcome_of_exit question.now code }
+    ensures { result ≡ Evaluating.exited question.now code }
 {
     match question.weight {
         None => outcome_if((code == 0) != question.inverted),

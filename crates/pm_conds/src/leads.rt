@@ -1,8 +1,9 @@
 //! What stands before the test of a condition: `!`, and names with `??`.
 ghost use Rattle.std.specs.Prelude.{◌≡◌, ◌<◌, ◌≤◌, IfOk, IfSome, length, position, Some, None};
 ghost use Rattle.std.specs.List.{position_or_len};
-ghost use Rattle.pm_meaning.specs.Leads.{is_no_blank, behind_blanks, ends_name, begins_name as name_begins};
-ghost use Rattle.pm_meaning.specs.Leads.{name_length as length_of_name, is_named, behind_name, scope_of as scope_named};
+ghost use Rattle.pm_meaning.specs.Leads.{is_no_blank, behind_blanks, ends_name};
+ghost use Rattle.pm_meaning.specs.Leads;
+ghost use Rattle.pm_meaning.specs.Leads.{is_named, behind_name};
 ghost use Rattle.pm_meaning.specs.Leads.{Asking, next_asking, asked, asking_of};
 
 use pm_bytes::{Blob, Memory, begins_name, continues_name};
@@ -28,7 +29,7 @@ fn name_stop(text: &[u8]) -> usize
 
 /// Whether a name can begin here.
 fn has_name(text: &[u8]) -> bool
-    ensures { result ≡ name_begins text.now }
+    ensures { result ≡ Leads.begins_name text.now }
 {
     match text.first() {
         None => false,
@@ -38,7 +39,7 @@ fn has_name(text: &[u8]) -> bool
 
 /// How long the name at the front is.
 fn name_length(text: &[u8]) -> usize
-    ensures value { result ≡ length_of_name text.now }
+    ensures value { result ≡ Leads.name_length text.now }
     ensures within { result ≤ length text.now }
 {
     if has_name(text) { name_stop(text) } else { 0 }
@@ -54,7 +55,7 @@ fn past_name(text: &[u8]) -> &[u8]
 
 /// Where a condition looks that names this.
 fn scope_of(alloc: Global, name: &[u8]) -> Result<Scope, Memory>
-    ensures { IfOk result (λ scope. scope ≡ scope_named name.now) }
+    ensures { IfOk result (λ scope. scope ≡ Leads.scope_of name.now) }
 {
     if name == b"H".as_slice() {
         return Ok(Scope::Mail(Place::H));

@@ -1,7 +1,7 @@
 //! The score of a recipe while its conditions are judged (procmailsc(5)).
 ghost use Rattle.std.specs.Prelude.{◌≡◌, IfOk};
 ghost use Rattle.pm_meaning.specs.Evaluating.{with_score, with_matched};
-ghost use Rattle.pm_meaning.specs.Weighing.{end_at as end_by, end_of_all as end_by_all};
+ghost use Rattle.pm_meaning.specs.Weighing;
 
 use pm_bytes::{Blob, Memory};
 use pm_meaning::question::Judgement;
@@ -9,7 +9,7 @@ use pm_vars::Vars;
 
 /// How a score ends the judging, if it does.
 pub fn end_at(total: i32) -> Option<Judgement>
-    ensures { result ≡ end_by total }
+    ensures { result ≡ Weighing.end_at total }
 {
     if total >= 2_147_483_647 {
         Some(Judgement::Matched)
@@ -22,7 +22,7 @@ pub fn end_at(total: i32) -> Option<Judgement>
 
 /// What comes where all conditions were judged.
 pub fn end_of_all(weighted: bool, total: i32) -> Judgement
-    ensures { result ≡ end_by_all weighted total }
+    ensures { result ≡ Weighing.end_of_all weighted total }
 {
     if weighted && total <= 0 {
         Judgement::Unmatched

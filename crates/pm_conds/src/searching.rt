@@ -2,7 +2,8 @@
 ghost use Rattle.std.specs.Prelude.{◌≡◌, ◌≤◌, not, IfOk, IfSome, length};
 ghost use Rattle.pm_message.specs.Area.{area_of};
 ghost use Rattle.pm_regex.proofs.FoundOrNot.{found_of};
-ghost use Rattle.pm_meaning.specs.Searching.{Sight, sight_of, part_of, area_in, match_text, found_outcome as outcome};
+ghost use Rattle.pm_meaning.specs.Searching.{Sight, sight_of, part_of, area_in, match_text};
+ghost use Rattle.pm_meaning.specs.Searching;
 ghost use Rattle.pm_meaning.specs.Searching.{match_in, behind_newline, before_newline, bytes_in, input_in};
 ghost use Rattle.pm_meaning.specs.Searching.{value_or_empty, expression_of, IsWithin};
 ghost use Rattle.pm_meaning.specs.Evaluating.{compared_length};
@@ -91,7 +92,7 @@ fn found_outcome(
     found: Option<Found>,
 ) -> Result<Outcome, Memory>
     requires { IfSome found (IsWithin area.now) }
-    ensures { IfOk result (λ come. come ≡ outcome inverted area.now found) }
+    ensures { IfOk result (λ come. come ≡ Searching.found_outcome inverted area.now found) }
 {
     match found {
         None => Ok(outcome_if(inverted)),
@@ -115,7 +116,8 @@ fn find_area(
     expr: Expr,
     area: &[u8],
 ) -> Result<Outcome, Memory>
-    ensures { IfOk result (λ come. come ≡ outcome inverted area.now (match_in distinguish expr area.now)) }
+    ensures { IfOk result (λ come. come
+        ≡ Searching.found_outcome inverted area.now (match_in distinguish expr area.now)) }
 {
     let found = find(alloc, expr, !distinguish, area)?;
     found_outcome(alloc, inverted, area, found)

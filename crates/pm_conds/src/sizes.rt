@@ -2,10 +2,10 @@
 ghost use Rattle.std.specs.Prelude.{◌≡◌, length, position};
 ghost use Rattle.std.specs.List.{list_all};
 ghost use Rattle.pm_bytes.specs.Letter.{is_blank_byte};
-ghost use Rattle.pm_meaning.specs.Evaluating.{word_length as length_of_word, word_number as number_of_word};
-ghost use Rattle.pm_meaning.specs.Evaluating.{number_between, inverted_if, size_outcome as outcome};
-ghost use Rattle.pm_meaning.specs.Evaluating.{measured_outcome as measured};
-ghost use Rattle.pm_meaning.specs.Weighing.{weighed_size as weighed};
+ghost use Rattle.pm_meaning.specs.Evaluating.{word_length};
+ghost use Rattle.pm_meaning.specs.Evaluating;
+ghost use Rattle.pm_meaning.specs.Evaluating.{number_between, inverted_if};
+ghost use Rattle.pm_meaning.specs.Weighing;
 ghost use Rattle.pm_meaning.specs.Searching.{holds_if};
 
 use pm_bytes::{is_blank, read_count};
@@ -28,7 +28,7 @@ fn is_all_blank(text: &[u8]) -> bool
 
 /// The number that a word writes, where nothing but blanks stands after it.
 fn word_number(text: &[u8]) -> Option<u64>
-    ensures { result ≡ number_of_word text.now }
+    ensures { result ≡ Evaluating.word_number text.now }
 {
     let end = word_end(text).unwrap_or(text.len());
     if is_all_blank(&text[end..]) {
@@ -58,7 +58,7 @@ pub fn outcome_if(holds: bool) -> Outcome
 
 /// A condition on a size: that it is above the number, or below it.
 fn size_outcome(inverted: bool, above: bool, size: u64, number: Option<u64>) -> Outcome
-    ensures { result ≡ outcome inverted above size number }
+    ensures { result ≡ Evaluating.size_outcome inverted above size number }
 {
     match number {
         None => Outcome::Defective,
@@ -77,7 +77,7 @@ fn weighed_size(
     length: u64,
     number: Option<u64>,
 ) -> Outcome
-    ensures { result ≡ weighed weight inverted above length number }
+    ensures { result ≡ Weighing.weighed_size weight inverted above length number }
 {
     match number {
         Some(number) if !inverted => Outcome::Compared {
@@ -97,7 +97,7 @@ pub fn measured_outcome(
     length: u64,
     number: Option<u64>,
 ) -> Outcome
-    ensures { result ≡ measured question.now.weight question.now.inverted above length number }
+    ensures { result ≡ Evaluating.measured_outcome question.now.weight question.now.inverted above length number }
 {
     match question.weight {
         None => size_outcome(question.inverted, above, length, number),

@@ -5,7 +5,7 @@ ghost use Rattle.std.specs.Fmt.{signed_decimal};
 ghost use Rattle.pm_bytes.specs.Name.{has_zero};
 ghost use Rattle.pm_host.specs.World.{inside};
 ghost use Rattle.pm_journal.specs.Naming.{stem, plain_candidate, mh_candidate, maildir_candidate, unslashed};
-ghost use Rattle.pm_journal.specs.Naming.{maildir_folders as folders_of};
+ghost use Rattle.pm_journal.specs.Naming;
 ghost use Rattle.pm_folders.specs.Trying.{names_with, nth_try, tried_last};
 
 use crate::path::Path;
@@ -154,7 +154,7 @@ pub fn mh_names(alloc: Global, folder: &Name, first: u64) -> Result<Names, Memor
 
 /// The folders of a maildir.
 pub fn maildir_folders(alloc: Global, folder: &Name) -> Result<Vec<Name>, Memory>
-    ensures { IfOk result (λ all. all.items ≡ folders_of folder.now) }
+    ensures { IfOk result (λ all. all.items ≡ Naming.maildir_folders folder.now) }
 {
     let mut all = Vec::new(alloc);
     all.push(folder.copy(alloc)?)?;

@@ -26,7 +26,8 @@ pub trait Host {
     /// Bytes of the file from the offset `at` on, into the front of `room`; `Got(0)` at or past the file's end.
     fn read(&mut self, name: &str, at: u64, room: &mut [u8]) -> Got
         requires { 0 < length room.old }
-        ensures made { Makes (Call.Read name.now at (length room.old)) (read_answer result room.new) (told self.old) (told self.new) }
+        ensures made { Makes (Call.Read name.now at (length room.old)) (read_answer result room.new) (told self.old)
+            (told self.new) }
         ensures within { IsWithin result (length room.old) };
 
     /// Makes an empty file, only where nothing stands at the name.
@@ -90,7 +91,8 @@ pub trait Host {
     fn take(&mut self, room: &mut [u8]) -> Got
         requires some { 0 < length room.old }
         requires running { IsRunning (told self.old).child }
-        ensures made { Makes (Call.Take (length room.old)) (take_answer result room.new) (told self.old) (told self.new) }
+        ensures made { Makes (Call.Take (length room.old)) (take_answer result room.new) (told self.old)
+            (told self.new) }
         ensures within { IsWithin result (length room.old) };
 
     /// Ends the child's input and waits for the child. Others may change files meanwhile. No child runs then,

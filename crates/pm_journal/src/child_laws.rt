@@ -1,5 +1,6 @@
 //! Laws of the calls that run a child, each as the contract of a call that does nothing.
-ghost use Rattle.pm_journal.specs.ChildLaws.{ChildrenRunRight, ChildrenChangeNothing, ChildFaultsHaveCalls, ChildrenEnd};
+ghost use Rattle.pm_journal.specs.ChildLaws.{ChildrenRunRight, ChildrenChangeNothing, ChildFaultsHaveCalls};
+ghost use Rattle.pm_journal.specs.ChildLaws.{ChildrenEnd};
 
 /// A child took the first bytes of its input, as many as are stated, and its output is what came.
 pub fn children_run_right()

@@ -17,7 +17,8 @@ use pm_bytes::{Blob, Memory, Name};
 use pm_host::{Command, Looked, Removed};
 use std::alloc::Global;
 
-/// A piece that is filed in a folder as a file of its own, with what makes its name; `prefix` is that of a plain folder.
+/// A piece that is filed in a folder as a file of its own, with what makes its name; `prefix` is that of a plain
+/// folder.
 #[derive(Debug, Drop)]
 pub struct Filing {
     pub kind: FolderKind,
@@ -39,8 +40,8 @@ pub trait Asks {
         requires { 0 < journal.old.room }
         ensures { NotesSaid to text journal.old journal.new (told self.old) (told self.new) };
 
-    /// Runs a program and waits for it. The journal's last entry then has its output, where that is wanted. After want of
-    /// memory nothing is noted, and the program was waited for; without a wanted output there is none.
+    /// Runs a program and waits for it. The journal's last entry then has its output, where that is wanted. After want
+    /// of memory nothing is noted, and the program was waited for; without a wanted output there is none.
     fn run(
         &mut self,
         alloc: Global,
@@ -66,8 +67,8 @@ pub trait Effects: Asks {
         ensures { NotesAct (Act.Append name piece) (append_reply result)
             journal.old journal.new (Self.told self.old) (Self.told self.new) };
 
-    /// Files the piece in the folder. The journal's last entry then has the file's name. After want of memory nothing is
-    /// noted and no file was made.
+    /// Files the piece in the folder. The journal's last entry then has the file's name. After want of memory nothing
+    /// is noted and no file was made.
     fn place(
         &mut self,
         alloc: Global,

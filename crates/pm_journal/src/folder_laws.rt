@@ -1,12 +1,14 @@
 //! Laws of deliveries to folders, each as the contract of a call that does nothing.
-ghost use Rattle.pm_journal.specs.FolderLaws.{PlacesMakeTree, PlacesStand, PlaceFaultsHaveCalls, PlaceRepliesFit, PlacedIsStored, OnePlace, PlacesLeaveChildren};
+ghost use Rattle.pm_journal.specs.FolderLaws.{PlacesMakeTree, PlacesStand, PlaceFaultsHaveCalls, PlaceRepliesFit};
+ghost use Rattle.pm_journal.specs.FolderLaws.{PlacedIsStored, OnePlace, PlacesLeaveChildren};
 
 /// The tree of files is what the reply and the folders that were made say.
 pub fn places_make_tree()
     ensures { PlacesMakeTree }
 {}
 
-/// A placed piece is one new file, a torn one a new file with the stated front of it, and any other reply leaves no file.
+/// A placed piece is one new file, a torn one a new file with the stated front of it, and any other reply leaves no
+/// file.
 pub fn places_stand()
     ensures { PlacesStand }
 {}

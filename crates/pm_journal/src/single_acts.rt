@@ -3,7 +3,8 @@
 ghost use Rattle.std.specs.Prelude.{◌≡◌, ◌≤◌, ◌<◌, ◌+◌, true, false, [], length, IfOk, OnErr};
 ghost use Rattle.pm_journal.specs.Contents.{FitsFile};
 ghost use Rattle.pm_journal.specs.Sayings.{say_reply, say_act};
-ghost use Rattle.pm_journal.specs.declared.acts.Act.TheVariants.{ReadFile, Probe, Append, Unlock, Run, SayErr, WriteOut, Moment};
+ghost use Rattle.pm_journal.specs.declared.acts.Act.TheVariants.{ReadFile, Probe, Append, Unlock, Run, SayErr};
+ghost use Rattle.pm_journal.specs.declared.acts.Act.TheVariants.{WriteOut, Moment};
 ghost use Rattle.pm_journal.specs.declared.acts.Reply.TheVariants.{Found, Now};
 ghost use Rattle.pm_journal.specs.Appending.{append_reply};
 ghost use Rattle.pm_journal.specs.Entries.{unlock_reply};

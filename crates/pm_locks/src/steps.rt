@@ -1,6 +1,7 @@
 //! The taking of a lock without a host: what to ask next, and how to go on after the answer.
 ghost use Rattle.std.specs.Prelude.{◌≡◌, ◌<◌, ◌≤◌, ◌+◌, ◌-◌, ◌*◌, IsTrue};
-ghost use Rattle.pm_journal.specs.Locking.{lock_step, lock_heard, lock_left, lock_within, lock_rule, lose as try_lost};
+ghost use Rattle.pm_journal.specs.Locking.{lock_step, lock_heard, lock_left, lock_within, lock_rule};
+ghost use Rattle.pm_journal.specs.Locking;
 ghost use Rattle.pm_locks.specs.Machine.{taking, taking_heard};
 ghost use Rattle.pm_locks.specs.Steps.{as_answer, IsAnswerToLock};
 
@@ -218,7 +219,7 @@ fn forced(rule: LockRule, t: Tally) -> LockState
 // One try more is lost.
 fn lose(rule: LockRule, pausing: bool, t: Tally) -> LockState
     requires within { IsTrue (lock_within rule (LockState.Trying t)) }
-    ensures lost { result ≡ try_lost rule pausing t }
+    ensures lost { result ≡ Locking.lose rule pausing t }
     ensures within { IsTrue (lock_within rule result) }
     ensures fewer { lock_left rule result < (rule.tries - t.lost + (16 - t.forced)) * 8 }
 {

@@ -1,12 +1,12 @@
 //! What came of the recipes before: the flags A, a, E and e (procmailrc(5), "Recipe format").
 ghost use Rattle.std.specs.Prelude.{◌≡◌};
-ghost use Rattle.pm_meaning.specs.Chains.{is_admitted, after as chain_behind, with_success};
-ghost use Rattle.pm_meaning.specs.Chains.{new_chain as first_chain};
+ghost use Rattle.pm_meaning.specs.Chains.{is_admitted, with_success};
+ghost use Rattle.pm_meaning.specs.Chains;
 
 use pm_recipe::Flags;
 
-/// What the flags A, a, E and e ask about: whether the last recipe without A or a matched, whether a recipe of the chain
-/// of E was executed, and whether the last recipe was executed and succeeded, or was executed and failed.
+/// What the flags A, a, E and e ask about: whether the last recipe without A or a matched, whether a recipe of the
+/// chain of E was executed, and whether the last recipe was executed and succeeded, or was executed and failed.
 #[derive(Clone, Copy)]
 pub struct Chain {
     pub base: bool,
@@ -17,7 +17,7 @@ pub struct Chain {
 
 /// The chain of a first recipe, of an rcfile or of a block.
 pub fn new_chain() -> Chain
-    ensures { result ≡ first_chain }
+    ensures { result ≡ Chains.new_chain }
 {
     Chain {
         base: false,
@@ -39,7 +39,7 @@ pub fn admits(flags: &Flags, chain: &Chain) -> bool
 
 /// The chain after a recipe of these flags.
 pub fn after(flags: &Flags, chain: &Chain, matched: bool, executed: bool, succeeded: bool) -> Chain
-    ensures { result ≡ chain_behind flags.now chain.now matched executed succeeded }
+    ensures { result ≡ Chains.after flags.now chain.now matched executed succeeded }
 {
     let tied = flags.and_chain || flags.and_ok;
     Chain {

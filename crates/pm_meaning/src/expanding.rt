@@ -1,6 +1,6 @@
 //! Texts expanded by the variables of a process.
 ghost use Rattle.std.specs.Prelude.{◌≡◌, length, IfOk};
-ghost use Rattle.pm_meaning.specs.Assigning.{first_word as first_of};
+ghost use Rattle.pm_meaning.specs.Assigning;
 ghost use Rattle.pm_subst.specs.Commands.{commands_in};
 ghost use Rattle.pm_meaning.specs.Expanding.{IsExpansion};
 
@@ -36,7 +36,7 @@ pub fn expand_text(
 
 /// The first of the words, empty where there is none.
 pub fn first_word(alloc: Global, words: Vec<Blob>) -> Blob
-    ensures { result ≡ first_of words.items }
+    ensures { result ≡ Assigning.first_word words.items }
 {
     match words.into_iter().next() {
         Some(word) => word,

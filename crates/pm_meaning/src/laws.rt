@@ -18,7 +18,8 @@ pub fn examples()
     ensures programs { OfPrograms }
 {}
 
-/// A recipe's destinations all have the mail only where it was appended to each file among them, and filed in each folder.
+/// A recipe's destinations all have the mail only where it was appended to each file among them, and filed in each
+/// folder.
 pub fn stored_is_done()
     ensures { StoredIsDone }
 {}
@@ -71,23 +72,23 @@ pub fn ends_one_way()
     ensures { EndsOneWay }
 {}
 
-/// Where each lock is got and each mailbox and folder takes its piece, where a mail filter's rcfile is read, and where a
-/// process that has nothing left to do has a default mailbox that it can deliver to, the first process delivers the mail,
-/// or HOST names another host, and the status is that of this end.
+/// Where each lock is got and each mailbox and folder takes its piece, where a mail filter's rcfile is read, and where
+/// a process that has nothing left to do has a default mailbox that it can deliver to, the first process delivers the
+/// mail, or HOST names another host, and the status is that of this end.
 pub fn clear_is_well()
     ensures { ClearIsWell }
 {
     end_has_status();
 }
 
-/// A clone that is made for a block has all that the process has, the rcfiles of the command line that are left included,
-/// but no lock.
+/// A clone that is made for a block has all that the process has, the rcfiles of the command line that are left
+/// included, but no lock.
 pub fn clone_is_whole()
     ensures { CloneIsWhole }
 {}
 
-/// So a clone that meets another HOST goes on with the next rcfile of the command line: the run of `procmail ./rc ./rc2`
-/// with `:0 c`, `{ HOST=other }`, `:0`, `|` in the first and `:0 b`, `|` in the other, act by act.
+/// So a clone that meets another HOST goes on with the next rcfile of the command line: the run of `procmail ./rc
+/// ./rc2` with `:0 c`, `{ HOST=other }`, `:0`, `|` in the first and `:0 b`, `|` in the other, act by act.
 pub fn clone_goes_on()
     ensures { CloneGoesOn }
 {}

@@ -1,6 +1,6 @@
 //! Texts as names of files.
 ghost use Rattle.std.specs.Prelude.{◌≡◌, IfOk};
-ghost use Rattle.pm_meaning.specs.Locks.{is_nothing as is_null_device};
+ghost use Rattle.pm_meaning.specs.Locks;
 ghost use Rattle.pm_meaning.specs.UsableNames.{file_name_of};
 
 use pm_bytes::{Memory, Name, NameRefused};
@@ -22,7 +22,7 @@ pub fn file_name(alloc: Global, text: &[u8]) -> Result<Option<Name>, Memory>
 
 /// Whether it is `/dev/null`, which takes everything and is no file.
 pub fn is_nothing(name: &Name) -> bool
-    ensures { result ≡ is_null_device name.now }
+    ensures { result ≡ Locks.is_nothing name.now }
 {
     name.as_str() == "/dev/null"
 }

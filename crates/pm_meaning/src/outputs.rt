@@ -3,13 +3,13 @@ ghost use Rattle.std.specs.Prelude.{◌≡◌, [], length, true, IfOk};
 ghost use Rattle.pm_journal.specs.Executed.{Carries};
 ghost use Rattle.pm_journal.specs.Held.{Keeping};
 ghost use Rattle.pm_journal.specs.LogText.{unusable_name_line, value_too_long_line};
-ghost use Rattle.pm_journal.specs.Outcomes.{last_output as output_of_last};
+ghost use Rattle.pm_journal.specs.Outcomes;
 ghost use Rattle.pm_meaning.specs.Changes.{overflowed};
-ghost use Rattle.pm_meaning.specs.Delivering.{make_ready as made_ready};
+ghost use Rattle.pm_meaning.specs.Delivering;
 ghost use Rattle.pm_meaning.specs.Minds.{mind_of};
-ghost use Rattle.pm_meaning.specs.Outputs.{output_of, outputs_of as outputs_in, output_with, outputs_with};
-ghost use Rattle.pm_meaning.specs.Outputs.{run_command as command_run, run_fault as fault_of, tell_run as run_told};
-ghost use Rattle.pm_meaning.specs.Outputs.{taken_output as output_taken, read_line as line_read, read_with};
+ghost use Rattle.pm_meaning.specs.Outputs.{output_of, output_with, outputs_with};
+ghost use Rattle.pm_meaning.specs.Outputs;
+ghost use Rattle.pm_meaning.specs.Outputs.{read_with};
 ghost use Rattle.pm_meaning.specs.Turns.{say_then};
 ghost use Rattle.pm_subst.specs.Commands.{commands_in};
 ghost use Rattle.pm_meaning.specs.Ready.{ready_of, told};
@@ -46,7 +46,7 @@ pub fn make_ready<D: Asks>(
     journal: &mut Journal,
 ) -> Result<Ready, Memory>
     requires keeping { Keeping journal.old process.old.locks.names }
-    ensures carries { Carries (made_ready lock_commands.now commands.now (mind_of process.old))
+    ensures carries { Carries (Delivering.make_ready lock_commands.now commands.now (mind_of process.old))
         (λ ready. ready_of ready (mind_of process.new)) result
         journal.old journal.new (D.told outside.old) (D.told outside.new) }
     ensures locks { IfOk result (λ ready. length ready.lock_outputs.items ≡ length lock_commands.now) }
@@ -71,7 +71,7 @@ pub fn outputs_of<D: Asks>(
     journal: &mut Journal,
 ) -> Result<Vec<Blob>, Memory>
     requires keeping { Keeping journal.old process.old.locks.names }
-    ensures carries { Carries (outputs_in (commands_in mode text.now) (mind_of process.old))
+    ensures carries { Carries (Outputs.outputs_of (commands_in mode text.now) (mind_of process.old))
         (λ outputs. outputs_with outputs.items (mind_of process.new)) result
         journal.old journal.new (D.told outside.old) (D.told outside.new) }
     ensures each { IfOk result (λ outputs. length outputs.items ≡ length (commands_in mode text.now)) }
@@ -90,7 +90,7 @@ pub fn read_line<D: Asks>(
     journal: &mut Journal,
 ) -> Result<ProgramLine, Memory>
     requires keeping { Keeping journal.old process.old.locks.names }
-    ensures carries { Carries (line_read line.now (mind_of process.old))
+    ensures carries { Carries (Outputs.read_line line.now (mind_of process.old))
         (λ read. read_with read (mind_of process.new)) result
         journal.old journal.new (D.told outside.old) (D.told outside.new) }
     ensures keeping { Keeping journal.new process.new.locks.names }
@@ -111,7 +111,7 @@ fn run_each<D: Asks>(
     journal: &mut Journal,
 ) -> Result<Vec<Blob>, Memory>
     requires keeping { Keeping journal.old process.old.locks.names }
-    ensures carries { Carries (outputs_in commands.now (mind_of process.old))
+    ensures carries { Carries (Outputs.outputs_of commands.now (mind_of process.old))
         (λ outputs. outputs_with outputs.items (mind_of process.new)) result
         journal.old journal.new (D.told outside.old) (D.told outside.new) }
     ensures each { IfOk result (λ outputs. length outputs.items ≡ length commands.now) }
@@ -160,7 +160,7 @@ fn run_command<D: Asks>(
     journal: &mut Journal,
 ) -> Result<Blob, Memory>
     requires keeping { Keeping journal.old process.old.locks.names }
-    ensures carries { Carries (command_run command text.now (mind_of process.old))
+    ensures carries { Carries (Outputs.run_command command text.now (mind_of process.old))
         (λ output. output_with output (mind_of process.new)) result
         journal.old journal.new (D.told outside.old) (D.told outside.new) }
     ensures keeping { Keeping journal.new process.new.locks.names }
@@ -183,7 +183,7 @@ fn run_command<D: Asks>(
 
 // What a text gets of the output of the program that ran last.
 fn taken_output(alloc: Global, journal: &Journal) -> Result<Blob, Memory>
-    ensures { IfOk result (λ output. output ≡ output_taken (output_of_last journal.now.entries)) }
+    ensures { IfOk result (λ output. output ≡ Outputs.taken_output (Outcomes.last_output journal.now.entries)) }
 {
     match journal.last_output() {
         None => Ok(Blob::empty(alloc)),
@@ -206,7 +206,7 @@ pub fn tell_run<D: Asks>(
     journal: &mut Journal,
 ) -> Result<(), Memory>
     requires keeping { Keeping journal.old process.now.locks.names }
-    ensures carries { Carries (run_told end line.now (mind_of process.now) told) (λ _. told) result
+    ensures carries { Carries (Outputs.tell_run end line.now (mind_of process.now) told) (λ _. told) result
         journal.old journal.new (D.told outside.old) (D.told outside.new) }
     ensures keeping { Keeping journal.new process.now.locks.names }
 {
@@ -218,7 +218,7 @@ pub fn tell_run<D: Asks>(
 
 // What is told of a program of this line, if anything.
 fn run_fault(alloc: Global, end: RunEnd, line: &[u8]) -> Result<Option<Blob>, Memory>
-    ensures { IfOk result (λ fault. fault ≡ fault_of end line.now) }
+    ensures { IfOk result (λ fault. fault ≡ Outputs.run_fault end line.now) }
 {
     match end {
         RunEnd::Ended { .. } => Ok(None),

@@ -53,8 +53,8 @@ pub enum End {
     HostOff,
 }
 
-/// A destination of a recipe (procmailrc(5), "Recipe action line"): its name, and the kind of folder that its ending asks
-/// for. One without such an ending is a file, unless a folder stands there.
+/// A destination of a recipe (procmailrc(5), "Recipe action line"): its name, and the kind of folder that its ending
+/// asks for. One without such an ending is a file, unless a folder stands there.
 #[derive(Debug, Drop)]
 pub struct Destination {
     pub kind: Option<FolderKind>,

@@ -1,11 +1,12 @@
 //! How a program line is read (procmailrc(5), "Recipe action line", and SHELL, SHELLFLAGS and SHELLMETAS).
 ghost use Rattle.std.specs.Prelude.{◌≡◌, ◌∷◌, length, IfOk};
-ghost use Rattle.pm_meaning.specs.Locks.{value_or as value_of_or};
+ghost use Rattle.pm_meaning.specs.Locks;
 ghost use Rattle.pm_meaning.specs.Minds.{mind_of};
-ghost use Rattle.pm_meaning.specs.Programs.{environment as environment_of, line_of_words, shell_words as words_for_shell};
-ghost use Rattle.pm_meaning.specs.Programs.{has_one_of as some_stands, needs_shell as asks_shell, line_commands};
-ghost use Rattle.pm_meaning.specs.Programs.{expanded_line as line_expanded, line_of, command_line_of};
-ghost use Rattle.pm_meaning.specs.Programs.{with_exit_code, code_of as exit_code};
+ghost use Rattle.pm_meaning.specs.Programs.{line_of_words};
+ghost use Rattle.pm_meaning.specs.Programs;
+ghost use Rattle.pm_meaning.specs.Programs.{line_commands};
+ghost use Rattle.pm_meaning.specs.Programs.{line_of, command_line_of};
+ghost use Rattle.pm_meaning.specs.Programs.{with_exit_code};
 ghost use Rattle.pm_subst.specs.Commands.{commands_in};
 ghost use Rattle.pm_subst.specs.declared.kinds.Mode.TheVariants.{Many};
 ghost use Rattle.pm_meaning.specs.UsableNames.{usable_name, AreUsable};
@@ -48,14 +49,14 @@ pub fn command_line(alloc: Global, text: &[u8], process: &Process) -> Result<Pro
 
 /// Whether the line is left to the shell.
 pub fn needs_shell(line: &[u8], process: &Process) -> bool
-    ensures { result ≡ asks_shell line.now (mind_of process.now) }
+    ensures { result ≡ Programs.needs_shell line.now (mind_of process.now) }
 {
     has_one_of(value_or(b"&|<>~;?*[", b"SHELLMETAS", &process.vars), line)
 }
 
 /// The program that was run last has this exit code.
 pub fn note_code(end: RunEnd, process: &mut Process)
-    ensures mind { mind_of process.new ≡ with_exit_code (exit_code end) (mind_of process.old) }
+    ensures mind { mind_of process.new ≡ with_exit_code (Programs.code_of end) (mind_of process.old) }
     ensures locks { process.new.locks ≡ process.old.locks }
 {
     process.vars.set_code(code_of(end));
@@ -63,7 +64,7 @@ pub fn note_code(end: RunEnd, process: &mut Process)
 
 /// The exit code of a program; one that didn't come to its end has 127.
 pub fn code_of(end: RunEnd) -> u8
-    ensures { result ≡ exit_code end }
+    ensures { result ≡ Programs.code_of end }
 {
     match end {
         RunEnd::Ended { code, .. } => code,
@@ -73,7 +74,7 @@ pub fn code_of(end: RunEnd) -> u8
 
 /// The value of a variable, or this where it is unset.
 pub fn value_or<'a>(otherwise: &'a [u8], name: &[u8], vars: &'a Vars) -> &'a [u8]
-    ensures { result.now ≡ value_of_or otherwise.now name.now vars.now }
+    ensures { result.now ≡ Locks.value_or otherwise.now name.now vars.now }
 {
     match vars.get(name) {
         None => otherwise,
@@ -83,7 +84,7 @@ pub fn value_or<'a>(otherwise: &'a [u8], name: &[u8], vars: &'a Vars) -> &'a [u8
 
 // Whether one of these bytes stands in the text.
 fn has_one_of(bytes: &[u8], text: &[u8]) -> bool
-    ensures { result ≡ some_stands bytes.now text.now }
+    ensures { result ≡ Programs.has_one_of bytes.now text.now }
 {
     text.iter().any(|byte| bytes.contains(byte))
 }
@@ -91,7 +92,7 @@ fn has_one_of(bytes: &[u8], text: &[u8]) -> bool
 /// The line as the two words of the shell.
 pub fn shell_line(alloc: Global, line: &[u8], process: &Process) -> Result<ProgramLine, Memory>
     ensures { let p = mind_of process.now in
-        IfOk result (λ read. read ≡ line_of_words (words_for_shell line.now p.vars) p) }
+        IfOk result (λ read. read ≡ line_of_words (Programs.shell_words line.now p.vars) p) }
 {
     let words = shell_words(alloc, line, &process.vars)?;
     words_line(alloc, words.as_slice(), process)
@@ -99,7 +100,7 @@ pub fn shell_line(alloc: Global, line: &[u8], process: &Process) -> Result<Progr
 
 // SHELL with SHELLFLAGS and the line.
 fn shell_words(alloc: Global, line: &[u8], vars: &Vars) -> Result<Vec<Blob>, Memory>
-    ensures { IfOk result (λ words. words.items ≡ words_for_shell line.now vars.now) }
+    ensures { IfOk result (λ words. words.items ≡ Programs.shell_words line.now vars.now) }
 {
     let mut words = Vec::new(alloc);
     words.push(Blob::from_slice(alloc, value_or(b"/bin/sh", b"SHELL", vars))?)?;
@@ -116,7 +117,7 @@ pub fn expanded_line(
     process: &Process,
 ) -> Result<ProgramLine, Memory>
     requires { length outputs.now ≡ length (commands_in Many line.now) }
-    ensures { IfOk result (λ read. read ≡ line_expanded outputs.now line.now (mind_of process.now)) }
+    ensures { IfOk result (λ read. read ≡ Programs.expanded_line outputs.now line.now (mind_of process.now)) }
 {
     match expand(alloc, line, Mode::Many, &process.vars, outputs) {
         Ok(words) => words_line(alloc, words.as_slice(), process),
@@ -186,7 +187,7 @@ fn all_usable(alloc: Global, words: &[Blob]) -> Result<Option<Names>, Memory>
 
 // The variables that programs get.
 fn environment(alloc: Global, vars: &Vars) -> Result<Pairs, Memory>
-    ensures { IfOk result (λ pairs. pairs ≡ environment_of vars.now) }
+    ensures { IfOk result (λ pairs. pairs ≡ Programs.environment vars.now) }
 {
     let pairs = vars.export(alloc)?;
     Ok(Pairs::from_vec(pairs))

@@ -5,7 +5,8 @@ ghost use Rattle.pm_journal.specs.Held.{Keeping};
 ghost use Rattle.pm_meaning.specs.Locks.{value_or};
 ghost use Rattle.pm_meaning.specs.Logging.{log, logged};
 ghost use Rattle.pm_meaning.specs.Minds.{mind_of};
-ghost use Rattle.pm_meaning.specs.Telling.{is_nowhere as goes_nowhere, log_name as name_of_log, free_name};
+ghost use Rattle.pm_meaning.specs.Telling.{free_name};
+ghost use Rattle.pm_meaning.specs.Telling;
 
 use crate::Process;
 use crate::names::{file_name, is_nothing};
@@ -14,8 +15,8 @@ use pm_bytes::{Blob, Memory, Name, full};
 use pm_journal::{Asks, HeldLocks, Journal, say_to};
 use std::alloc::Global;
 
-/// Logs the line in LOGFILE's file, or on `err` where LOGFILE names none, no usable one or a held lock. `/dev/null` takes
-/// it without an act. A line that can't be written is lost.
+/// Logs the line in LOGFILE's file, or on `err` where LOGFILE names none, no usable one or a held lock. `/dev/null`
+/// takes it without an act. A line that can't be written is lost.
 pub fn tell<D: Asks>(
     alloc: Global,
     process: &Process,
@@ -35,7 +36,7 @@ pub fn tell<D: Asks>(
 /// LOGFILE's file, as seen from where the run began, where it can be a file's name.
 pub fn log_name(alloc: Global, process: &Process) -> Result<Option<Name>, Memory>
     ensures { let p = mind_of process.now in
-        IfOk result (λ name. name ≡ name_of_log (value_or [] (codes "LOGFILE") p.vars) p.base) }
+        IfOk result (λ name. name ≡ Telling.log_name (value_or [] (codes "LOGFILE") p.vars) p.base) }
 {
     match file_name(alloc, value_or(b"", b"LOGFILE", &process.vars))? {
         None => Ok(None),
@@ -52,7 +53,7 @@ pub fn tell_in<D: Asks>(
     journal: &mut Journal,
 ) -> Result<(), Memory>
     requires named { let p = mind_of process.now in
-        name ≡ name_of_log (value_or [] (codes "LOGFILE") p.vars) p.base }
+        name ≡ Telling.log_name (value_or [] (codes "LOGFILE") p.vars) p.base }
     requires keeping { Keeping journal.old process.now.locks.names }
     ensures carries { Carries (log line (mind_of process.now)) (λ _. logged) result
         journal.old journal.new (D.told outside.old) (D.told outside.new) }
@@ -77,7 +78,7 @@ fn unless_held(name: Option<Name>, locks: &HeldLocks) -> Option<Name>
 
 // Whether `/dev/null` takes what goes there.
 fn is_nowhere(file: &Option<Name>) -> bool
-    ensures { result ≡ goes_nowhere file.now }
+    ensures { result ≡ Telling.is_nowhere file.now }
 {
     match file {
         None => false,

@@ -1,7 +1,7 @@
 //! What weighted conditions add to the score of a recipe (procmailsc(5)).
-ghost use Rattle.std.specs.Prelude.{◌≡◌, ◌≤◌, ◌<◌, ◌^◌, ◌*◌, ◌/◌, min, pos, ◌≤ℤ◌, ◌+ℤ◌, ◌*ℤ◌, neg_ℤ, unsigned_abs, int_lt, if◌then◌else◌, true, None, IfSome};
-ghost use Rattle.pm_meaning.specs.Scores.{powers as powers_of, bounded as bounded_of, add_score as score_of, add_code as code_score};
-ghost use Rattle.pm_meaning.specs.Scores.{counted_length as length_counted, add_length as length_score, has_share as is_shared};
+ghost use Rattle.std.specs.Prelude.{◌≡◌, ◌≤◌, ◌<◌, ◌^◌, ◌*◌, ◌/◌, min, pos, ◌≤ℤ◌, ◌+ℤ◌, ◌*ℤ◌, neg_ℤ, unsigned_abs};
+ghost use Rattle.std.specs.Prelude.{int_lt, if◌then◌else◌, true, None, IfSome};
+ghost use Rattle.pm_meaning.specs.Scores;
 
 /// The greatest score, whose negative is the least.
 const MOST_SCORE: i64 = 2_147_483_647;
@@ -14,7 +14,7 @@ const MOST_LENGTH: u64 = 134_217_728;
 
 /// A number brought into the range of scores.
 fn bounded(number: i64) -> i32
-    ensures value { result ≡ bounded_of number }
+    ensures value { result ≡ Scores.bounded number }
     ensures low { neg_ℤ (pos 2147483647) ≤ℤ result }
     ensures high { result ≤ℤ pos 2147483647 }
 {
@@ -33,7 +33,7 @@ fn signed(less: bool, amount: i64) -> i64
 fn moved(total: i32, less: bool, amount: u64) -> i32
     requires low { neg_ℤ (pos 2147483647) ≤ℤ total }
     requires high { total ≤ℤ pos 2147483647 }
-    ensures value { result ≡ bounded_of (total +ℤ (if less then neg_ℤ (pos amount) else pos amount)) }
+    ensures value { result ≡ Scores.bounded (total +ℤ (if less then neg_ℤ (pos amount) else pos amount)) }
     ensures low { neg_ℤ (pos 2147483647) ≤ℤ result }
     ensures high { result ≤ℤ pos 2147483647 }
 {
@@ -43,7 +43,7 @@ fn moved(total: i32, less: bool, amount: u64) -> i32
 
 /// The sum of the powers with so many exponents from 0 on, up to where it leads out of the range.
 fn powers(x: u32, count: u64) -> u64
-    ensures { result ≡ min (powers_of x count) 4294967295 }
+    ensures { result ≡ min (Scores.powers x count) 4294967295 }
 {
     if x == 0 {
         return count.min(1);
@@ -66,7 +66,7 @@ pub fn add_score(total: i32, w: i32, x: i32, count: u64) -> i32
     requires low { neg_ℤ (pos 2147483647) ≤ℤ total }
     requires high { total ≤ℤ pos 2147483647 }
     requires whole { pos 0 ≤ℤ x }
-    ensures value { result ≡ score_of total w (unsigned_abs x) count }
+    ensures value { result ≡ Scores.add_score total w (unsigned_abs x) count }
     ensures low { neg_ℤ (pos 2147483647) ≤ℤ result }
     ensures high { result ≤ℤ pos 2147483647 }
 {
@@ -77,19 +77,19 @@ pub fn add_score(total: i32, w: i32, x: i32, count: u64) -> i32
 pub fn add_matches(total: i32, w: i32, x: u32, count: u64) -> i32
     requires low { neg_ℤ (pos 2147483647) ≤ℤ total }
     requires high { total ≤ℤ pos 2147483647 }
-    ensures value { result ≡ score_of total w x count }
+    ensures value { result ≡ Scores.add_score total w x count }
     ensures low { neg_ℤ (pos 2147483647) ≤ℤ result }
     ensures high { result ≤ℤ pos 2147483647 }
 {
     moved(total, w < 0, w.unsigned_abs() as u64 * powers(x, count))
 }
 
-/// The score after a program of a condition with the weight `w^x` ended with this code: it is `w` more for the code 0, and
-/// `x` more for any other. An inverted condition counts as many matches as the code says.
+/// The score after a program of a condition with the weight `w^x` ended with this code: it is `w` more for the code 0,
+/// and `x` more for any other. An inverted condition counts as many matches as the code says.
 pub fn add_code(total: i32, w: i32, x: u32, inverted: bool, code: u8) -> i32
     requires low { neg_ℤ (pos 2147483647) ≤ℤ total }
     requires high { total ≤ℤ pos 2147483647 }
-    ensures value { result ≡ code_score total w x inverted code }
+    ensures value { result ≡ Scores.add_code total w x inverted code }
     ensures low { neg_ℤ (pos 2147483647) ≤ℤ result }
     ensures high { result ≤ℤ pos 2147483647 }
 {
@@ -104,7 +104,7 @@ pub fn add_code(total: i32, w: i32, x: u32, inverted: bool, code: u8) -> i32
 
 /// A length of 0 counts as 1.
 fn counted_length(x: u32, length: u64) -> u64
-    ensures value { result ≡ length_counted x length }
+    ensures value { result ≡ Scores.counted_length x length }
     ensures some { 0 < result }
     ensures bound { 1 < x → result ≤ 134217728 }
 {
@@ -163,7 +163,7 @@ fn share_by(over: bool, each: u32, x: u32, length: u64, number: u64) -> u64
 
 /// Whether a length has a share by this number with this exponent.
 fn has_share(x: u32, number: u64) -> bool
-    ensures value { result ≡ is_shared x number }
+    ensures value { result ≡ Scores.has_share x number }
     ensures small { result ≡ true → x ≤ 3 }
     ensures some { result ≡ true → 0 < number }
     ensures bound { result ≡ true → 1 < x → number ≤ 134217728 }
@@ -177,7 +177,8 @@ fn has_share(x: u32, number: u64) -> bool
 pub fn add_length(total: i32, w: i32, x: i32, length: u64, number: u64, over: bool) -> Option<i32>
     requires low { neg_ℤ (pos 2147483647) ≤ℤ total }
     requires high { total ≤ℤ pos 2147483647 }
-    ensures value { result ≡ (if int_lt x (pos 0) then None else length_score total w (unsigned_abs x) length number over) }
+    ensures value { result
+        ≡ (if int_lt x (pos 0) then None else Scores.add_length total w (unsigned_abs x) length number over) }
     ensures low { IfSome result (λ score. neg_ℤ (pos 2147483647) ≤ℤ score) }
     ensures high { IfSome result (λ score. score ≤ℤ pos 2147483647) }
 {
@@ -191,7 +192,7 @@ pub fn add_length(total: i32, w: i32, x: i32, length: u64, number: u64, over: bo
 pub fn add_share(total: i32, w: i32, x: u32, length: u64, number: u64, over: bool) -> Option<i32>
     requires low { neg_ℤ (pos 2147483647) ≤ℤ total }
     requires high { total ≤ℤ pos 2147483647 }
-    ensures value { result ≡ length_score total w x length number over }
+    ensures value { result ≡ Scores.add_length total w x length number over }
     ensures low { IfSome result (λ score. neg_ℤ (pos 2147483647) ≤ℤ score) }
     ensures high { IfSome result (λ score. score ≤ℤ pos 2147483647) }
 {

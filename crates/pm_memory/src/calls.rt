@@ -1,5 +1,6 @@
 //! The calls that came, in a list that was reserved for so many, and the counts of them.
-ghost use Rattle.std.specs.Prelude.{◌≡◌, ◌≤◌, ◌<◌, ◌+◌, ◌^◌, ◌-◌, vec_len, vec_capacity, IfOk, cond, [], ◌∷◌, ◌++◌, true};
+ghost use Rattle.std.specs.Prelude.{◌≡◌, ◌≤◌, ◌<◌, ◌+◌, ◌^◌, ◌-◌, vec_len, vec_capacity, IfOk, cond, [], ◌∷◌, ◌++◌};
+ghost use Rattle.std.specs.Prelude.{true};
 ghost use Rattle.pm_memory.specs.Counts.{risen};
 
 use crate::tree::Denied;

@@ -29,7 +29,8 @@ pub(crate) fn read_entry(
     got: Got,
 ) -> Result<Logged, Memory>
     requires { IsWithin got (length room.now) }
-    ensures { IfOk result (λ entry. entry ≡ logged (Call.Read name.now at (length room.now)) (read_answer got room.now)) }
+    ensures { IfOk result (λ entry. entry
+        ≡ logged (Call.Read name.now at (length room.now)) (read_answer got room.now)) }
 {
     let answer = match got {
         Got::Got(count) => Answer::Read(Blob::from_slice(alloc, &room[..count])?),

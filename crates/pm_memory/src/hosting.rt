@@ -152,7 +152,8 @@ impl MemoryHost {
     }
 
     pub(crate) fn start_now(&mut self, command: &Command, want: bool) -> Result<(), Denied>
-        ensures ok { IfOk result (λ _. Does (Call.Start command.now want) (Answer.Start Started.Started) self.old self.new) }
+        ensures ok { IfOk result (λ _. Does (Call.Start command.now want)
+            (Answer.Start Started.Started) self.old self.new) }
         ensures err { IfErr result (Denies (Call.Start command.now want) self.old self.new) }
     {
         if self.fails_now() {

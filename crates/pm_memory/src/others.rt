@@ -76,7 +76,9 @@ impl Tree {
 
     // Adds the bytes to a file, or makes one of them where nothing stands.
     fn lengthen(&mut self, name: &str, bytes: &[u8]) -> Result<(), Memory>
-        ensures ok { OnOk result (world_in self.new ≡ world_with (world_in self.old) name.now (longer (node_at self.old name.now) (world_in self.old).moment bytes.now)) }
+        ensures ok { OnOk result (world_in self.new
+            ≡ world_with (world_in self.old) name.now
+                (longer (node_at self.old name.now) (world_in self.old).moment bytes.now)) }
         ensures child { child_at self.new ≡ child_at self.old }
     {
         match self.nodes.get(name) {
@@ -91,7 +93,9 @@ impl Tree {
 
     // Makes a file of these bytes where nothing stands.
     fn make_file(&mut self, name: &str, bytes: &[u8]) -> Result<(), Memory>
-        ensures ok { OnOk result (world_in self.new ≡ world_with (world_in self.old) name.now (made_there (node_at self.old name.now) (world_in self.old).moment bytes.now)) }
+        ensures ok { OnOk result (world_in self.new
+            ≡ world_with (world_in self.old) name.now
+                (made_there (node_at self.old name.now) (world_in self.old).moment bytes.now)) }
         ensures child { child_at self.new ≡ child_at self.old }
     {
         match self.nodes.get(name) {
@@ -102,7 +106,8 @@ impl Tree {
 
     // Puts a file of these bytes, made at this moment.
     fn put_new(&mut self, name: &str, bytes: &[u8]) -> Result<(), Memory>
-        ensures ok { OnOk result (world_in self.new ≡ world_with (world_in self.old) name.now (a_file bytes.now (world_in self.old).moment)) }
+        ensures ok { OnOk result (world_in self.new
+            ≡ world_with (world_in self.old) name.now (a_file bytes.now (world_in self.old).moment)) }
         ensures child { child_at self.new ≡ child_at self.old }
     {
         let file = File {
@@ -114,7 +119,8 @@ impl Tree {
 
     // Removes a file.
     fn remove_file(&mut self, name: &str)
-        ensures world { world_in self.new ≡ world_with (world_in self.old) name.now (taken_away (node_at self.old name.now)) }
+        ensures world { world_in self.new
+            ≡ world_with (world_in self.old) name.now (taken_away (node_at self.old name.now)) }
         ensures child { child_at self.new ≡ child_at self.old }
     {
         match self.nodes.get(name) {

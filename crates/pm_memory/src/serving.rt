@@ -49,7 +49,8 @@ impl Host for MemoryHost {
     fn read(&mut self, name: &str, at: u64, room: &mut [u8]) -> Got
         requires { 0 < length room.old }
         ensures within { IsWithin result (length room.old) }
-        ensures serves { Serves (Call.Read name.now at (length room.old)) (read_answer result room.new) self.old self.new }
+        ensures serves { Serves (Call.Read name.now at (length room.old))
+            (read_answer result room.new) self.old self.new }
     {
         match self.read_now(name, at, room) {
             Ok(count) => {

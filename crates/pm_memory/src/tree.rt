@@ -1,5 +1,6 @@
 //! A tree of files, by the whole name of each node: a name's parents aren't looked at.
-ghost use Rattle.std.specs.Prelude.{◌≡◌, ◌≢◌, ◌≤◌, ◌<◌, IfOk, IfErr, OnOk, OnErr, Some, None, length, take, drop, option_copied, bytes_eq, false};
+ghost use Rattle.std.specs.Prelude.{◌≡◌, ◌≢◌, ◌≤◌, ◌<◌, IfOk, IfErr, OnOk, OnErr, Some, None, length, take, drop};
+ghost use Rattle.std.specs.Prelude.{option_copied, bytes_eq, false};
 ghost use Rattle.pm_host.specs.World.{FedAtMost, IsFile, IsThere, world_with, grown, kept, age_at};
 ghost use Rattle.pm_memory.specs.Folders.{CantList};
 ghost use Rattle.pm_memory.specs.Node.{file_bytes, Explains, NoFile, IsFolder};
@@ -15,7 +16,8 @@ use pm_host::{
 use std::alloc::Global;
 use std::collections::{BTreeMap, VecDeque};
 
-/// Why a call is refused: its number was given to `fail`, no node of its kind stands at the name, or memory was wanting.
+/// Why a call is refused: its number was given to `fail`, no node of its kind stands at the name, or memory was
+/// wanting.
 #[derive(Clone, Copy, Debug, PartialEq, Eq)]
 pub(crate) enum Denied {
     ToFail,
@@ -124,7 +126,8 @@ impl Tree {
     /// Adds the first bytes of the piece, so many, at the end of the file.
     pub(crate) fn append(&mut self, name: &str, piece: &[u8], count: usize) -> Result<(), Denied>
         requires { count ≤ length piece.now }
-        ensures ok { OnOk result (IsStep (Call.Append name.now piece.now) (Answer.Append (Took.Took count)) self.old self.new) }
+        ensures ok { OnOk result (IsStep (Call.Append name.now piece.now) (Answer.Append
+            (Took.Took count)) self.old self.new) }
         ensures err { IfErr result (Explains ⊥ (NoFile (node_at self.old name.now)) (Unit {0})) }
         ensures same { OnErr result (world_in self.new ≡ world_in self.old) }
         ensures child { child_at self.new ≡ child_at self.old }
@@ -186,7 +189,8 @@ impl Tree {
 
     /// Moves the file to a name where nothing stands.
     pub(crate) fn rename(&mut self, from: &str, to: &str) -> Result<Moved, Denied>
-        ensures ok { IfOk result (λ moved. IsStep (Call.Rename from.now to.now) (Answer.Rename moved) self.old self.new) }
+        ensures ok { IfOk result (λ moved. IsStep (Call.Rename from.now to.now)
+            (Answer.Rename moved) self.old self.new) }
         ensures found { IfOk result (λ moved. moved ≢ Moved.Failed) }
         ensures err { IfErr result (Explains ⊥ (NoFile (node_at self.old from.now)) (Unit {0})) }
         ensures same { OnErr result (world_in self.new ≡ world_in self.old) }
@@ -200,7 +204,8 @@ impl Tree {
 
     fn move_where_free(&mut self, from: &str, to: &str) -> Result<Moved, Denied>
         requires { IsFile (node_at self.old from.now) }
-        ensures ok { IfOk result (λ moved. IsStep (Call.Rename from.now to.now) (Answer.Rename moved) self.old self.new) }
+        ensures ok { IfOk result (λ moved. IsStep (Call.Rename from.now to.now)
+            (Answer.Rename moved) self.old self.new) }
         ensures found { IfOk result (λ moved. moved ≢ Moved.Failed) }
         ensures err { IfErr result (Explains ⊥ ⊥ (Unit {0})) }
         ensures same { OnErr result (world_in self.new ≡ world_in self.old) }
@@ -233,7 +238,8 @@ impl Tree {
         requires there { IsThere (node_at self.old from.now) }
         requires place { IsThere (node_at self.old to.now) }
         requires apart { bytes_eq from.now to.now ≡ false }
-        ensures world { world_in self.new ≡ world_with (world_with (world_in self.old) from.now None) to.now (node_at self.old from.now) }
+        ensures world { world_in self.new
+            ≡ world_with (world_with (world_in self.old) from.now None) to.now (node_at self.old from.now) }
         ensures child { child_at self.new ≡ child_at self.old }
     {
         let Some(node) = self.nodes.remove(from) else {
@@ -247,7 +253,8 @@ impl Tree {
 
     /// Makes a folder where nothing stands.
     pub(crate) fn make_folder(&mut self, name: &str) -> Result<Made, Denied>
-        ensures ok { IfOk result (λ made. IsStep (Call.MakeFolder name.now) (Answer.MakeFolder made) self.old self.new) }
+        ensures ok { IfOk result (λ made. IsStep (Call.MakeFolder name.now)
+            (Answer.MakeFolder made) self.old self.new) }
         ensures found { IfOk result (λ made. made ≢ Made.Failed) }
         ensures err { IfErr result (Explains ⊥ (IsFile (node_at self.old name.now)) (Unit {0})) }
         ensures same { OnErr result (world_in self.new ≡ world_in self.old) }
@@ -299,7 +306,8 @@ impl Tree {
 
     /// Starts a child.
     pub(crate) fn start(&mut self, command: &Command, want: bool) -> Result<(), Denied>
-        ensures ok { OnOk result (IsStep (Call.Start command.now want) (Answer.Start Started.Started) self.old self.new) }
+        ensures ok { OnOk result (IsStep (Call.Start command.now want)
+            (Answer.Start Started.Started) self.old self.new) }
         ensures running { OnOk result (child_at self.new ≡ Child.Feeding) }
         ensures err { IfErr result (Explains ⊥ ⊥ (Unit {0})) }
         ensures same { OnErr result (world_in self.new ≡ world_in self.old) }

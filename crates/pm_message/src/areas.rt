@@ -1,9 +1,9 @@
 //! What of a mail conditions search (procmailrc(5), "Recipe flags").
 ghost use Rattle.std.specs.Prelude.{◌≡◌, ◌++◌, ◌∷◌, ◌<◌, IfOk, IfSome, codes, false, length};
 ghost use Rattle.std.specs.List.{list_any};
-ghost use Rattle.pm_bytes.specs.Alphabet.{NEWLINE as LF};
-ghost use Rattle.pm_message.specs.Area.{area_of, ends_empty, head_area as area_of_head, unfolded};
-ghost use Rattle.pm_message.specs.Area.{without_empty_line as without_last};
+ghost use Rattle.pm_bytes.specs.Alphabet.{NEWLINE};
+ghost use Rattle.pm_message.specs.Area.{area_of, ends_empty, unfolded};
+ghost use Rattle.pm_message.specs.Area;
 ghost use Rattle.pm_message.specs.FromLine.{is_newline};
 
 use crate::Message;
@@ -24,7 +24,7 @@ pub enum Place {
 
 /// The bytes before the first newline, and those after it.
 fn cut_at_newline(bytes: &[u8]) -> Option<(&[u8], &[u8])>
-    ensures cut { IfSome result (λ cut. (bytes.now ≡ cut.0.now ++ LF ∷ cut.1.now)
+    ensures cut { IfSome result (λ cut. (bytes.now ≡ cut.0.now ++ NEWLINE ∷ cut.1.now)
         × (list_any is_newline cut.0.now ≡ false)) }
     ensures none { result ≡ None → list_any is_newline bytes.now ≡ false }
 {
@@ -36,9 +36,9 @@ fn cut_at_newline(bytes: &[u8]) -> Option<(&[u8], &[u8])>
 
 /// What goes on after a newline and the blank there; None where no blank stands there.
 fn past_blank(behind: &[u8]) -> Option<&[u8]>
-    ensures folds { IfSome result (λ more. unfolded (LF ∷ behind.now) ≡ codes " " ++ unfolded more.now) }
+    ensures folds { IfSome result (λ more. unfolded (NEWLINE ∷ behind.now) ≡ codes " " ++ unfolded more.now) }
     ensures shorter { IfSome result (λ more. length more.now < length behind.now) }
-    ensures breaks { result ≡ None → unfolded (LF ∷ behind.now) ≡ codes "\n" ++ unfolded behind.now }
+    ensures breaks { result ≡ None → unfolded (NEWLINE ∷ behind.now) ≡ codes "\n" ++ unfolded behind.now }
 {
     match behind.split_first() {
         None => None,
@@ -72,7 +72,7 @@ fn unfold(alloc: Global, bytes: &[u8]) -> Result<Blob, Memory>
 
 /// The head without the newline of the empty line that ends it.
 fn without_empty_line(head: &[u8]) -> &[u8]
-    ensures { result.now ≡ without_last head.now }
+    ensures { result.now ≡ Area.without_empty_line head.now }
 {
     if head == b"\n".as_slice() || head.ends_with(b"\n\n") {
         &head[..head.len() - 1]
@@ -84,14 +84,14 @@ fn without_empty_line(head: &[u8]) -> &[u8]
 /// The area of the head, in which each newline reads as one space together with the blank after it, so that a folded
 /// field is one line.
 pub fn head_area(alloc: Global, message: &Message) -> Result<Blob, Memory>
-    ensures { IfOk result (λ area. area ≡ area_of_head message.now) }
+    ensures { IfOk result (λ area. area ≡ Area.head_area message.now) }
 {
     unfold(alloc, without_empty_line(message.head.as_slice()))
 }
 
 /// The area of both parts: that of the head, a newline, and the body.
 pub fn both_areas(alloc: Global, head_area: &[u8], message: &Message) -> Result<Blob, Memory>
-    requires { head_area.now ≡ area_of_head message.now }
+    requires { head_area.now ≡ Area.head_area message.now }
     ensures { IfOk result (λ area. area ≡ area_of message.now Place.Hb) }
 {
     let body = message.body.as_slice();

@@ -2,7 +2,8 @@
 ghost use Rattle.std.specs.Prelude.{◌≡◌, ◌<◌, ◌≤◌, ◌++◌, pos, IsOk, IfOk, OnOk};
 ghost use Rattle.jiff.specs.Words.{epoch_day};
 ghost use Rattle.pm_message.specs.Calendar.{day_at, IsDayNumber};
-ghost use Rattle.pm_message.specs.Date.{weekday_of, month_of, two_places, clock_of, date_of, moved, last_moment, from_line_of};
+ghost use Rattle.pm_message.specs.Date.{weekday_of, month_of, two_places, clock_of, date_of, moved, last_moment};
+ghost use Rattle.pm_message.specs.Date.{from_line_of};
 
 use itoa::Buffer;
 use jiff::civil::{self, Date};

@@ -1,7 +1,9 @@
 //! A mail that keeps what conditions search and mailboxes get, so that each is made once for it.
 ghost use Rattle.std.specs.Prelude.{◌≡◌, Some, IfOk, IfSome, OnErr};
-ghost use Rattle.pm_message.specs.Area.{area_of, head_area as area_of_head};
-ghost use Rattle.pm_message.specs.Piece.{piece_of, chosen as chosen_of};
+ghost use Rattle.pm_message.specs.Area.{area_of};
+ghost use Rattle.pm_message.specs.Area;
+ghost use Rattle.pm_message.specs.Piece.{piece_of};
+ghost use Rattle.pm_message.specs.Piece;
 ghost use Rattle.pm_message.specs.Split.{split_of, whole_of};
 
 use crate::areas::{both_areas, head_area};
@@ -11,9 +13,9 @@ use pm_bytes::{Blob, Memory};
 use std::alloc::Global;
 use std::marker::Model;
 
-/// A mail in one piece and in its two parts, which have the same memory, with what was made of it so far: the area of its
-/// head, that of its head and body, and what a mailbox gets. It may have the newlines behind it that end it in a mailbox.
-/// Contracts see its two parts.
+/// A mail in one piece and in its two parts, which have the same memory, with what was made of it so far: the area of
+/// its head, that of its head and body, and what a mailbox gets. It may have the newlines behind it that end it in a
+/// mailbox. Contracts see its two parts.
 #[derive(Drop)]
 pub struct Mail {
     parts: Message,
@@ -62,8 +64,8 @@ impl Mail {
         })
     }
 
-    /// The mail that `split` gives. The newlines that end it in a mailbox are put behind its bytes, so that a mailbox gets
-    /// the mail's own memory if no line is escaped. Bytes that share their memory are copied for that.
+    /// The mail that `split` gives. The newlines that end it in a mailbox are put behind its bytes, so that a mailbox
+    /// gets the mail's own memory if no line is escaped. Bytes that share their memory are copied for that.
     pub fn split_own(alloc: Global, mut bytes: Blob) -> Result<Mail, Memory>
         ensures { IfOk result (λ mail. mail ≡ split_of bytes) }
     {
@@ -101,7 +103,7 @@ impl Mail {
     }
 
     fn area_of_head(&mut self, alloc: Global) -> Result<Blob, Memory>
-        ensures area { IfOk result (λ area. area ≡ area_of_head self.old) }
+        ensures area { IfOk result (λ area. area ≡ Area.head_area self.old) }
         ensures same { self.new ≡ self.old }
     {
         if let Some(area) = &self.head_area {
@@ -132,7 +134,7 @@ impl Mail {
 
     /// The wanted parts as they are, in the mail's own memory.
     pub fn chosen(&self, alloc: Global, feed: Feed) -> Result<Blob, Memory>
-        ensures { IfOk result (λ bytes. bytes ≡ chosen_of self.now feed) }
+        ensures { IfOk result (λ bytes. bytes ≡ Piece.chosen self.now feed) }
     {
         match feed {
             Feed::Both => self.whole.copy(alloc),

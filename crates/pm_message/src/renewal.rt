@@ -1,7 +1,8 @@
 //! The line `From ` in front of a mail, as mailboxes and the options `-f` and `-r` ask.
 ghost use Rattle.std.specs.Prelude.{◌≡◌, ◌≤◌, false, true, length, position, IfOk};
 ghost use Rattle.std.specs.List.{before_first};
-ghost use Rattle.pm_message.specs.FromLine.{has_from_line, makes_line, is_newline, without_line, is_no_blank, ends_word, behind_blanks, sender_of, who_of, renewed_of, prepared_of};
+ghost use Rattle.pm_message.specs.FromLine.{has_from_line, makes_line, is_newline, without_line, is_no_blank};
+ghost use Rattle.pm_message.specs.FromLine.{ends_word, behind_blanks, sender_of, who_of, renewed_of, prepared_of};
 ghost use Rattle.pm_message.specs.Split.{split_of};
 
 use crate::{Mail, Message, divide, from_line, split};
@@ -123,8 +124,9 @@ fn with_line(
     Ok(renewed)
 }
 
-/// The head and the body of a mail with its line `From ` as it is asked for (procmail(1), option -f). A line that is made
-/// for want of another sender is from `logname`. `moment` is in seconds since 1970, in UTC. `Memory` is the only error.
+/// The head and the body of a mail with its line `From ` as it is asked for (procmail(1), option -f). A line that is
+/// made for want of another sender is from `logname`. `moment` is in seconds since 1970, in UTC. `Memory` is the only
+/// error.
 pub fn prepare(
     alloc: Global,
     bytes: &[u8],

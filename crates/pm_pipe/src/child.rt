@@ -2,7 +2,8 @@
 ghost use Rattle.std.specs.Prelude.{◌≡◌, ◌<◌, length, IfOk, OnErr, Some, [], true, false};
 ghost use Rattle.pm_host.specs.World.{IsRunning};
 ghost use Rattle.pm_journal.specs.Children.{takes_output, run_reply};
-ghost use Rattle.pm_pipe.specs.Runs.{RunsTo, Feeds, TakesAll, TakesWhere, LeavesTaking, MakesTake, child_reply, fed_reply};
+ghost use Rattle.pm_pipe.specs.Runs.{RunsTo, Feeds, TakesAll, TakesWhere, LeavesTaking, MakesTake, child_reply};
+ghost use Rattle.pm_pipe.specs.Runs.{fed_reply};
 
 use pm_bytes::{Blob, Memory};
 use pm_host::{Child, Command, Fed, Finished, Got, Host, Started};

@@ -21,8 +21,9 @@ pub struct SinkFaults {
     pub err: u64,
 }
 
-/// Runs a program as `run_child` does, and notes it. The journal's last entry then has its output, where that is wanted.
-/// After want of memory nothing is noted, and the program was waited for; without a wanted output there is none.
+/// Runs a program as `run_child` does, and notes it. The journal's last entry then has its output, where that is
+/// wanted. After want of memory nothing is noted, and the program was waited for; without a wanted output there is
+/// none.
 pub fn run_noted<H: Host>(
     alloc: Global,
     host: &mut H,
@@ -69,8 +70,8 @@ fn counts<H: Host>(host: &H, sinks: SinkFaults) -> Counts
     }
 }
 
-// The reply of the run of a program, unless memory was wanting. Copies of the output get its memory; where there is none
-// for that, they will have their own.
+// The reply of the run of a program, unless memory was wanting. Copies of the output get its memory; where there is
+// none for that, they will have their own.
 fn child_reply_of(end: ChildEnd) -> Result<Reply, Memory>
     ensures { AreReply (child_reply end) result }
 {

@@ -60,7 +60,8 @@ pub fn joins_law()
     ensures joined { (front rest : List ℕ) → newlines front ≡ 0
         → unjoined (front ++ (BACKSLASH ∷ (NEWLINE ∷ rest))) ≡ front ++ unjoined rest }
     ensures plain { (text : List ℕ) → newlines text ≡ 0 → unjoined text ≡ text }
-    ensures unindented { (front blanks : List ℕ) (byte : ℕ) (rest : List ℕ) → newlines front ≡ 0 → are_blank blanks ≡ true
+    ensures unindented { (front blanks : List ℕ) (byte : ℕ) (rest : List ℕ) → newlines front ≡ 0 → are_blank blanks
+        ≡ true
         → is_blank_byte byte ≡ false → unindented (front ++ (BACKSLASH ∷ (NEWLINE ∷ (blanks ++ (byte ∷ rest)))))
         ≡ front ++ unindented (byte ∷ rest) }
     ensures unindented_plain { (text : List ℕ) → newlines text ≡ 0 → unindented text ≡ text }

@@ -9,8 +9,8 @@ use crate::reader::{MOST_LENGTH, RcRefused, learn};
 use pm_bytes::Memory;
 use std::alloc::Global;
 
-/// A span of an rcfile's text: what it is, the line on which it begins, from 1, the place of its first byte, from 0, the
-/// name and the text in it, and all its bytes.
+/// A span of an rcfile's text: what it is, the line on which it begins, from 1, the place of its first byte, from 0,
+/// the name and the text in it, and all its bytes.
 #[derive(Clone, Copy)]
 pub struct Span<'a> {
     pub kind: Kind,

@@ -1,6 +1,7 @@
 //! What the definitions say of short texts, as the contract of a call that does nothing.
 ghost use Rattle.pm_regex.specs.Examples.{OfMacros, OfExpressions};
-ghost use Rattle.pm_regex.specs.MatchExamples.{OfBytes, OfPlaces, OfExpressions as OfMatches};
+ghost use Rattle.pm_regex.specs.MatchExamples.{OfBytes, OfPlaces};
+ghost use Rattle.pm_regex.specs.MatchExamples;
 
 /// Each definition of expressions says of some short texts what its readers expect.
 pub fn examples()
@@ -12,5 +13,5 @@ pub fn examples()
 pub fn match_examples()
     ensures bytes { OfBytes }
     ensures places { OfPlaces }
-    ensures expressions { OfMatches }
+    ensures expressions { MatchExamples.OfExpressions }
 {}

@@ -44,8 +44,8 @@ pub fn read_mail<S: Source>(alloc: Global, source: &mut S) -> Result<Mail, Memor
     Ok(Mail::TooMany)
 }
 
-// Makes the room that the next read wants after so many bytes. To clear a large one costs more than a short message does
-// else, and it is cleared once.
+// Makes the room that the next read wants after so many bytes. To clear a large one costs more than a short message
+// does else, and it is cleared once.
 fn widen(room: &mut Vec<u8>, len: usize) -> Result<(), Memory>
     ensures { OnOk result (1 ≤ length room.new.items) }
 {

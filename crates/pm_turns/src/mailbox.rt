@@ -3,7 +3,8 @@ ghost use Rattle.std.specs.Prelude.{◌≡◌, ◌≤◌, ◌+◌, ◌-◌, ◌<
 ghost use Rattle.std.specs.Prelude.{vec_len, vec_capacity, IfOk};
 ghost use Rattle.pm_append.specs.Machine.{IsStepWithin};
 ghost use Rattle.pm_append.specs.Steps.{as_answer, IsAnswerToStep};
-ghost use Rattle.pm_turns.specs.Turning.{served, refused, mailbox_after, part_of as part_is};
+ghost use Rattle.pm_turns.specs.Turning.{served, refused, mailbox_after};
+ghost use Rattle.pm_turns.specs.Turning;
 ghost use Rattle.pm_turns.specs.Room.{step_left, came, IsOpenStep};
 
 use pm_append::{AppendAnswer, AppendStep};
@@ -159,7 +160,7 @@ impl Mailbox {
 // A part of what is left, and at least one byte.
 fn part_of(left: usize, n: u64) -> usize
     requires { 0 < left }
-    ensures is { result ≡ part_is left n }
+    ensures is { result ≡ Turning.part_of left n }
     ensures some { 1 ≤ result }
     ensures most { result ≤ left }
 {

@@ -6,10 +6,9 @@ ghost use Rattle.pm_append.specs.Machine.{appending_heard, IsStepWithin};
 ghost use Rattle.pm_append.specs.Steps.{as_answer as append_answer_of, IsAnswerToStep};
 ghost use Rattle.pm_locks.specs.Machine.{taking_heard};
 ghost use Rattle.pm_locks.specs.Steps.{as_answer, IsAnswerToLock, IsOpenStep as IsOpenLockStep};
-ghost use Rattle.pm_turns.specs.Turning.{lock_answer, give_answer, lock_outcome as lock_outcome_is};
-ghost use Rattle.pm_turns.specs.Turning.{give_outcome as give_outcome_is, unchanged as unchanged_is};
-ghost use Rattle.pm_turns.specs.Turning.{append_answer, mailbox_after, delivery as delivery_is};
-ghost use Rattle.pm_turns.specs.Turning.{lock_place as lock_place_is, append_place as append_place_is};
+ghost use Rattle.pm_turns.specs.Turning.{lock_answer, give_answer};
+ghost use Rattle.pm_turns.specs.Turning;
+ghost use Rattle.pm_turns.specs.Turning.{append_answer, mailbox_after};
 ghost use Rattle.pm_turns.specs.Turning.{place_by, mailbox_by, outcome_by};
 ghost use Rattle.pm_turns.specs.Room.{IsAtWork, IsWorkable, IsOpenStep, left_in, left_of, waits_of, step_left, came};
 
@@ -25,7 +24,7 @@ use std::mem;
 pub fn turn(delivery: &mut Delivery, mailbox: &mut Mailbox, locked: bool, will: Will) -> Outcome
     requires sound { IsWorkable delivery.old }
     requires room { mailbox.old.used + left_of delivery.old ≤ mailbox.old.capacity }
-    ensures delivery { delivery.new ≡ delivery_is delivery.old.piece
+    ensures delivery { delivery.new ≡ Turning.delivery delivery.old.piece
         (place_by delivery.old.piece delivery.old.place mailbox.old.text locked will) }
     ensures mailbox { mailbox.new.text ≡ mailbox_by delivery.old.piece delivery.old.place mailbox.old.text will }
     ensures outcome { result ≡ outcome_by delivery.old.place locked will }
@@ -57,7 +56,7 @@ pub fn turn(delivery: &mut Delivery, mailbox: &mut Mailbox, locked: bool, will: 
 }
 
 fn unchanged(locked: bool) -> Outcome
-    ensures { result ≡ unchanged_is locked }
+    ensures { result ≡ Turning.unchanged locked }
 {
     Outcome {
         locked,
@@ -68,8 +67,9 @@ fn unchanged(locked: bool) -> Outcome
 
 fn lock_turn(core: LockCore, len: u64, locked: bool, will: Will) -> (Place, Outcome)
     requires { IsOpenLockStep (lock_step core.at) }
-    ensures place { result.0 ≡ lock_place_is len (taking_heard core (lock_answer (lock_step core.at) locked will)) }
-    ensures outcome { result.1 ≡ lock_outcome_is (lock_answer (lock_step core.at) locked will) locked }
+    ensures place { result.0
+        ≡ Turning.lock_place len (taking_heard core (lock_answer (lock_step core.at) locked will)) }
+    ensures outcome { result.1 ≡ Turning.lock_outcome (lock_answer (lock_step core.at) locked will) locked }
 {
     let mut core = core;
     let answer = answer_lock(core.next(), locked, will);
@@ -79,7 +79,7 @@ fn lock_turn(core: LockCore, len: u64, locked: bool, will: Will) -> (Place, Outc
 
 // What an answer to the taking makes of the lock.
 fn lock_outcome(answer: LockAnswer, locked: bool) -> Outcome
-    ensures { result ≡ lock_outcome_is (as_answer answer) locked }
+    ensures { result ≡ Turning.lock_outcome (as_answer answer) locked }
 {
     match answer {
         LockAnswer::Create(Made::Made) => Outcome {
@@ -97,7 +97,7 @@ fn lock_outcome(answer: LockAnswer, locked: bool) -> Outcome
 }
 
 fn lock_place(core: LockCore, len: u64) -> Place
-    ensures { result ≡ lock_place_is len core }
+    ensures { result ≡ Turning.lock_place len core }
 {
     match core.next() {
         LockStep::Finish(LockEnd::Held { .. }) => Place::Appending(AppendCore::new(len, true)),
@@ -174,7 +174,7 @@ fn give(locked: bool, will: Will) -> Removed
 
 // What that answer makes of the lock.
 fn give_outcome(removed: Removed, locked: bool) -> Outcome
-    ensures { result ≡ give_outcome_is removed locked }
+    ensures { result ≡ Turning.give_outcome removed locked }
 {
     match removed {
         Removed::Removed => unchanged(false),
@@ -185,7 +185,7 @@ fn give_outcome(removed: Removed, locked: bool) -> Outcome
 fn append_turn(core: AppendCore, piece: &[u8], mailbox: &mut Mailbox, will: Will) -> Place
     requires sound { IsAtWork piece.now (Place.Appending core) }
     requires room { mailbox.old.used + left_in piece.now (Place.Appending core) ≤ mailbox.old.capacity }
-    ensures place { result ≡ append_place_is (appending_heard core
+    ensures place { result ≡ Turning.append_place (appending_heard core
         (append_answer (append_step core.len core.sync core.at) (length piece.now) mailbox.old.text will)) }
     ensures mailbox { mailbox.new.text ≡ mailbox_by piece.now (Place.Appending core) mailbox.old.text will }
     ensures sound { IsAtWork piece.now result }
@@ -217,7 +217,7 @@ fn answer_append(mailbox: &mut Mailbox, step: AppendStep, piece: &[u8], will: Wi
 }
 
 fn append_place(core: AppendCore) -> Place
-    ensures { result ≡ append_place_is core }
+    ensures { result ≡ Turning.append_place core }
 {
     match core.next() {
         AppendStep::Finish(end) => Place::Giving(end),
