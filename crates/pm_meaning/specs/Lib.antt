@@ -28,6 +28,7 @@ pub mod Laws
 pub mod Examples
 pub mod RunExamples
 pub mod ConditionExamples
+pub mod ActExamples
 -- What the code that logs, expands and runs commands answers.
 pub mod UsableNames
 pub mod Expanding

@@ -1,4 +1,5 @@
 //! Laws of the meaning and of whole runs, each as the contract of a call that does nothing.
+ghost use Rattle.pm_meaning.specs.ActExamples.{OfLocks, OfDeliveries, OfConditions, OfTrials, OfTelling};
 ghost use Rattle.pm_meaning.specs.Chains.{SuccessIsLast};
 ghost use Rattle.pm_meaning.specs.Examples.{OfChains, OfDestinations, OfValues, OfAssignments, OfPrograms};
 ghost use Rattle.pm_meaning.specs.Laws.{StoredIsDone};
@@ -40,6 +41,15 @@ pub fn condition_examples()
 pub fn run_examples()
     ensures statuses { OfStatuses }
     ensures rcfiles { OfRcfiles }
+{}
+
+/// Each answer to an act comes to what the manual says, and each line that is logged has its text.
+pub fn act_examples()
+    ensures locks { OfLocks }
+    ensures deliveries { OfDeliveries }
+    ensures conditions { OfConditions }
+    ensures trials { OfTrials }
+    ensures telling { OfTelling }
 {}
 
 /// A step that ends over a list of entries asks for no further act over that list.
