@@ -87,6 +87,8 @@ pub record Examples : Type 0 where
   -- outputs stand in the order of the commands, without the newlines at their end, and are not read again
   pub outputs : words_in One some (codes "p\nq\n\n" ∷ codes "no" ∷ codes "$A" ∷ []) (codes "<`d`>${A+}${U+`u`}`e`") ≡ codes "<p\nq>$A" ∷ []
   pub split_outputs : words_in Many some (codes "p q\n" ∷ codes "r s\n" ∷ []) (codes "`d`\"`e`\"") ≡ codes "p" ∷ codes "qr s" ∷ []
+  pub split_at_spaces : words_in Many some (codes "p\tq\nr s\n" ∷ []) (codes "`d`") ≡ codes "p" ∷ codes "q" ∷ codes "r" ∷ codes "s" ∷ []
+  pub blanks_stay : words_in One some (codes "\n p \t\n\n" ∷ []) (codes "`d`") ≡ codes "\n p \t" ∷ []
   pub no_output : words_in One some [] (codes "<`d`>") ≡ codes "<>" ∷ []
   -- the length: all bytes, and where words are split one more for each word
   pub length : size_in One some [] (codes "$A \"x\"") ≡ 7
