@@ -52,6 +52,16 @@ pub record OfMacros : Type 0 where
   pub to_word_text : macro_text ToWord
       ≡ codes "(^((Original-)?(Resent-)?(To|Cc|Bcc)|(X-Envelope"
       ++ codes "|Apparently(-Resent)?)-To):(.*[^a-zA-Z])?)"
+  pub from_daemon_text : macro_text FromDaemon
+      ≡ codes "(^(Mailing-List:|Precedence:.*(junk|bulk|list)|To: Multiple recipients of |(((Resent-)?(From|Sender)|"
+      ++ codes "X-Envelope-From):|>?From )([^>]*[^(.%@a-z0-9])?(Post(ma?(st(e?r)?|n)|office)|(send)?Mail(er)?|daemon|"
+      ++ codes "m(mdf|ajordomo)|n?uucp|LIST(SERV|proc)|NETSERV|o(wner|ps)|r(e(quest|sponse)|oot)|b(ounce|bs\\.smtp)|echo|"
+      ++ codes "mirror|s(erv(ices?|er)|mtp(error)?|ystem)|A(dmin(istrator)?|MMGR|utoanswer))"
+      ++ codes "(([^).!:a-z0-9][-_a-z0-9]*)?[%@>\t ][^<)]*(\\(.*\\).*)?)?$([^>]|$)))"
+  pub from_mailer_text : macro_text FromMailer
+      ≡ codes "(^(((Resent-)?(From|Sender)|X-Envelope-From):|>?From )([^>]*[^(.%@a-z0-9])?(Post(ma(st(er)?|n)|office)|"
+      ++ codes "(send)?Mail(er)?|daemon|mmdf|n?uucp|ops|r(esponse|oot)|(bbs\\.)?smtp(error)?|s(erv(ices?|er)|ystem)|"
+      ++ codes "A(dmin(istrator)?|MMGR))(([^).!:a-z0-9][-_a-z0-9]*)?[%@>\t ][^<)]*(\\(.*\\).*)?)?$([^>]|$))"
   -- where none stands, the part that is passed over: two bytes, a bracket expression, or one byte
   pub escaped_caret : plain_span (codes "\\^TO") ≡ codes "\\^"
   pub two_carets : plain_span (codes "^^TO") ≡ codes "^^"

@@ -1,15 +1,20 @@
 -- What each part of an expression matches (procmailrc(5), "Extended regular expressions").
-use Rattle.std.specs.Prelude.{ℕ, List, [], ◌∷◌, ◌≡◌, true, false, codes}
+use Rattle.std.specs.Prelude.{ℕ, Bool, List, [], ◌∷◌, ◌≡◌, true, false, not, nat_eq, map, codes}
+use Rattle.std.specs.List.{filter, range_with_len}
 use Rattle.pm_regex.specs.Bytes.{first_of}
 use Rattle.pm_regex.specs.Re.{Re, one, seq, either, times, nothing}
 use Rattle.pm_regex.specs.declared.op.Atom.TheVariants.{Byte, Any, LineStart, LineEnd, WordStart, WordEnd, AreaStart, AreaEnd}
 use Rattle.pm_regex.specs.declared.op.Times.TheVariants.{Star, Plus, Maybe}
-use Rattle.pm_regex.specs.Matching.{At, atom_passes, atom_takes, set_takes}
+use Rattle.pm_regex.specs.Matching.{At, atom_passes, atom_takes, other_case, set_takes}
 use Rattle.pm_regex.specs.Found.{place_behind}
 
 -- the byte that is this text
 abbrev pub byte : List ℕ → ℕ
 byte text = first_of text
+
+-- the bytes that a test refuses
+abbrev pub refused : (ℕ → Bool) → List ℕ
+refused test = filter (λ b. not (test b)) (range_with_len 0 256)
 
 -- an area of two lines, whose bytes have the places 0 to 3
 abbrev pub lines : List ℕ
@@ -29,7 +34,10 @@ pub record OfBytes : Type 0 where
   pub distinguished : atom_takes false (Byte (byte (codes "a"))) (byte (codes "A")) ≡ false
   pub no_letter : atom_takes true (Byte (byte (codes "@"))) (byte (codes "`")) ≡ false
   pub no_letter_too : atom_takes true (Byte (byte (codes "["))) (byte (codes "{")) ≡ false
+  pub letters : refused (λ b. nat_eq (other_case b) b) ≡ codes "ABCDEFGHIJKLMNOPQRSTUVWXYZabcdefghijklmnopqrstuvwxyz"
+  pub other_cases : map other_case (codes "AMZamz") ≡ codes "amzAMZ"
   -- a dot is any byte but a newline
+  pub no_other : refused (atom_takes false Any) ≡ codes "\n"
   pub any : atom_takes false Any (byte (codes " ")) ≡ true
   pub any_byte : atom_takes false Any 255 ≡ true
   pub any_newline : atom_takes false Any (byte (codes "\n")) ≡ false
@@ -39,6 +47,8 @@ pub record OfBytes : Type 0 where
   pub end_takes_newline : atom_takes false LineEnd (byte (codes "\n")) ≡ true
   pub end_takes_no_letter : atom_takes false LineEnd (byte (codes "a")) ≡ false
   -- the edges of words take a byte that is no letter, no digit and no underscore
+  pub in_words : refused (atom_takes false WordStart) ≡ codes "0123456789ABCDEFGHIJKLMNOPQRSTUVWXYZ_abcdefghijklmnopqrstuvwxyz"
+  pub in_words_too : refused (atom_takes false WordEnd) ≡ refused (atom_takes false WordStart)
   pub blank_before_word : atom_takes false WordStart (byte (codes " ")) ≡ true
   pub minus_before_word : atom_takes false WordStart (byte (codes "-")) ≡ true
   pub letter_before_word : atom_takes false WordStart (byte (codes "z")) ≡ false

@@ -4,7 +4,7 @@ use Rattle.std.proofs.Common.{◌≡◌, ◌<◌, ℕ, true, false, List, [], �
 use Rattle.pm_regex.specs.declared.sign.Sign.{Sign}
 use Rattle.pm_regex.specs.declared.sign.Sign.TheVariants.{Edge, One}
 use Rattle.pm_regex.specs.declared.op.Atom.TheVariants.{LineStart}
-use Rattle.pm_regex.specs.declared.macros.Macro.TheVariants.{ToAddress, ToWord}
+use Rattle.pm_regex.specs.declared.macros.Macro.TheVariants.{ToAddress, ToWord, FromDaemon, FromMailer}
 use Rattle.pm_regex.specs.Re.{Whole}
 use Rattle.pm_regex.specs.Macros.{macro_text, Expands, done, part}
 use Rattle.pm_regex.specs.Tokens.{Token, sign, bracket, sign_of, escaped_sign, begins_with, range, byte, closed, more, Body, body, plain, escape, edge, line_start, members, others, IsTokens, none, next}
@@ -62,10 +62,26 @@ reversed rs rest h =
     let p = parts (98 ∷ 45 ∷ 97 ∷ 93 ∷ []) rs rest h in
     no_range 98 45 97 (93 ∷ []) refl (omega arith) p.0 p.1 p.2 p.4
 
--- the texts of two macros
+-- the texts of macros
 to_address_text : macro_text ToAddress ≡ codes "(^((Original-)?(Resent-)?(To|Cc|Bcc)|(X-Envelope" ++ codes "|Apparently(-Resent)?)-To):(.*[^-a-zA-Z0-9_.])?)"
 unfolding macro_text
 to_address_text = refl
+
+from_daemon_text : macro_text FromDaemon
+    ≡ codes "(^(Mailing-List:|Precedence:.*(junk|bulk|list)|To: Multiple recipients of |(((Resent-)?(From|Sender)|"
+    ++ codes "X-Envelope-From):|>?From )([^>]*[^(.%@a-z0-9])?(Post(ma?(st(e?r)?|n)|office)|(send)?Mail(er)?|daemon|"
+    ++ codes "m(mdf|ajordomo)|n?uucp|LIST(SERV|proc)|NETSERV|o(wner|ps)|r(e(quest|sponse)|oot)|b(ounce|bs\\.smtp)|echo|"
+    ++ codes "mirror|s(erv(ices?|er)|mtp(error)?|ystem)|A(dmin(istrator)?|MMGR|utoanswer))"
+    ++ codes "(([^).!:a-z0-9][-_a-z0-9]*)?[%@>\t ][^<)]*(\\(.*\\).*)?)?$([^>]|$)))"
+unfolding macro_text
+from_daemon_text = refl
+
+from_mailer_text : macro_text FromMailer
+    ≡ codes "(^(((Resent-)?(From|Sender)|X-Envelope-From):|>?From )([^>]*[^(.%@a-z0-9])?(Post(ma(st(er)?|n)|office)|"
+    ++ codes "(send)?Mail(er)?|daemon|mmdf|n?uucp|ops|r(esponse|oot)|(bbs\\.)?smtp(error)?|s(erv(ices?|er)|ystem)|"
+    ++ codes "A(dmin(istrator)?|MMGR))(([^).!:a-z0-9][-_a-z0-9]*)?[%@>\t ][^<)]*(\\(.*\\).*)?)?$([^>]|$))"
+unfolding macro_text
+from_mailer_text = refl
 
 to_word_text : macro_text ToWord ≡ codes "(^((Original-)?(Resent-)?(To|Cc|Bcc)|(X-Envelope" ++ codes "|Apparently(-Resent)?)-To):(.*[^a-zA-Z])?)"
 unfolding macro_text
@@ -90,6 +106,8 @@ returns-clause-macros c = record {
   small_letters = refl;
   to_address_text = to_address_text;
   to_word_text = to_word_text;
+  from_daemon_text = from_daemon_text;
+  from_mailer_text = from_mailer_text;
   escaped_caret = refl;
   two_carets = refl;
   in_brackets = refl;
