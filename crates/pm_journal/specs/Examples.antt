@@ -1,5 +1,5 @@
 -- Log lines, names in folders, and what calls come to, in short runs.
-use Rattle.std.specs.Prelude.{ℕ, Bool, true, false, List, [], ◌∷◌, ◌≡◌, Some, None, fold, codes, neg_ℤ, pos}
+use Rattle.std.specs.Prelude.{ℕ, Bool, true, false, List, [], ◌∷◌, ◌≡◌, Some, None, length, fold, codes, neg_ℤ, pos}
 use Rattle.pm_host.specs.declared.answers.Looked.TheVariants as looked
 use Rattle.pm_host.specs.declared.answers.Took.TheVariants as took
 use Rattle.pm_host.specs.declared.answers.Made.TheVariants as made
@@ -12,8 +12,8 @@ use Rattle.pm_host.specs.declared.answers.Fed.TheVariants as fed
 use Rattle.pm_host.specs.declared.answers.Finished.TheVariants as finished
 use Rattle.pm_host.specs.declared.calls.Answer.{Answer}
 use Rattle.pm_host.specs.declared.calls.Answer.TheVariants as answer
-use Rattle.pm_journal.specs.LogText.{couldnt_read_line, too_many_rcfiles_line, host_mismatched_line, couldnt_write_line, bytes_left_line, no_free_name_line, no_delivery_line, skipped_line, value_too_long_line, unusable_name_line, defective_condition_line, couldnt_lock_line, forcing_lock_line, couldnt_unlock_line, no_lock_line, couldnt_start_line, lost_contact_line, output_too_long_line, couldnt_chdir_line, program_failure_line, input_closed_line, couldnt_write_out_line, too_many_clones_line}
-use Rattle.pm_journal.specs.Naming.{plain_candidate, maildir_candidate, mh_candidate, maildir_folders, first_number}
+use Rattle.pm_journal.specs.LogText.{quoted, couldnt_read_line, too_many_rcfiles_line, host_mismatched_line, couldnt_write_line, bytes_left_line, no_free_name_line, no_delivery_line, skipped_line, value_too_long_line, unusable_name_line, defective_condition_line, couldnt_lock_line, forcing_lock_line, couldnt_unlock_line, no_lock_line, couldnt_start_line, lost_contact_line, output_too_long_line, couldnt_chdir_line, program_failure_line, input_closed_line, couldnt_write_out_line, too_many_clones_line}
+use Rattle.pm_journal.specs.Naming.{Numbered, plain_candidate, maildir_candidate, mh_candidate, maildir_folders, first_number}
 use Rattle.pm_journal.specs.Appending.{append_step, append_heard, append_reply}
 use Rattle.pm_journal.specs.Locking.{lock_rule, lock_step, lock_heard, lock_reply, no_tally}
 use Rattle.pm_journal.specs.Placing.{FileState, Creating, Moving, Ended, file_heard, try_reply}
@@ -32,6 +32,7 @@ use Rattle.pm_journal.specs.declared.locking.LockState.{LockState}
 use Rattle.pm_journal.specs.declared.locking.LockState.TheVariants as lock_state
 use Rattle.pm_journal.specs.declared.locking.Tally.{Tally}
 use Rattle.pm_journal.specs.declared.placing.FileEnd.TheVariants as file_end
+use Rattle.pm_journal.specs.declared.placing.Candidate.{Candidate}
 use Rattle.pm_journal.specs.declared.placing.Stamp.{Stamp}
 
 -- the third piece of the process 42, at this moment
@@ -42,6 +43,7 @@ stamp = record { moment = pos 1000; pid = 42; serial = 3; host_name = codes "a/b
 pub record OfTexts : Type 0 where
   -- a line names the text between quotes, with a blank for each byte below 32
   pub couldnt_read : couldnt_read_line (codes "a\tb\n") ≡ codes "procmail: Couldn't read \"a b \"\n"
+  pub shown : quoted (0 ∷ 13 ∷ 27 ∷ 31 ∷ 32 ∷ 33 ∷ 127 ∷ 128 ∷ 255 ∷ []) ≡ 32 ∷ 32 ∷ 32 ∷ 32 ∷ 32 ∷ 33 ∷ 127 ∷ 128 ∷ 255 ∷ []
   pub too_many_rcfiles : too_many_rcfiles_line (codes "rc") ≡ codes "procmail: Too many rcfiles, skipped \"rc\"\n"
   pub host_mismatched : host_mismatched_line (codes "b") ≡ codes "procmail: HOST mismatched \"b\"\n"
   pub couldnt_write : couldnt_write_line (codes "mbox") ≡ codes "procmail: Couldn't write to \"mbox\"\n"
@@ -73,10 +75,13 @@ pub record OfTexts : Type 0 where
   pub next_maildir_name : maildir_candidate (codes "d") stamp 12
       ≡ record { at = codes "d/tmp/1000.42_3-12.a_b"; to = Some (codes "d/new/1000.42_3-12.a_b") }
   pub maildir_parts : maildir_folders (codes "d") ≡ codes "d" ∷ codes "d/tmp" ∷ codes "d/new" ∷ codes "d/cur" ∷ []
+  -- 100 names are tried
+  pub names : (make : ℕ → Candidate) (all : List Candidate) → Numbered make all → length all ≡ 100
   -- in an MH folder it is numbered after the greatest number there, and other names don't count
   pub mh_name : mh_candidate (codes "d") 8 2 ≡ record { at = codes "d/10"; to = None }
   pub first_in_empty : first_number [] ≡ 1
   pub behind_greatest : first_number (codes "9" ∷ codes "12" ∷ codes "3" ∷ []) ≡ 13
+  pub nine_digits : first_number (codes "123456789" ∷ codes "8" ∷ []) ≡ 123456790
   pub other_names : first_number (codes "2" ∷ codes "014" ∷ codes ",7" ∷ codes "1234567890" ∷ codes "8a" ∷ []) ≡ 3
 
 -- the answers of a run
@@ -204,6 +209,7 @@ pub record OfLocksAndPrograms : Type 0 where
   pub forced : locking (exists ∷ age 1025 ∷ size 0 ∷ is_removed ∷ []) ≡ lock_state.Pausing 16 (tally 0 0 1)
   pub not_forced : locking (exists ∷ age 1025 ∷ size 0 ∷ remove_failed ∷ []) ≡ lock_state.Ended lock_end.Failed
   pub held_by_force : locking (exists ∷ age 1025 ∷ size 0 ∷ absent ∷ answer.Slept ∷ is_made ∷ []) ≡ lock_state.Ended (lock_end.Held 1 1)
+  pub force_15 : lock_heard (lock_rule 8 1024 16 99) (lock_state.Trying (tally 0 0 15)) exists ≡ lock_state.Aging (tally 0 0 15)
   pub force_16 : lock_heard (lock_rule 8 1024 16 99) (lock_state.Trying (tally 0 0 16)) exists ≡ lock_state.Pausing 8 (tally 1 0 16)
   pub never_by_force : lock_heard (lock_rule 8 0 16 3) (lock_state.Trying no_tally) exists ≡ lock_state.Pausing 8 (tally 1 0 0)
   -- after the last try the lock is busy

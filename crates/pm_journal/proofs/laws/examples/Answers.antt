@@ -7,6 +7,7 @@ pub returns-clause-texts : goal.returns-clause-texts
 unfolding digits
 returns-clause-texts c = record {
   couldnt_read = refl;
+  shown = refl;
   too_many_rcfiles = refl;
   host_mismatched = refl;
   couldnt_write = refl;
@@ -35,9 +36,11 @@ returns-clause-texts c = record {
   maildir_name = refl;
   next_maildir_name = refl;
   maildir_parts = refl;
+  names = λ make all numbered. numbered.count;
   mh_name = refl;
   first_in_empty = refl;
   behind_greatest = refl;
+  nine_digits = refl;
   other_names = refl;
 }
 
@@ -96,6 +99,7 @@ returns-clause-locks_and_programs c = record {
   forced = refl;
   not_forced = refl;
   held_by_force = refl;
+  force_15 = refl;
   force_16 = refl;
   never_by_force = refl;
   last_try = refl;
