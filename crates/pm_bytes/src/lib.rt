@@ -5,6 +5,7 @@ mod alphabet;
 mod bytes;
 mod environment;
 mod error;
+mod laws;
 mod letters;
 mod names;
 mod numbers;
@@ -20,6 +21,7 @@ pub use alphabet::{
 pub use bytes::Blob;
 pub use environment::{Environ, Pair, Pairs};
 pub use error::{Memory, NameRefused};
+pub use laws::examples;
 pub use letters::{begins_name, continues_name, fold, is_blank, is_digit, is_space};
 pub use names::Names;
 pub use numbers::{read_count, read_number};
