@@ -1,12 +1,11 @@
 -- The choices of a delivery: what the plan is in each case.
 use Rattle.std.proofs.Common.{◌≡◌, Bool, true, false, not, List, ℕ, Option, Some, None, [], ◌∷◌, ◌++◌, map, length, refl, sym, ap, ◌∙◌, subst}
-use Rattle.std.specs.Prelude.{if◌then◌else◌, ◌||◌, Result}
-use Rattle.pm_bytes.specs.declared.error.Memory.{Memory}
+use Rattle.std.specs.Prelude.{if◌then◌else◌, ◌||◌}
 use Rattle.pm_journal.specs.JournalState.{JournalState}
 use Rattle.pm_journal.specs.Entries.{View}
 use Rattle.pm_journal.specs.Held.{holds_name}
 use Rattle.pm_journal.specs.Plan.{Plan, Ends, and_then}
-use Rattle.pm_journal.specs.Executed.{Executes, OutOfMemory, Carries}
+use Rattle.pm_journal.specs.Executed.{Executes, OutOfMemory}
 use Rattle.pm_journal.proofs.ActPlans.{executes_then}
 use Rattle.pm_journal.proofs.WantsMemory.{executes_nothing, out_then}
 use Rattle.pm_recipe.specs.Tree.{Top}

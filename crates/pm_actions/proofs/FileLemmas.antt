@@ -1,6 +1,5 @@
 -- Deliveries to files and folders in plans.
-use Rattle.std.proofs.Common.{◌≡◌, ◌<◌, ◌+◌, Bool, true, false, Option, Some, None, List, ℕ, [], ◌∷◌, length, map, drop, get_or, refl, sym, ap, ◌∙◌, subst}
-use Rattle.std.proofs.lemmas.List.{at_drop_more}
+use Rattle.std.proofs.Common.{◌≡◌, Bool, true, false, Option, Some, None, List, ℕ, [], ◌∷◌, length, map, refl, sym, ap, ◌∙◌, subst}
 use Rattle.std.specs.Prelude.{if◌then◌else◌}
 use Rattle.pm_bytes.specs.Name.{is_usable}
 use Rattle.pm_bytes.specs.Path.{full_name}

@@ -1,3 +1,4 @@
+pub mod KeepsProp
 pub mod Names
 pub mod Copies
 pub mod Programs

@@ -1,7 +1,5 @@
 -- How the line of a program is read.
-use Rattle.std.specs.Prelude.{◌≡◌, ℕ, true, false, List, [], ◌∷◌, Option, Some, None, if◌then◌else◌}
-use Rattle.std.specs.List.{list_all}
-use Rattle.pm_bytes.specs.Name.{is_usable}
+use Rattle.std.specs.Prelude.{ℕ, List, [], ◌∷◌, if◌then◌else◌}
 use Rattle.pm_meaning.specs.Forwards.{forward_reading}
 use Rattle.pm_meaning.specs.Programs.{Reading, shell_reading, plain_reading}
 use Rattle.pm_meaning.specs.Texts.{is_empty}

@@ -4,7 +4,7 @@
 ghost use Rattle.std.specs.Prelude.{◌≡◌, ◌+◌, ◌*◌, false, IfOk, OnErr};
 ghost use Rattle.pm_journal.specs.Entries.{unlock_reply};
 ghost use Rattle.pm_journal.specs.Executed.{Carries};
-ghost use Rattle.pm_journal.specs.Held.{Keeping, holds_name};
+ghost use Rattle.pm_journal.specs.Held.{holds_name};
 ghost use Rattle.pm_meaning.specs.Delivering.{attempt as attempted};
 ghost use Rattle.pm_meaning.specs.Locks.{is_fault};
 ghost use Rattle.pm_meaning.specs.Minds.{mind_of};
@@ -13,10 +13,11 @@ ghost use Rattle.pm_actions.specs.Filing.{HasNone};
 
 use crate::filing::{copies_for, file_each};
 use crate::locks::lock_rule;
+use crate::run::Run;
 use pm_bytes::{Memory, Name};
 use pm_host::Removed;
-use pm_journal::{Effects, Journal, LockEnd, give, take};
-use pm_meaning::{Attempt, Destination, Process};
+use pm_journal::{Effects, LockEnd, give, take};
+use pm_meaning::{Attempt, Destination};
 use pm_recipe::Flags;
 use std::alloc::Global;
 
@@ -27,21 +28,17 @@ pub fn attempt<D: Effects>(
     lock: Option<Name>,
     flags: Flags,
     destinations: &[Destination],
-    process: &mut Process,
-    outside: &mut D,
-    journal: &mut Journal,
+    run: &mut Run<D>,
 ) -> Result<Attempt, Memory>
-    requires free { IsFreeLock lock process.old.locks.names }
-    requires keeping { Keeping journal.old process.old.locks.names }
-    ensures carries { Carries (attempted lock flags destinations.now (mind_of process.old))
-        (λ attempt. attempted_of attempt (mind_of process.new)) result
-        journal.old journal.new (D.told outside.old) (D.told outside.new) }
-    ensures untouched { OnErr result (HasNone journal.old journal.new) }
-    ensures keeping { Keeping journal.new process.new.locks.names }
+    requires free { IsFreeLock lock run.old.process.locks.names }
+    ensures carries { Carries (attempted lock flags destinations.now (mind_of run.old.process))
+        (λ attempt. attempted_of attempt (mind_of run.new.process)) result
+        run.old.journal run.new.journal (D.told run.old.outside) (D.told run.new.outside) }
+    ensures untouched { OnErr result (HasNone run.old.journal run.new.journal) }
 {
     match lock {
-        None => file_all(alloc, flags, destinations, process, outside, journal),
-        Some(name) => file_locked(alloc, name, flags, destinations, process, outside, journal),
+        None => file_all(alloc, flags, destinations, run),
+        Some(name) => file_locked(alloc, name, flags, destinations, run),
     }
 }
 
@@ -49,20 +46,17 @@ fn file_all<D: Effects>(
     alloc: Global,
     flags: Flags,
     destinations: &[Destination],
-    process: &mut Process,
-    outside: &mut D,
-    journal: &mut Journal,
+    run: &mut Run<D>,
 ) -> Result<Attempt, Memory>
-    requires keeping { Keeping journal.old process.old.locks.names }
-    ensures carries { Carries (attempted None flags destinations.now (mind_of process.old))
-        (λ attempt. attempted_of attempt (mind_of process.new)) result
-        journal.old journal.new (D.told outside.old) (D.told outside.new) }
-    ensures untouched { OnErr result (HasNone journal.old journal.new) }
-    ensures keeping { Keeping journal.new process.new.locks.names }
+    ensures carries { Carries (attempted None flags destinations.now (mind_of run.old.process))
+        (λ attempt. attempted_of attempt (mind_of run.new.process)) result
+        run.old.journal run.new.journal (D.told run.old.outside) (D.told run.new.outside) }
+    ensures untouched { OnErr result (HasNone run.old.journal run.new.journal) }
 {
-    let copies = copies_for(alloc, flags, destinations, process)?;
-    journal.reserve(room_for(copies.len(), process.locks.len())?)?;
-    let filed = file_each(alloc, flags, copies, process, outside, journal)?;
+    let copies = copies_for(alloc, flags, destinations, &mut run.process)?;
+    let room = room_for(copies.len(), run.process.locks.len())?;
+    run.journal.reserve(room)?;
+    let filed = file_each(alloc, flags, copies, run)?;
     Ok(Attempt::Unlocked(filed))
 }
 
@@ -72,28 +66,37 @@ fn file_locked<D: Effects>(
     name: Name,
     flags: Flags,
     destinations: &[Destination],
-    process: &mut Process,
-    outside: &mut D,
-    journal: &mut Journal,
+    run: &mut Run<D>,
 ) -> Result<Attempt, Memory>
-    requires free { holds_name process.old.locks.names name ≡ false }
-    requires keeping { Keeping journal.old process.old.locks.names }
-    ensures carries { Carries (attempted (Some name) flags destinations.now (mind_of process.old))
-        (λ attempt. attempted_of attempt (mind_of process.new)) result
-        journal.old journal.new (D.told outside.old) (D.told outside.new) }
-    ensures untouched { OnErr result (HasNone journal.old journal.new) }
-    ensures keeping { Keeping journal.new process.new.locks.names }
+    requires free { holds_name run.old.process.locks.names name ≡ false }
+    ensures carries { Carries (attempted (Some name) flags destinations.now (mind_of run.old.process))
+        (λ attempt. attempted_of attempt (mind_of run.new.process)) result
+        run.old.journal run.new.journal (D.told run.old.outside) (D.told run.new.outside) }
+    ensures untouched { OnErr result (HasNone run.old.journal run.new.journal) }
 {
-    let rule = lock_rule(&process.vars);
+    let rule = lock_rule(&run.process.vars);
     let noted = name.copy(alloc)?;
     let kept = name.copy(alloc)?;
-    let copies = copies_for(alloc, flags, destinations, process)?;
-    process.locks.reserve()?;
-    journal.reserve(room_for(copies.len(), process.locks.len() + 2)?)?;
-    match take(&mut process.locks, noted, kept, rule, outside, journal) {
+    let copies = copies_for(alloc, flags, destinations, &mut run.process)?;
+    run.process.locks.reserve()?;
+    let room = room_for(copies.len(), run.process.locks.len() + 2)?;
+    run.journal.reserve(room)?;
+    match take(
+        &mut run.process.locks,
+        noted,
+        kept,
+        rule,
+        &mut run.outside,
+        &mut run.journal,
+    ) {
         LockEnd::Held { forced, .. } => {
-            let filed = file_each(alloc, flags, copies, process, outside, journal)?;
-            let removed = give(&mut process.locks, &name, outside, journal);
+            let filed = file_each(alloc, flags, copies, run)?;
+            let removed = give(
+                &mut run.process.locks,
+                &name,
+                &mut run.outside,
+                &mut run.journal,
+            );
             let stuck = is_stuck(removed);
             Ok(Attempt::Locked {
                 name,

@@ -3,7 +3,6 @@ ghost use Rattle.std.specs.Prelude.{◌≡◌, [], length, OnErr};
 ghost use Rattle.pm_journal.specs.Executed.{Carries};
 ghost use Rattle.pm_subst.specs.Commands.{commands_in};
 ghost use Rattle.pm_subst.specs.declared.kinds.Mode.TheVariants.{One, Many};
-ghost use Rattle.pm_journal.specs.Held.{Keeping};
 ghost use Rattle.pm_recipe.specs.View.{act_of};
 ghost use Rattle.pm_meaning.specs.Acting.{act_on};
 ghost use Rattle.pm_meaning.specs.Locks.{blamed_text as blamed, text_or};
@@ -28,9 +27,10 @@ use crate::locks::{
 };
 use crate::names::destinations;
 use crate::pipes::{capture, forward, pipe, write_out};
+use crate::run::Run;
 use crate::saying::{attempt_lines, say_each};
 use pm_bytes::{Blob, Memory, Name, NameRefused};
-use pm_journal::{Effects, Journal, unusable_name};
+use pm_journal::{Effects, unusable_name};
 use pm_meaning::{
     Attempt, Destination, End, Expansion, Filed, Process, Ready, expand_text, first_word,
     make_ready, skip_value, succeed, tell,
@@ -51,36 +51,32 @@ pub struct Order<'a> {
 pub fn perform<D: Effects>(
     alloc: Global,
     recipe: &Recipe,
-    process: &mut Process,
-    outside: &mut D,
-    journal: &mut Journal,
+    run: &mut Run<D>,
 ) -> Result<Option<End>, Memory>
-    requires keeping { Keeping journal.old process.old.locks.names }
     ensures carries { Carries
-        (act_on (top_of recipe.now) (act_of recipe.now.action) (mind_of process.old))
-        (λ end. turn_of end (mind_of process.new)) result
-        journal.old journal.new (D.told outside.old) (D.told outside.new) }
-    ensures sure { OnErr result (Undelivered recipe.now.flags journal.old journal.new) }
-    ensures keeping { Keeping journal.new process.new.locks.names }
+        (act_on (top_of recipe.now) (act_of recipe.now.action) (mind_of run.old.process))
+        (λ end. turn_of end (mind_of run.new.process)) result
+        run.old.journal run.new.journal (D.told run.old.outside) (D.told run.new.outside) }
+    ensures sure { OnErr result (Undelivered recipe.now.flags run.old.journal run.new.journal) }
 {
     match &recipe.action {
         Action::Mailbox(text) => {
             let order = order_of(recipe, text);
-            deliver_mail(alloc, &order, process, outside, journal)
+            deliver_mail(alloc, &order, run)
         }
         Action::Pipe(line) => {
             let order = order_of(recipe, line);
-            pipe(alloc, &order, process, outside, journal)
+            pipe(alloc, &order, run)
         }
         Action::Capture { name, line } => {
             let order = order_of(recipe, line);
-            capture(alloc, &order, name, process, outside, journal)
+            capture(alloc, &order, name, run)
         }
         Action::Forward(text) => {
             let order = order_of(recipe, text);
-            forward(alloc, &order, process, outside, journal)
+            forward(alloc, &order, run)
         }
-        Action::WriteOut => write_out(alloc, recipe.flags, &recipe.lock, process, outside, journal),
+        Action::WriteOut => write_out(alloc, recipe.flags, &recipe.lock, run),
         Action::Block(_) => Ok(None),
     }
 }
@@ -101,16 +97,12 @@ fn order_of<'a>(recipe: &'a Recipe, text: &'a Blob) -> Order<'a>
 pub fn deliver_default<D: Effects>(
     alloc: Global,
     mailbox: &Blob,
-    process: &mut Process,
-    outside: &mut D,
-    journal: &mut Journal,
+    run: &mut Run<D>,
 ) -> Result<Option<End>, Memory>
-    requires keeping { Keeping journal.old process.old.locks.names }
-    ensures carries { Carries (to_default mailbox.now (mind_of process.old))
-        (λ end. turn_of end (mind_of process.new)) result
-        journal.old journal.new (D.told outside.old) (D.told outside.new) }
-    ensures sure { OnErr result (Undelivered none_flags journal.old journal.new) }
-    ensures keeping { Keeping journal.new process.new.locks.names }
+    ensures carries { Carries (to_default mailbox.now (mind_of run.old.process))
+        (λ end. turn_of end (mind_of run.new.process)) result
+        run.old.journal run.new.journal (D.told run.old.outside) (D.told run.new.outside) }
+    ensures sure { OnErr result (Undelivered none_flags run.old.journal run.new.journal) }
 {
     let lock = Some(Blob::empty(alloc));
     let word = mailbox.copy(alloc)?;
@@ -119,15 +111,7 @@ pub fn deliver_default<D: Effects>(
         lock: &lock,
         text: mailbox.as_slice(),
     };
-    deliver_to_words(
-        alloc,
-        &order,
-        Blob::empty(alloc),
-        &[word],
-        process,
-        outside,
-        journal,
-    )
+    deliver_to_words(alloc, &order, Blob::empty(alloc), &[word], run)
 }
 
 // The flags of a recipe that has no letters.
@@ -157,17 +141,13 @@ fn no_flags() -> Flags
 fn deliver_mail<D: Effects>(
     alloc: Global,
     order: &Order<'_>,
-    process: &mut Process,
-    outside: &mut D,
-    journal: &mut Journal,
+    run: &mut Run<D>,
 ) -> Result<Option<End>, Memory>
-    requires keeping { Keeping journal.old process.old.locks.names }
     ensures carries { let o = order.now in
-        Carries (deliver o.flags o.lock.now o.text.now (mind_of process.old))
-        (λ end. turn_of end (mind_of process.new)) result
-        journal.old journal.new (D.told outside.old) (D.told outside.new) }
-    ensures sure { OnErr result (Undelivered order.now.flags journal.old journal.new) }
-    ensures keeping { Keeping journal.new process.new.locks.names }
+        Carries (deliver o.flags o.lock.now o.text.now (mind_of run.old.process))
+        (λ end. turn_of end (mind_of run.new.process)) result
+        run.old.journal run.new.journal (D.told run.old.outside) (D.told run.new.outside) }
+    ensures sure { OnErr result (Undelivered order.now.flags run.old.journal run.new.journal) }
 {
     let lock_commands = commands(alloc, lock_text(order.lock), Mode::One)?;
     let text_commands = commands(alloc, order.text, Mode::Many)?;
@@ -175,11 +155,11 @@ fn deliver_mail<D: Effects>(
         alloc,
         lock_commands.as_slice(),
         text_commands.as_slice(),
-        process,
-        outside,
-        journal,
+        &mut run.process,
+        &mut run.outside,
+        &mut run.journal,
     )?;
-    deliver_ready(alloc, order, &ready, process, outside, journal)
+    deliver_ready(alloc, order, &ready, run)
 }
 
 // Expands the text of the lock file, and then delivers.
@@ -187,34 +167,36 @@ fn deliver_ready<D: Effects>(
     alloc: Global,
     order: &Order<'_>,
     ready: &Ready,
-    process: &mut Process,
-    outside: &mut D,
-    journal: &mut Journal,
+    run: &mut Run<D>,
 ) -> Result<Option<End>, Memory>
     requires locks { length ready.now.lock_outputs.items ≡ length (commands_in One (text_or [] order.now.lock.now)) }
     requires each { length ready.now.outputs.items ≡ length (commands_in Many order.now.text.now) }
-    requires keeping { Keeping journal.old process.old.locks.names }
     ensures carries { let o = order.now in
-        Carries (deliver_with o.flags o.lock.now o.text.now (ready_of ready.now (mind_of process.old)))
-        (λ end. turn_of end (mind_of process.new)) result
-        journal.old journal.new (D.told outside.old) (D.told outside.new) }
-    ensures sure { OnErr result (Undelivered order.now.flags journal.old journal.new) }
-    ensures keeping { Keeping journal.new process.new.locks.names }
+        Carries (deliver_with o.flags o.lock.now o.text.now (ready_of ready.now (mind_of run.old.process)))
+        (λ end. turn_of end (mind_of run.new.process)) result
+        run.old.journal run.new.journal (D.told run.old.outside) (D.told run.new.outside) }
+    ensures sure { OnErr result (Undelivered order.now.flags run.old.journal run.new.journal) }
 {
     let lock = lock_text(order.lock);
     match expand_text(
         alloc,
         lock,
         Mode::One,
-        &process.vars,
+        &run.process.vars,
         ready.lock_outputs.as_slice(),
     )? {
         Expansion::Words(words) => {
             let value = first_word(alloc, words);
             let outputs = ready.outputs.as_slice();
-            deliver_text(alloc, order, value, outputs, process, outside, journal)
+            deliver_text(alloc, order, value, outputs, run)
         }
-        Expansion::TooLong(length) => skip_value(alloc, length, process, outside, journal),
+        Expansion::TooLong(length) => skip_value(
+            alloc,
+            length,
+            &mut run.process,
+            &mut run.outside,
+            &mut run.journal,
+        ),
     }
 }
 
@@ -224,32 +206,24 @@ fn deliver_text<D: Effects>(
     order: &Order<'_>,
     value: Blob,
     outputs: &[Blob],
-    process: &mut Process,
-    outside: &mut D,
-    journal: &mut Journal,
+    run: &mut Run<D>,
 ) -> Result<Option<End>, Memory>
     requires each { length outputs.now ≡ length (commands_in Many order.now.text.now) }
-    requires keeping { Keeping journal.old process.old.locks.names }
     ensures carries { let o = order.now in
-        Carries (by_value o.flags o.lock.now value o.text.now outputs.now (mind_of process.old))
-        (λ end. turn_of end (mind_of process.new)) result
-        journal.old journal.new (D.told outside.old) (D.told outside.new) }
-    ensures sure { OnErr result (Undelivered order.now.flags journal.old journal.new) }
-    ensures keeping { Keeping journal.new process.new.locks.names }
+        Carries (by_value o.flags o.lock.now value o.text.now outputs.now (mind_of run.old.process))
+        (λ end. turn_of end (mind_of run.new.process)) result
+        run.old.journal run.new.journal (D.told run.old.outside) (D.told run.new.outside) }
+    ensures sure { OnErr result (Undelivered order.now.flags run.old.journal run.new.journal) }
 {
-    match expand_text(alloc, order.text, Mode::Many, &process.vars, outputs)? {
-        Expansion::Words(words) => {
-            deliver_to_words(
-                alloc,
-                order,
-                value,
-                words.as_slice(),
-                process,
-                outside,
-                journal,
-            )
-        }
-        Expansion::TooLong(length) => skip_value(alloc, length, process, outside, journal),
+    match expand_text(alloc, order.text, Mode::Many, &run.process.vars, outputs)? {
+        Expansion::Words(words) => { deliver_to_words(alloc, order, value, words.as_slice(), run) }
+        Expansion::TooLong(length) => skip_value(
+            alloc,
+            length,
+            &mut run.process,
+            &mut run.outside,
+            &mut run.journal,
+        ),
     }
 }
 
@@ -259,27 +233,23 @@ fn deliver_to_words<D: Effects>(
     order: &Order<'_>,
     value: Blob,
     words: &[Blob],
-    process: &mut Process,
-    outside: &mut D,
-    journal: &mut Journal,
+    run: &mut Run<D>,
 ) -> Result<Option<End>, Memory>
-    requires keeping { Keeping journal.old process.old.locks.names }
     ensures carries { let o = order.now in
-        Carries (to_words o.flags o.lock.now value o.text.now words.now (mind_of process.old))
-        (λ end. turn_of end (mind_of process.new)) result
-        journal.old journal.new (D.told outside.old) (D.told outside.new) }
-    ensures sure { OnErr result (Undelivered order.now.flags journal.old journal.new) }
-    ensures keeping { Keeping journal.new process.new.locks.names }
+        Carries (to_words o.flags o.lock.now value o.text.now words.now (mind_of run.old.process))
+        (λ end. turn_of end (mind_of run.new.process)) result
+        run.old.journal run.new.journal (D.told run.old.outside) (D.told run.new.outside) }
+    ensures sure { OnErr result (Undelivered order.now.flags run.old.journal run.new.journal) }
 {
     if words.len() == 0 {
-        return refuse(alloc, order.text, process, outside, journal);
+        return refuse(alloc, order.text, run);
     }
-    let word = lock_word(alloc, order.lock, value, words, process)?;
+    let word = lock_word(alloc, order.lock, value, words, &run.process)?;
     match lock_name(alloc, word) {
-        Ok(lock) => deliver_named(alloc, order, lock, words, process, outside, journal),
+        Ok(lock) => deliver_named(alloc, order, lock, words, run),
         Err(NameRefused::Unusable) => {
             let text = blamed_text(order.lock, order.text);
-            refuse(alloc, text, process, outside, journal)
+            refuse(alloc, text, run)
         }
         Err(NameRefused::Memory) => Err(Memory),
     }
@@ -291,31 +261,20 @@ fn deliver_named<D: Effects>(
     order: &Order<'_>,
     lock: Option<Name>,
     words: &[Blob],
-    process: &mut Process,
-    outside: &mut D,
-    journal: &mut Journal,
+    run: &mut Run<D>,
 ) -> Result<Option<End>, Memory>
-    requires keeping { Keeping journal.old process.old.locks.names }
     ensures carries { let o = order.now in
-        Carries (to_usable o.flags lock (blamed o.lock.now o.text.now) o.text.now words.now (mind_of process.old))
-        (λ end. turn_of end (mind_of process.new)) result
-        journal.old journal.new (D.told outside.old) (D.told outside.new) }
-    ensures sure { OnErr result (Undelivered order.now.flags journal.old journal.new) }
-    ensures keeping { Keeping journal.new process.new.locks.names }
+        Carries (to_usable o.flags lock (blamed o.lock.now o.text.now) o.text.now words.now
+        (mind_of run.old.process))
+        (λ end. turn_of end (mind_of run.new.process)) result
+        run.old.journal run.new.journal (D.told run.old.outside) (D.told run.new.outside) }
+    ensures sure { OnErr result (Undelivered order.now.flags run.old.journal run.new.journal) }
 {
     match destinations(alloc, words)? {
-        None => refuse(alloc, order.text, process, outside, journal),
+        None => refuse(alloc, order.text, run),
         Some(all) => {
-            let lock = full_lock(alloc, &process.base, lock)?;
-            deliver_at(
-                alloc,
-                order,
-                lock,
-                all.as_slice(),
-                process,
-                outside,
-                journal,
-            )
+            let lock = full_lock(alloc, &run.process.base, lock)?;
+            deliver_at(alloc, order, lock, all.as_slice(), run)
         }
     }
 }
@@ -326,27 +285,24 @@ fn deliver_at<D: Effects>(
     order: &Order<'_>,
     lock: Option<Name>,
     destinations: &[Destination],
-    process: &mut Process,
-    outside: &mut D,
-    journal: &mut Journal,
+    run: &mut Run<D>,
 ) -> Result<Option<End>, Memory>
-    requires keeping { Keeping journal.old process.old.locks.names }
     ensures carries { let o = order.now in
-        Carries (to_names o.flags lock (blamed o.lock.now o.text.now) o.text.now destinations.now (mind_of process.old))
-        (λ end. turn_of end (mind_of process.new)) result
-        journal.old journal.new (D.told outside.old) (D.told outside.new) }
-    ensures sure { OnErr result (Undelivered order.now.flags journal.old journal.new) }
-    ensures keeping { Keeping journal.new process.new.locks.names }
+        Carries (to_names o.flags lock (blamed o.lock.now o.text.now) o.text.now destinations.now
+        (mind_of run.old.process))
+        (λ end. turn_of end (mind_of run.new.process)) result
+        run.old.journal run.new.journal (D.told run.old.outside) (D.told run.new.outside) }
+    ensures sure { OnErr result (Undelivered order.now.flags run.old.journal run.new.journal) }
 {
-    let files = full_names(alloc, &process.base, destinations)?;
-    if is_taken(&lock, files.as_slice(), &process.locks) {
+    let files = full_names(alloc, &run.process.base, destinations)?;
+    if is_taken(&lock, files.as_slice(), &run.process.locks) {
         let text = blamed_text(order.lock, order.text);
-        return refuse(alloc, text, process, outside, journal);
+        return refuse(alloc, text, run);
     }
-    if any_held(files.as_slice(), &process.locks) {
-        return refuse(alloc, order.text, process, outside, journal);
+    if any_held(files.as_slice(), &run.process.locks) {
+        return refuse(alloc, order.text, run);
     }
-    file_and_say(alloc, lock, order, destinations, process, outside, journal)
+    file_and_say(alloc, lock, order, destinations, run)
 }
 
 // Delivers, and says what came of it.
@@ -355,51 +311,48 @@ fn file_and_say<D: Effects>(
     lock: Option<Name>,
     order: &Order<'_>,
     destinations: &[Destination],
-    process: &mut Process,
-    outside: &mut D,
-    journal: &mut Journal,
+    run: &mut Run<D>,
 ) -> Result<Option<End>, Memory>
-    requires free { IsFreeLock lock process.old.locks.names }
-    requires keeping { Keeping journal.old process.old.locks.names }
+    requires free { IsFreeLock lock run.old.process.locks.names }
     ensures carries { let o = order.now in
-        Carries (filed_and_said o.flags lock o.text.now destinations.now (mind_of process.old))
-        (λ end. turn_of end (mind_of process.new)) result
-        journal.old journal.new (D.told outside.old) (D.told outside.new) }
-    ensures sure { OnErr result (Undelivered order.now.flags journal.old journal.new) }
-    ensures keeping { Keeping journal.new process.new.locks.names }
+        Carries (filed_and_said o.flags lock o.text.now destinations.now (mind_of run.old.process))
+        (λ end. turn_of end (mind_of run.new.process)) result
+        run.old.journal run.new.journal (D.told run.old.outside) (D.told run.new.outside) }
+    ensures sure { OnErr result (Undelivered order.now.flags run.old.journal run.new.journal) }
 {
-    let attempt = attempt(
-        alloc,
-        lock,
-        order.flags,
-        destinations,
-        process,
-        outside,
-        journal,
-    )?;
-    settle(&attempt, process);
+    let attempt = attempt(alloc, lock, order.flags, destinations, run)?;
+    settle(&attempt, &mut run.process);
     let end = end_of(order.flags, &attempt);
     let mut lines = attempt_lines(alloc, order.text, &attempt)?;
-    push_copy(alloc, is_done(&attempt), order.flags, process, &mut lines)?;
-    say_each(alloc, lines, end, process, outside, journal)
+    push_copy(
+        alloc,
+        is_done(&attempt),
+        order.flags,
+        &run.process,
+        &mut lines,
+    )?;
+    say_each(alloc, lines, end, run)
 }
 
 /// The name of a file can't be used: this is told of the text.
 pub fn refuse<D: Effects>(
     alloc: Global,
     text: &[u8],
-    process: &Process,
-    outside: &mut D,
-    journal: &mut Journal,
+    run: &mut Run<D>,
 ) -> Result<Option<End>, Memory>
-    requires keeping { Keeping journal.old process.now.locks.names }
-    ensures carries { Carries (refuse_name text.now (mind_of process.now))
-        (λ end. turn_of end (mind_of process.now)) result
-        journal.old journal.new (D.told outside.old) (D.told outside.new) }
-    ensures keeping { Keeping journal.new process.now.locks.names }
+    ensures carries { Carries (refuse_name text.now (mind_of run.old.process))
+        (λ end. turn_of end (mind_of run.new.process)) result
+        run.old.journal run.new.journal (D.told run.old.outside) (D.told run.new.outside) }
+    ensures same { run.new.process ≡ run.old.process }
 {
     let line = unusable_name(alloc, text)?;
-    tell(alloc, process, line, outside, journal)?;
+    tell(
+        alloc,
+        &run.process,
+        line,
+        &mut run.outside,
+        &mut run.journal,
+    )?;
     Ok(None)
 }
 

@@ -2,7 +2,6 @@
 //! for a delivery is taken before, so that none can be wanting after it.
 ghost use Rattle.std.specs.Prelude.{◌≡◌, ◌+◌, ◌≤◌, ℕ, List, codes, length, IfOk, OnErr, false};
 ghost use Rattle.pm_journal.specs.Executed.{Carries, Executes};
-ghost use Rattle.pm_journal.specs.Held.{Keeping};
 ghost use Rattle.pm_journal.specs.Plan.{Plan};
 ghost use Rattle.pm_meaning.specs.Minds.{Mind, mind_of};
 ghost use Rattle.pm_meaning.specs.ProgramActions.{Tried, feed as fed_by, write as written, fed_piece as piece_fed, work_of};
@@ -13,10 +12,11 @@ use crate::ends::{feed_outcome, is_fine, write_outcome};
 use crate::filing::fed_parts;
 use crate::filtering::{capture, filter};
 use crate::kept::{Kept, keep, remembering};
+use crate::run::Run;
 use crate::tasks::{Purpose, Task};
 use pm_bytes::{Blob, Memory};
 use pm_host::Command;
-use pm_journal::{Effects, Journal};
+use pm_journal::Effects;
 use pm_meaning::{Outcome, Process, note_code};
 use pm_recipe::Flags;
 use std::alloc::Global;
@@ -103,38 +103,29 @@ pub fn carry<D: Effects>(
     alloc: Global,
     errand: Errand,
     flags: Flags,
-    process: &mut Process,
-    outside: &mut D,
-    journal: &mut Journal,
+    run: &mut Run<D>,
 ) -> Result<Outcome, Memory>
-    requires keeping { Keeping journal.old process.old.locks.names }
-    requires room { length process.old.locks.names + 1 ≤ journal.old.room }
-    ensures carries { (work : Mind → Plan Tried) → IsWork flags errand process.old.vars work
-        → Carries (work (mind_of process.old)) (λ outcome. tried_of outcome (mind_of process.new)) result
-        journal.old journal.new (D.told outside.old) (D.told outside.new) }
+    requires room { length run.old.process.locks.names + 1 ≤ run.old.journal.room }
+    ensures carries { (work : Mind → Plan Tried) → IsWork flags errand run.old.process.vars work
+        → Carries (work (mind_of run.old.process))
+        (λ outcome. tried_of outcome (mind_of run.new.process)) result
+        run.old.journal run.new.journal (D.told run.old.outside) (D.told run.new.outside) }
     ensures sure { OnErr result (is_for_good errand ≡ false) }
-    ensures locks { process.new.locks ≡ process.old.locks }
-    ensures keeping { Keeping journal.new process.new.locks.names }
+    ensures locks { run.new.process.locks ≡ run.old.process.locks }
 {
     match errand {
         Errand::Feed {
             command,
             input,
             kept,
-        } => Ok(feed(
-            alloc, command, input, kept, flags, process, outside, journal,
-        )),
-        Errand::Filter { command, input } => {
-            filter(alloc, command, input, flags, process, outside, journal)
-        }
+        } => Ok(feed(alloc, command, input, kept, flags, run)),
+        Errand::Filter { command, input } => filter(alloc, command, input, flags, run),
         Errand::Capture {
             command,
             input,
             name,
-        } => capture(
-            alloc, command, input, name, flags, process, outside, journal,
-        ),
-        Errand::Write { piece, kept } => Ok(write(piece, kept, process, outside, journal)),
+        } => capture(alloc, command, input, name, flags, run),
+        Errand::Write { piece, kept } => Ok(write(piece, kept, run)),
     }
 }
 
@@ -144,46 +135,36 @@ fn feed<D: Effects>(
     input: Blob,
     kept: Kept,
     flags: Flags,
-    process: &mut Process,
-    outside: &mut D,
-    journal: &mut Journal,
+    run: &mut Run<D>,
 ) -> Outcome
-    requires keeping { Keeping journal.old process.old.locks.names }
-    requires room { length process.old.locks.names + 1 ≤ journal.old.room }
-    ensures feeds { (folder : List ℕ) → kept ≡ remembered folder (length input) process.old.vars
-        → Executes (fed_by flags folder command input (mind_of process.old)) (tried_of result (mind_of process.new))
-        journal.old journal.new (D.told outside.old) (D.told outside.new) }
-    ensures locks { process.new.locks ≡ process.old.locks }
-    ensures keeping { Keeping journal.new process.new.locks.names }
+    requires room { length run.old.process.locks.names + 1 ≤ run.old.journal.room }
+    ensures feeds { (folder : List ℕ) → kept ≡ remembered folder (length input) run.old.process.vars
+        → Executes (fed_by flags folder command input (mind_of run.old.process))
+        (tried_of result (mind_of run.new.process))
+        run.old.journal run.new.journal (D.told run.old.outside) (D.told run.new.outside) }
+    ensures locks { run.new.process.locks ≡ run.old.process.locks }
 {
     let count = input.len() as u64;
-    let end = match outside.run(alloc, journal, command, input, false) {
+    let journal = &mut run.journal;
+    let end = match run.outside.run(alloc, journal, command, input, false) {
         Ok(end) => end,
         Err(Memory) => unreachable!(),
     };
     let outcome = feed_outcome(flags, count, end);
-    keep_if(outcome, kept, process);
-    note_code(end, process);
+    keep_if(outcome, kept, &mut run.process);
+    note_code(end, &mut run.process);
     outcome
 }
 
-fn write<D: Effects>(
-    piece: Blob,
-    kept: Kept,
-    process: &mut Process,
-    outside: &mut D,
-    journal: &mut Journal,
-) -> Outcome
-    requires keeping { Keeping journal.old process.old.locks.names }
-    requires room { length process.old.locks.names + 1 ≤ journal.old.room }
-    ensures writes { kept ≡ remembered (codes "|") (length piece) process.old.vars
-        → Executes (written piece (mind_of process.old)) (tried_of result (mind_of process.new))
-        journal.old journal.new (D.told outside.old) (D.told outside.new) }
-    ensures locks { process.new.locks ≡ process.old.locks }
-    ensures keeping { Keeping journal.new process.new.locks.names }
+fn write<D: Effects>(piece: Blob, kept: Kept, run: &mut Run<D>) -> Outcome
+    requires room { length run.old.process.locks.names + 1 ≤ run.old.journal.room }
+    ensures writes { kept ≡ remembered (codes "|") (length piece) run.old.process.vars
+        → Executes (written piece (mind_of run.old.process)) (tried_of result (mind_of run.new.process))
+        run.old.journal run.new.journal (D.told run.old.outside) (D.told run.new.outside) }
+    ensures locks { run.new.process.locks ≡ run.old.process.locks }
 {
-    let outcome = write_outcome(outside.write_out(journal, piece));
-    keep_if(outcome, kept, process);
+    let outcome = write_outcome(run.outside.write_out(&mut run.journal, piece));
+    keep_if(outcome, kept, &mut run.process);
     outcome
 }
 

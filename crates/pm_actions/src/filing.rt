@@ -4,7 +4,6 @@ ghost use Rattle.std.specs.Prelude.{◌≡◌, ◌+◌, ◌*◌, ◌≤◌, leng
 ghost use Rattle.pm_bytes.specs.Path.{full_name};
 ghost use Rattle.pm_journal.specs.Appending.{append_reply};
 ghost use Rattle.pm_journal.specs.Executed.{Carries};
-ghost use Rattle.pm_journal.specs.Held.{Keeping};
 ghost use Rattle.pm_meaning.specs.Delivering.{feed_of, folder_piece, file_size as size_of_file};
 ghost use Rattle.pm_meaning.specs.Delivering.{file_all, to_file, in_plain, is_stored as is_stored_by};
 ghost use Rattle.pm_meaning.specs.Locks.{is_nothing as is_null_device};
@@ -17,8 +16,9 @@ ghost use Rattle.pm_actions.specs.Filing.{is_folder_there, filed_by, mind_after,
 use crate::kept::{Kept, keep, remembering};
 use crate::names::plain_prefix;
 use crate::placing::{FolderCopy, file_in_folder};
+use crate::run::Run;
 use pm_bytes::{Blob, Memory, Name, full};
-use pm_journal::{AppendEnd, Effects, FolderKind, Journal};
+use pm_journal::{AppendEnd, Effects, FolderKind};
 use pm_meaning::{Destination, Filed, Process, is_nothing};
 use pm_message::Feed;
 use pm_recipe::Flags;
@@ -207,23 +207,20 @@ pub fn file_each<D: Effects>(
     alloc: Global,
     flags: Flags,
     mut copies: VecDeque<Copy>,
-    process: &mut Process,
-    outside: &mut D,
-    journal: &mut Journal,
+    run: &mut Run<D>,
 ) -> Result<Filed, Memory>
-    requires keeping { Keeping journal.old process.old.locks.names }
-    requires room { length process.old.locks.names + 3 * length copies.items ≤ journal.old.room }
+    requires room { length run.old.process.locks.names + 3 * length copies.items ≤ run.old.journal.room }
     requires shown { AllShown copies.items }
-    ensures carries { (destinations : List Asked) → copies.items ≡ map (copy_for flags (mind_of process.old)) destinations
-        → Carries (file_all flags destinations (mind_of process.old))
-        (λ filed. filing_of filed (mind_of process.new)) result
-        journal.old journal.new (D.told outside.old) (D.told outside.new) }
-    ensures locks { process.new.locks ≡ process.old.locks }
-    ensures keeping { Keeping journal.new process.new.locks.names }
-    ensures met { OnErr result (HasMet journal.old journal.new) }
+    ensures carries { (destinations : List Asked)
+        → copies.items ≡ map (copy_for flags (mind_of run.old.process)) destinations
+        → Carries (file_all flags destinations (mind_of run.old.process))
+        (λ filed. filing_of filed (mind_of run.new.process)) result
+        run.old.journal run.new.journal (D.told run.old.outside) (D.told run.new.outside) }
+    ensures locks { run.new.process.locks ≡ run.old.process.locks }
+    ensures met { OnErr result (HasMet run.old.journal run.new.journal) }
 {
     while let Some(copy) = copies.pop_front() {
-        let filed = file_copy(alloc, flags, copy, process, outside, journal)?;
+        let filed = file_copy(alloc, flags, copy, run)?;
         if !is_stored(&filed) {
             return Ok(filed);
         }
@@ -235,24 +232,20 @@ fn file_copy<D: Effects>(
     alloc: Global,
     flags: Flags,
     copy: Copy,
-    process: &mut Process,
-    outside: &mut D,
-    journal: &mut Journal,
+    run: &mut Run<D>,
 ) -> Result<Filed, Memory>
-    requires keeping { Keeping journal.old process.old.locks.names }
-    requires room { length process.old.locks.names + 3 ≤ journal.old.room }
+    requires room { length run.old.process.locks.names + 3 ≤ run.old.journal.room }
     requires shown { IsShown copy }
-    ensures carries { Carries (copy_filed flags copy (mind_of process.old))
-        (λ filed. filing_of filed (mind_of process.new)) result
-        journal.old journal.new (D.told outside.old) (D.told outside.new) }
-    ensures locks { process.new.locks ≡ process.old.locks }
-    ensures keeping { Keeping journal.new process.new.locks.names }
-    ensures room { IfOk result (λ _. journal.old.room ≤ journal.new.room + 3) }
-    ensures met { OnErr result (HasMet journal.old journal.new) }
+    ensures carries { Carries (copy_filed flags copy (mind_of run.old.process))
+        (λ filed. filing_of filed (mind_of run.new.process)) result
+        run.old.journal run.new.journal (D.told run.old.outside) (D.told run.new.outside) }
+    ensures locks { run.new.process.locks ≡ run.old.process.locks }
+    ensures room { IfOk result (λ _. run.old.journal.room ≤ run.new.journal.room + 3) }
+    ensures met { OnErr result (HasMet run.old.journal run.new.journal) }
 {
     match copy {
-        Copy::ToFile(copy) => append_copy(alloc, flags, copy, process, outside, journal),
-        Copy::ToFolder(copy) => file_in_folder(alloc, copy, process, outside, journal),
+        Copy::ToFile(copy) => append_copy(alloc, flags, copy, run),
+        Copy::ToFolder(copy) => file_in_folder(alloc, copy, run),
     }
 }
 
@@ -261,21 +254,17 @@ fn append_copy<D: Effects>(
     alloc: Global,
     flags: Flags,
     copy: FileCopy,
-    process: &mut Process,
-    outside: &mut D,
-    journal: &mut Journal,
+    run: &mut Run<D>,
 ) -> Result<Filed, Memory>
-    requires keeping { Keeping journal.old process.old.locks.names }
-    requires room { length process.old.locks.names + 3 ≤ journal.old.room }
+    requires room { length run.old.process.locks.names + 3 ≤ run.old.journal.room }
     requires shown { copy.shown ≡ copy.name }
-    ensures carries { let p = mind_of process.old in
+    ensures carries { let p = mind_of run.old.process in
         Carries (to_file flags copy.name copy.piece (with_kept copy.kept p) p)
-        (λ filed. filing_of filed (mind_of process.new)) result
-        journal.old journal.new (D.told outside.old) (D.told outside.new) }
-    ensures locks { process.new.locks ≡ process.old.locks }
-    ensures keeping { Keeping journal.new process.new.locks.names }
-    ensures room { IfOk result (λ _. journal.old.room ≤ journal.new.room + 3) }
-    ensures met { OnErr result (HasMet journal.old journal.new) }
+        (λ filed. filing_of filed (mind_of run.new.process)) result
+        run.old.journal run.new.journal (D.told run.old.outside) (D.told run.new.outside) }
+    ensures locks { run.new.process.locks ≡ run.old.process.locks }
+    ensures room { IfOk result (λ _. run.old.journal.room ≤ run.new.journal.room + 3) }
+    ensures met { OnErr result (HasMet run.old.journal run.new.journal) }
 {
     let FileCopy {
         name,
@@ -284,15 +273,15 @@ fn append_copy<D: Effects>(
         kept,
     } = copy;
     if is_nothing(&name) {
-        keep(kept, process);
+        keep(kept, &mut run.process);
         return Ok(Filed::Stored);
     }
-    let end = outside.append(journal, name, piece);
+    let end = run.outside.append(&mut run.journal, name, piece);
     if is_folder(end) {
-        return file_plain(alloc, flags, shown, process, outside, journal);
+        return file_plain(alloc, flags, shown, run);
     }
     let filed = filed_of(end, shown);
-    remember(&filed, kept, process);
+    remember(&filed, kept, &mut run.process);
     Ok(filed)
 }
 
@@ -301,24 +290,20 @@ fn file_plain<D: Effects>(
     alloc: Global,
     flags: Flags,
     folder: Name,
-    process: &mut Process,
-    outside: &mut D,
-    journal: &mut Journal,
+    run: &mut Run<D>,
 ) -> Result<Filed, Memory>
-    requires keeping { Keeping journal.old process.old.locks.names }
-    requires room { length process.old.locks.names + 2 ≤ journal.old.room }
-    ensures carries { Carries (in_plain flags folder (mind_of process.old))
-        (λ filed. filing_of filed (mind_of process.new)) result
-        journal.old journal.new (D.told outside.old) (D.told outside.new) }
-    ensures locks { process.new.locks ≡ process.old.locks }
-    ensures keeping { Keeping journal.new process.new.locks.names }
-    ensures room { IfOk result (λ _. journal.old.room ≤ journal.new.room + 2) }
+    requires room { length run.old.process.locks.names + 2 ≤ run.old.journal.room }
+    ensures carries { Carries (in_plain flags folder (mind_of run.old.process))
+        (λ filed. filing_of filed (mind_of run.new.process)) result
+        run.old.journal run.new.journal (D.told run.old.outside) (D.told run.new.outside) }
+    ensures locks { run.new.process.locks ≡ run.old.process.locks }
+    ensures room { IfOk result (λ _. run.old.journal.room ≤ run.new.journal.room + 2) }
 {
-    match plain_prefix(alloc, &process.vars)? {
+    match plain_prefix(alloc, &run.process.vars)? {
         None => Ok(Filed::Unnamed),
         Some(prefix) => {
             let shown = folder.copy(alloc)?;
-            let piece = own_piece(alloc, flags, process)?;
+            let piece = own_piece(alloc, flags, &run.process)?;
             let copy = FolderCopy {
                 kind: FolderKind::Plain,
                 folder,
@@ -326,7 +311,7 @@ fn file_plain<D: Effects>(
                 prefix,
                 piece,
             };
-            file_in_folder(alloc, copy, process, outside, journal)
+            file_in_folder(alloc, copy, run)
         }
     }
 }

@@ -2,7 +2,6 @@
 //! variable (procmailrc(5), "Recipe flags" and "Recipe action line"). Memory can be wanting after their run.
 ghost use Rattle.std.specs.Prelude.{◌≡◌, ◌++◌, ◌+◌, ℕ, List, [], length, nat_lt, IfOk, OnOk};
 ghost use Rattle.pm_journal.specs.Executed.{Carries};
-ghost use Rattle.pm_journal.specs.Held.{Keeping};
 ghost use Rattle.pm_journal.specs.Outcomes.{last_output as output_of_last};
 ghost use Rattle.pm_meaning.specs.Changes.{overflowed};
 ghost use Rattle.pm_meaning.specs.Delivering.{feed_of};
@@ -15,9 +14,10 @@ ghost use Rattle.pm_actions.specs.Errands.{tried_of};
 
 use crate::ends::{end_outcome, feed_outcome, is_fine};
 use crate::filing::fed_parts;
+use crate::run::Run;
 use pm_bytes::{Blob, Memory};
 use pm_host::Command;
-use pm_journal::{Effects, Journal, RunEnd, run};
+use pm_journal::{Effects, Journal, RunEnd};
 use pm_meaning::{Outcome, Process, note_code};
 use pm_message::{Feed, Mail, Message};
 use pm_recipe::Flags;
@@ -36,23 +36,27 @@ pub fn filter<D: Effects>(
     command: Command,
     input: Blob,
     flags: Flags,
-    process: &mut Process,
-    outside: &mut D,
-    journal: &mut Journal,
+    run: &mut Run<D>,
 ) -> Result<Outcome, Memory>
-    requires keeping { Keeping journal.old process.old.locks.names }
-    ensures carries { Carries (filter_mail flags command input (mind_of process.old))
-        (λ outcome. tried_of outcome (mind_of process.new)) result
-        journal.old journal.new (D.told outside.old) (D.told outside.new) }
-    ensures locks { process.new.locks ≡ process.old.locks }
-    ensures keeping { Keeping journal.new process.new.locks.names }
+    ensures carries { Carries (filter_mail flags command input (mind_of run.old.process))
+        (λ outcome. tried_of outcome (mind_of run.new.process)) result
+        run.old.journal run.new.journal (D.told run.old.outside) (D.told run.new.outside) }
+    ensures locks { run.new.process.locks ≡ run.old.process.locks }
 {
     let count = input.len() as u64;
-    let locks = &process.locks;
-    let end = run(alloc, locks, command, input, true, outside, journal)?;
-    note_code(end, process);
+    let locks = &run.process.locks;
+    let end = pm_journal::run(
+        alloc,
+        locks,
+        command,
+        input,
+        true,
+        &mut run.outside,
+        &mut run.journal,
+    )?;
+    note_code(end, &mut run.process);
     let fed = feed_outcome(flags, count, end);
-    take_mail(alloc, flags, fed, journal, process)
+    take_mail(alloc, flags, fed, &run.journal, &mut run.process)
 }
 
 /// Runs a program whose output is for the variable of this name.
@@ -62,27 +66,31 @@ pub fn capture<D: Effects>(
     input: Blob,
     name: Blob,
     flags: Flags,
-    process: &mut Process,
-    outside: &mut D,
-    journal: &mut Journal,
+    run: &mut Run<D>,
 ) -> Result<Outcome, Memory>
-    requires keeping { Keeping journal.old process.old.locks.names }
-    ensures carries { Carries (output_captured flags name command input (mind_of process.old))
-        (λ outcome. tried_of outcome (mind_of process.new)) result
-        journal.old journal.new (D.told outside.old) (D.told outside.new) }
-    ensures locks { process.new.locks ≡ process.old.locks }
-    ensures keeping { Keeping journal.new process.new.locks.names }
+    ensures carries { Carries (output_captured flags name command input (mind_of run.old.process))
+        (λ outcome. tried_of outcome (mind_of run.new.process)) result
+        run.old.journal run.new.journal (D.told run.old.outside) (D.told run.new.outside) }
+    ensures locks { run.new.process.locks ≡ run.old.process.locks }
 {
-    let locks = &process.locks;
-    let end = run(alloc, locks, command, input, true, outside, journal)?;
-    note_code(end, process);
+    let locks = &run.process.locks;
+    let end = pm_journal::run(
+        alloc,
+        locks,
+        command,
+        input,
+        true,
+        &mut run.outside,
+        &mut run.journal,
+    )?;
+    note_code(end, &mut run.process);
     take_value(
         alloc,
         flags,
         end,
         name.as_slice(),
-        last_output(journal),
-        process,
+        last_output(&run.journal),
+        &mut run.process,
     )
 }
 

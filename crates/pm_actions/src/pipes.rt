@@ -2,7 +2,6 @@
 //! standard output (procmailrc(5), "Recipe action line"). All their commands are run before a text is expanded.
 ghost use Rattle.std.specs.Prelude.{◌≡◌, ◌++◌, codes, length, IfOk, OnErr};
 ghost use Rattle.pm_journal.specs.Executed.{Carries};
-ghost use Rattle.pm_journal.specs.Held.{Keeping};
 ghost use Rattle.pm_meaning.specs.Minds.{mind_of};
 ghost use Rattle.pm_meaning.specs.ProgramActions.{pipe as piped, pipe_purpose as purpose_of_pipe};
 ghost use Rattle.pm_meaning.specs.ProgramActions.{capture_line as captured};
@@ -21,9 +20,10 @@ use crate::delivering::Order;
 use crate::errands::write_errand;
 use crate::forwards::forward_line;
 use crate::lock_texts::{LockText, lock_commands, lock_word};
+use crate::run::Run;
 use crate::tasks::{Purpose, Task, do_line, do_named};
 use pm_bytes::{Blob, Memory};
-use pm_journal::{Effects, Journal};
+use pm_journal::Effects;
 use pm_meaning::{
     End, Process, ProgramLine, Ready, expanded_line, make_ready, needs_shell, shell_line,
     skip_value,
@@ -44,17 +44,13 @@ pub enum Reading {
 pub fn pipe<D: Effects>(
     alloc: Global,
     order: &Order<'_>,
-    process: &mut Process,
-    outside: &mut D,
-    journal: &mut Journal,
+    run: &mut Run<D>,
 ) -> Result<Option<End>, Memory>
-    requires keeping { Keeping journal.old process.old.locks.names }
     ensures carries { let o = order.now in
-        Carries (piped o.flags o.lock.now o.text.now (mind_of process.old))
-        (λ end. turn_of end (mind_of process.new)) result
-        journal.old journal.new (D.told outside.old) (D.told outside.new) }
-    ensures sure { OnErr result (Undelivered order.now.flags journal.old journal.new) }
-    ensures keeping { Keeping journal.new process.new.locks.names }
+        Carries (piped o.flags o.lock.now o.text.now (mind_of run.old.process))
+        (λ end. turn_of end (mind_of run.new.process)) result
+        run.old.journal run.new.journal (D.told run.old.outside) (D.told run.new.outside) }
+    ensures sure { OnErr result (Undelivered order.now.flags run.old.journal run.new.journal) }
 {
     let task = Task {
         flags: order.flags,
@@ -63,8 +59,8 @@ pub fn pipe<D: Effects>(
         text: order.text,
         purpose: pipe_purpose(order.flags, order.text),
     };
-    let reading = line_reading(order.text, process);
-    do_program(alloc, &task, reading, process, outside, journal)
+    let reading = line_reading(order.text, &run.process);
+    do_program(alloc, &task, reading, run)
 }
 
 fn pipe_purpose<'a>(flags: Flags, line: &'a [u8]) -> Purpose<'a>
@@ -82,17 +78,13 @@ pub fn capture<D: Effects>(
     alloc: Global,
     order: &Order<'_>,
     name: &Blob,
-    process: &mut Process,
-    outside: &mut D,
-    journal: &mut Journal,
+    run: &mut Run<D>,
 ) -> Result<Option<End>, Memory>
-    requires keeping { Keeping journal.old process.old.locks.names }
     ensures carries { let o = order.now in
-        Carries (captured o.flags o.lock.now name.now o.text.now (mind_of process.old))
-        (λ end. turn_of end (mind_of process.new)) result
-        journal.old journal.new (D.told outside.old) (D.told outside.new) }
-    ensures sure { OnErr result (Undelivered order.now.flags journal.old journal.new) }
-    ensures keeping { Keeping journal.new process.new.locks.names }
+        Carries (captured o.flags o.lock.now name.now o.text.now (mind_of run.old.process))
+        (λ end. turn_of end (mind_of run.new.process)) result
+        run.old.journal run.new.journal (D.told run.old.outside) (D.told run.new.outside) }
+    ensures sure { OnErr result (Undelivered order.now.flags run.old.journal run.new.journal) }
 {
     let task = Task {
         flags: order.flags,
@@ -101,25 +93,21 @@ pub fn capture<D: Effects>(
         text: order.text,
         purpose: Purpose::Captures(name),
     };
-    let reading = line_reading(order.text, process);
-    do_program(alloc, &task, reading, process, outside, journal)
+    let reading = line_reading(order.text, &run.process);
+    do_program(alloc, &task, reading, run)
 }
 
 /// The mail goes to the addresses of the text, by the program that sends mail.
 pub fn forward<D: Effects>(
     alloc: Global,
     order: &Order<'_>,
-    process: &mut Process,
-    outside: &mut D,
-    journal: &mut Journal,
+    run: &mut Run<D>,
 ) -> Result<Option<End>, Memory>
-    requires keeping { Keeping journal.old process.old.locks.names }
     ensures carries { let o = order.now in
-        Carries (forwarded o.flags o.lock.now o.text.now (mind_of process.old))
-        (λ end. turn_of end (mind_of process.new)) result
-        journal.old journal.new (D.told outside.old) (D.told outside.new) }
-    ensures sure { OnErr result (Undelivered order.now.flags journal.old journal.new) }
-    ensures keeping { Keeping journal.new process.new.locks.names }
+        Carries (forwarded o.flags o.lock.now o.text.now (mind_of run.old.process))
+        (λ end. turn_of end (mind_of run.new.process)) result
+        run.old.journal run.new.journal (D.told run.old.outside) (D.told run.new.outside) }
+    ensures sure { OnErr result (Undelivered order.now.flags run.old.journal run.new.journal) }
 {
     let mut destination = Blob::from_slice(alloc, b"!")?;
     destination.push_slice(order.text)?;
@@ -129,9 +117,7 @@ pub fn forward<D: Effects>(
         order.lock,
         order.text,
         destination.as_slice(),
-        process,
-        outside,
-        journal,
+        run,
     )
 }
 
@@ -142,17 +128,13 @@ fn forward_as<'a, D: Effects>(
     lock: &'a Option<Blob>,
     text: &'a [u8],
     destination: &'a [u8],
-    process: &mut Process,
-    outside: &mut D,
-    journal: &mut Journal,
+    run: &mut Run<D>,
 ) -> Result<Option<End>, Memory>
     requires called { destination.now ≡ codes "!" ++ text.now }
-    requires keeping { Keeping journal.old process.old.locks.names }
-    ensures carries { Carries (forwarded flags lock.now text.now (mind_of process.old))
-        (λ end. turn_of end (mind_of process.new)) result
-        journal.old journal.new (D.told outside.old) (D.told outside.new) }
-    ensures sure { OnErr result (Undelivered flags journal.old journal.new) }
-    ensures keeping { Keeping journal.new process.new.locks.names }
+    ensures carries { Carries (forwarded flags lock.now text.now (mind_of run.old.process))
+        (λ end. turn_of end (mind_of run.new.process)) result
+        run.old.journal run.new.journal (D.told run.old.outside) (D.told run.new.outside) }
+    ensures sure { OnErr result (Undelivered flags run.old.journal run.new.journal) }
 {
     let task = Task {
         flags,
@@ -161,7 +143,7 @@ fn forward_as<'a, D: Effects>(
         text,
         purpose: Purpose::Delivers(destination),
     };
-    do_program(alloc, &task, Reading::Forward, process, outside, journal)
+    do_program(alloc, &task, Reading::Forward, run)
 }
 
 // A line with a byte of SHELLMETAS is left to the shell.
@@ -180,17 +162,13 @@ fn do_program<D: Effects>(
     alloc: Global,
     task: &Task<'_>,
     reading: Reading,
-    process: &mut Process,
-    outside: &mut D,
-    journal: &mut Journal,
+    run: &mut Run<D>,
 ) -> Result<Option<End>, Memory>
-    requires keeping { Keeping journal.old process.old.locks.names }
     ensures carries { let t = task_of task.now in
-        Carries (program_done t (reading_of reading t.text) (mind_of process.old))
-        (λ end. turn_of end (mind_of process.new)) result
-        journal.old journal.new (D.told outside.old) (D.told outside.new) }
-    ensures sure { OnErr result (Undelivered task.now.flags journal.old journal.new) }
-    ensures keeping { Keeping journal.new process.new.locks.names }
+        Carries (program_done t (reading_of reading t.text) (mind_of run.old.process))
+        (λ end. turn_of end (mind_of run.new.process)) result
+        run.old.journal run.new.journal (D.told run.old.outside) (D.told run.new.outside) }
+    ensures sure { OnErr result (Undelivered task.now.flags run.old.journal run.new.journal) }
 {
     let of_lock = lock_commands(alloc, task)?;
     let of_text = text_commands(alloc, task.text, reading)?;
@@ -198,11 +176,11 @@ fn do_program<D: Effects>(
         alloc,
         of_lock.as_slice(),
         of_text.as_slice(),
-        process,
-        outside,
-        journal,
+        &mut run.process,
+        &mut run.outside,
+        &mut run.journal,
     )?;
-    do_ready(alloc, task, reading, &ready, process, outside, journal)
+    do_ready(alloc, task, reading, &ready, run)
 }
 
 // The commands that are run before the text is read.
@@ -221,26 +199,34 @@ fn do_ready<D: Effects>(
     task: &Task<'_>,
     reading: Reading,
     ready: &Ready,
-    process: &mut Process,
-    outside: &mut D,
-    journal: &mut Journal,
+    run: &mut Run<D>,
 ) -> Result<Option<End>, Memory>
     requires locks { length ready.now.lock_outputs.items ≡ length (commands_of_lock (task_of task.now)) }
     requires each { length ready.now.outputs.items ≡ length (reading_of reading task.now.text.now).commands }
-    requires keeping { Keeping journal.old process.old.locks.names }
     ensures carries { let t = task_of task.now in
-        Carries (program_with t (reading_of reading t.text) (ready_of ready.now (mind_of process.old)))
-        (λ end. turn_of end (mind_of process.new)) result
-        journal.old journal.new (D.told outside.old) (D.told outside.new) }
-    ensures sure { OnErr result (Undelivered task.now.flags journal.old journal.new) }
-    ensures keeping { Keeping journal.new process.new.locks.names }
+        Carries (program_with t (reading_of reading t.text) (ready_of ready.now (mind_of run.old.process)))
+        (λ end. turn_of end (mind_of run.new.process)) result
+        run.old.journal run.new.journal (D.told run.old.outside) (D.told run.new.outside) }
+    ensures sure { OnErr result (Undelivered task.now.flags run.old.journal run.new.journal) }
 {
-    let text = lock_word(alloc, task, ready.lock_outputs.as_slice(), process)?;
+    let text = lock_word(alloc, task, ready.lock_outputs.as_slice(), &run.process)?;
     match text {
-        LockText::TooLong(length) => skip_value(alloc, length, process, outside, journal),
+        LockText::TooLong(length) => skip_value(
+            alloc,
+            length,
+            &mut run.process,
+            &mut run.outside,
+            &mut run.journal,
+        ),
         LockText::Word(word) => {
-            let line = read_text(alloc, task.text, reading, ready.outputs.as_slice(), process)?;
-            do_line(alloc, task, word, line, process, outside, journal)
+            let line = read_text(
+                alloc,
+                task.text,
+                reading,
+                ready.outputs.as_slice(),
+                &run.process,
+            )?;
+            do_line(alloc, task, word, line, run)
         }
     }
 }
@@ -268,16 +254,12 @@ pub fn write_out<D: Effects>(
     alloc: Global,
     flags: Flags,
     lock: &Option<Blob>,
-    process: &mut Process,
-    outside: &mut D,
-    journal: &mut Journal,
+    run: &mut Run<D>,
 ) -> Result<Option<End>, Memory>
-    requires keeping { Keeping journal.old process.old.locks.names }
-    ensures carries { Carries (output_written flags lock.now (mind_of process.old))
-        (λ end. turn_of end (mind_of process.new)) result
-        journal.old journal.new (D.told outside.old) (D.told outside.new) }
-    ensures sure { OnErr result (Undelivered flags journal.old journal.new) }
-    ensures keeping { Keeping journal.new process.new.locks.names }
+    ensures carries { Carries (output_written flags lock.now (mind_of run.old.process))
+        (λ end. turn_of end (mind_of run.new.process)) result
+        run.old.journal run.new.journal (D.told run.old.outside) (D.told run.new.outside) }
+    ensures sure { OnErr result (Undelivered flags run.old.journal run.new.journal) }
 {
     let task = Task {
         flags,
@@ -286,9 +268,16 @@ pub fn write_out<D: Effects>(
         text: b"|",
         purpose: Purpose::Delivers(b"|"),
     };
-    let of_lock = lock_commands(alloc, &task)?;
-    let ready = make_ready(alloc, of_lock.as_slice(), &[], process, outside, journal)?;
-    write_ready(alloc, &task, &ready, process, outside, journal)
+    let commands = lock_commands(alloc, &task)?;
+    let ready = make_ready(
+        alloc,
+        commands.as_slice(),
+        &[],
+        &mut run.process,
+        &mut run.outside,
+        &mut run.journal,
+    )?;
+    write_ready(alloc, &task, &ready, run)
 }
 
 // Expands the text of the lock file, and then writes.
@@ -296,25 +285,27 @@ fn write_ready<D: Effects>(
     alloc: Global,
     task: &Task<'_>,
     ready: &Ready,
-    process: &mut Process,
-    outside: &mut D,
-    journal: &mut Journal,
+    run: &mut Run<D>,
 ) -> Result<Option<End>, Memory>
     requires locks { length ready.now.lock_outputs.items ≡ length (commands_of_lock (task_of task.now)) }
-    requires keeping { Keeping journal.old process.old.locks.names }
     ensures carries { Carries
-        (write_with (task_of task.now) (ready_of ready.now (mind_of process.old)))
-        (λ end. turn_of end (mind_of process.new)) result
-        journal.old journal.new (D.told outside.old) (D.told outside.new) }
-    ensures sure { OnErr result (Undelivered task.now.flags journal.old journal.new) }
-    ensures keeping { Keeping journal.new process.new.locks.names }
+        (write_with (task_of task.now) (ready_of ready.now (mind_of run.old.process)))
+        (λ end. turn_of end (mind_of run.new.process)) result
+        run.old.journal run.new.journal (D.told run.old.outside) (D.told run.new.outside) }
+    ensures sure { OnErr result (Undelivered task.now.flags run.old.journal run.new.journal) }
 {
-    let text = lock_word(alloc, task, ready.lock_outputs.as_slice(), process)?;
+    let text = lock_word(alloc, task, ready.lock_outputs.as_slice(), &run.process)?;
     match text {
-        LockText::TooLong(length) => skip_value(alloc, length, process, outside, journal),
+        LockText::TooLong(length) => skip_value(
+            alloc,
+            length,
+            &mut run.process,
+            &mut run.outside,
+            &mut run.journal,
+        ),
         LockText::Word(word) => {
-            let errand = write_errand(alloc, task.flags, process)?;
-            do_named(alloc, task, word, errand, process, outside, journal)
+            let errand = write_errand(alloc, task.flags, &run.process)?;
+            do_named(alloc, task, word, errand, run)
         }
     }
 }

@@ -1,7 +1,6 @@
 //! A piece is filed in a folder: under the moment, which is asked first, and with the count of the run's filings.
 ghost use Rattle.std.specs.Prelude.{◌≡◌, ◌+◌, ◌≤◌, true, [], length, is_some, IfOk, OnErr};
 ghost use Rattle.pm_journal.specs.Executed.{Carries};
-ghost use Rattle.pm_journal.specs.Held.{Keeping};
 ghost use Rattle.pm_journal.specs.Outcomes.{last_file as file_of_last};
 ghost use Rattle.pm_meaning.specs.Changes.{stored_in};
 ghost use Rattle.pm_meaning.specs.Delivering.{in_folder};
@@ -11,6 +10,7 @@ ghost use Rattle.pm_actions.specs.Copies.{filing_of};
 ghost use Rattle.pm_actions.specs.Filing.{HasMet};
 ghost use Rattle.pm_actions.specs.Placing.{HasFile, placed_as};
 
+use crate::run::Run;
 use pm_bytes::{Blob, Memory, Name};
 use pm_journal::{Effects, Filing, FolderEnd, FolderKind, Journal, Stamp};
 use pm_meaning::{Filed, Process, Stored};
@@ -31,24 +31,20 @@ pub struct FolderCopy {
 pub fn file_in_folder<D: Effects>(
     alloc: Global,
     copy: FolderCopy,
-    process: &mut Process,
-    outside: &mut D,
-    journal: &mut Journal,
+    run: &mut Run<D>,
 ) -> Result<Filed, Memory>
-    requires keeping { Keeping journal.old process.old.locks.names }
-    requires room { length process.old.locks.names + 2 ≤ journal.old.room }
+    requires room { length run.old.process.locks.names + 2 ≤ run.old.journal.room }
     requires shown { copy.shown ≡ copy.folder }
-    ensures carries { Carries (in_folder copy.kind copy.folder copy.prefix copy.piece (mind_of process.old))
-        (λ filed. filing_of filed (mind_of process.new)) result
-        journal.old journal.new (D.told outside.old) (D.told outside.new) }
-    ensures locks { process.new.locks ≡ process.old.locks }
-    ensures keeping { Keeping journal.new process.new.locks.names }
-    ensures room { IfOk result (λ _. journal.old.room ≤ journal.new.room + 2) }
-    ensures met { OnErr result (HasMet journal.old journal.new) }
+    ensures carries { Carries (in_folder copy.kind copy.folder copy.prefix copy.piece (mind_of run.old.process))
+        (λ filed. filing_of filed (mind_of run.new.process)) result
+        run.old.journal run.new.journal (D.told run.old.outside) (D.told run.new.outside) }
+    ensures locks { run.new.process.locks ≡ run.old.process.locks }
+    ensures room { IfOk result (λ _. run.old.journal.room ≤ run.new.journal.room + 2) }
+    ensures met { OnErr result (HasMet run.old.journal run.new.journal) }
 {
-    let moment = outside.moment(journal);
-    let serial = next_serial(process)?;
-    let host_name = process.host_name.copy(alloc)?;
+    let moment = run.outside.moment(&mut run.journal);
+    let serial = next_serial(&run.process)?;
+    let host_name = run.process.host_name.copy(alloc)?;
     let FolderCopy {
         kind,
         folder,
@@ -59,7 +55,7 @@ pub fn file_in_folder<D: Effects>(
     let size = piece.len() as u64;
     let stamp = Stamp {
         moment,
-        pid: process.vars.marks().pid,
+        pid: run.process.vars.marks().pid,
         serial,
         host_name,
     };
@@ -70,9 +66,9 @@ pub fn file_in_folder<D: Effects>(
         piece,
         stamp,
     };
-    let end = outside.place(alloc, journal, filing)?;
-    process.placed = serial;
-    conclude(alloc, end, shown, size, process, journal)
+    let end = run.outside.place(alloc, &mut run.journal, filing)?;
+    run.process.placed = serial;
+    conclude(alloc, end, shown, size, &mut run.process, &run.journal)
 }
 
 // The number of the next filing of the run. One that is too great for 64 bits would be want of memory.

@@ -1,19 +1,19 @@
 //! The lines that are due after an attempt to deliver (the log texts of procmail(1), "DIAGNOSTICS").
 ghost use Rattle.std.specs.Prelude.{◌≡◌, ◌++◌, ◌∷◌, [], false, nat_lt, IfOk, OnOk, OnErr};
 ghost use Rattle.pm_journal.specs.Executed.{Carries};
-ghost use Rattle.pm_journal.specs.Held.{Keeping};
 ghost use Rattle.pm_journal.specs.LogText.{forcing_lock_line, couldnt_unlock_line};
 ghost use Rattle.pm_meaning.specs.Delivering.{is_without};
 ghost use Rattle.pm_meaning.specs.Delivering.{filed_lines, line_if, attempt_lines as lines_of_attempt, say_each as each_said};
 ghost use Rattle.pm_meaning.specs.Minds.{mind_of};
 ghost use Rattle.pm_meaning.specs.Turning.{turn_of};
 
+use crate::run::Run;
 use pm_bytes::{Blob, Memory, Name};
 use pm_journal::{
-    Effects, Journal, bytes_left, couldnt_lock, couldnt_unlock, couldnt_write, forcing_lock,
-    no_free_name, unusable_name,
+    Effects, bytes_left, couldnt_lock, couldnt_unlock, couldnt_write, forcing_lock, no_free_name,
+    unusable_name,
 };
-use pm_meaning::{Attempt, End, Filed, Process, tell};
+use pm_meaning::{Attempt, End, Filed, tell};
 use std::alloc::Global;
 use std::collections::VecDeque;
 
@@ -104,19 +104,23 @@ pub fn say_each<D: Effects>(
     alloc: Global,
     mut lines: VecDeque<Blob>,
     end: Option<End>,
-    process: &Process,
-    outside: &mut D,
-    journal: &mut Journal,
+    run: &mut Run<D>,
 ) -> Result<Option<End>, Memory>
-    requires keeping { Keeping journal.old process.now.locks.names }
-    ensures carries { let p = mind_of process.now in
-        Carries (each_said p lines.items (turn_of end p)) (λ end. turn_of end p) result
-        journal.old journal.new (D.told outside.old) (D.told outside.new) }
+    ensures carries { let p = mind_of run.old.process in
+        Carries (each_said p lines.items (turn_of end p))
+        (λ end. turn_of end (mind_of run.new.process)) result
+        run.old.journal run.new.journal (D.told run.old.outside) (D.told run.new.outside) }
     ensures sure { OnErr result (is_without lines.items ≡ false) }
-    ensures keeping { Keeping journal.new process.now.locks.names }
+    ensures same { run.new.process ≡ run.old.process }
 {
     while let Some(line) = lines.pop_front() {
-        tell(alloc, process, line, outside, journal)?;
+        tell(
+            alloc,
+            &run.process,
+            line,
+            &mut run.outside,
+            &mut run.journal,
+        )?;
     }
     Ok(end)
 }

@@ -2,7 +2,6 @@
 //! lock files are looked at, and then they are tried.
 ghost use Rattle.std.specs.Prelude.{◌≡◌, [], true, IfOk, OnErr};
 ghost use Rattle.pm_journal.specs.Executed.{Carries, LeadsTo, OutOfMemory};
-ghost use Rattle.pm_journal.specs.Held.{Keeping};
 ghost use Rattle.pm_journal.specs.Plan.{Plan};
 ghost use Rattle.pm_meaning.specs.Minds.{Mind, mind_of};
 ghost use Rattle.pm_meaning.specs.ProgramActions.{Tried, is_final as final_purpose, is_delivery as purpose_delivers};
@@ -23,10 +22,11 @@ use crate::errands::{Errand, errand_for};
 use crate::lock_texts::lacks_lock;
 use crate::locks::{blamed_text, full_lock, is_taken, lock_name};
 use crate::outcomes::trial_lines;
+use crate::run::Run;
 use crate::saying::say_each;
 use crate::trying::{end_of, is_fine_trial, let_go, settle, try_under};
 use pm_bytes::{Blob, Memory, Name, NameRefused};
-use pm_journal::{Effects, Journal, no_lock};
+use pm_journal::{Effects, no_lock};
 use pm_meaning::{End, Process, ProgramLine, skip_value, tell};
 use pm_recipe::Flags;
 use std::alloc::Global;
@@ -81,26 +81,28 @@ pub fn do_line<D: Effects>(
     task: &Task<'_>,
     word: Option<Blob>,
     line: ProgramLine,
-    process: &mut Process,
-    outside: &mut D,
-    journal: &mut Journal,
+    run: &mut Run<D>,
 ) -> Result<Option<End>, Memory>
-    requires keeping { Keeping journal.old process.old.locks.names }
-    ensures carries { let t = task_of task.now in let p = mind_of process.old in
+    ensures carries { let t = task_of task.now in let p = mind_of run.old.process in
         Carries (line_done t word (work_of t.purpose t.flags (piece_fed t.flags p)) line p)
-        (λ end. turn_of end (mind_of process.new)) result
-        journal.old journal.new (D.told outside.old) (D.told outside.new) }
-    ensures sure { OnErr result (Undelivered task.now.flags journal.old journal.new) }
-    ensures keeping { Keeping journal.new process.new.locks.names }
+        (λ end. turn_of end (mind_of run.new.process)) result
+        run.old.journal run.new.journal (D.told run.old.outside) (D.told run.new.outside) }
+    ensures sure { OnErr result (Undelivered task.now.flags run.old.journal run.new.journal) }
 {
     match line {
         ProgramLine::Runs(command) => {
-            let errand = errand_for(alloc, task, command, process)?;
-            do_named(alloc, task, word, errand, process, outside, journal)
+            let errand = errand_for(alloc, task, command, &run.process)?;
+            do_named(alloc, task, word, errand, run)
         }
-        ProgramLine::NoWords => refuse(alloc, task.text, process, outside, journal),
-        ProgramLine::Unusable => refuse_line(alloc, task, word, process, outside, journal),
-        ProgramLine::TooLong(length) => skip_value(alloc, length, process, outside, journal),
+        ProgramLine::NoWords => refuse(alloc, task.text, run),
+        ProgramLine::Unusable => refuse_line(alloc, task, word, run),
+        ProgramLine::TooLong(length) => skip_value(
+            alloc,
+            length,
+            &mut run.process,
+            &mut run.outside,
+            &mut run.journal,
+        ),
     }
 }
 
@@ -109,16 +111,13 @@ fn refuse_line<D: Effects>(
     alloc: Global,
     task: &Task<'_>,
     word: Option<Blob>,
-    process: &Process,
-    outside: &mut D,
-    journal: &mut Journal,
+    run: &mut Run<D>,
 ) -> Result<Option<End>, Memory>
-    requires keeping { Keeping journal.old process.now.locks.names }
-    ensures carries { let p = mind_of process.now in
+    ensures carries { let p = mind_of run.old.process in
         Carries (refuse_name (text_unusable (task_of task.now) word) p)
-        (λ end. turn_of end p) result
-        journal.old journal.new (D.told outside.old) (D.told outside.new) }
-    ensures keeping { Keeping journal.new process.now.locks.names }
+        (λ end. turn_of end (mind_of run.new.process)) result
+        run.old.journal run.new.journal (D.told run.old.outside) (D.told run.new.outside) }
+    ensures same { run.new.process ≡ run.old.process }
 {
     let fits = is_lock_word(alloc, word)?;
     let text = if fits {
@@ -126,7 +125,7 @@ fn refuse_line<D: Effects>(
     } else {
         blamed_text(task.lock, task.text)
     };
-    refuse(alloc, text, process, outside, journal)
+    refuse(alloc, text, run)
 }
 
 // Whether the lock file's name, where one is asked for, can be a file's.
@@ -146,25 +145,21 @@ pub fn do_named<D: Effects>(
     task: &Task<'_>,
     word: Option<Blob>,
     errand: Errand,
-    process: &mut Process,
-    outside: &mut D,
-    journal: &mut Journal,
+    run: &mut Run<D>,
 ) -> Result<Option<End>, Memory>
-    requires keeping { Keeping journal.old process.old.locks.names }
-    ensures carries { (work : Mind → Plan Tried) → IsWork task.now.flags errand process.old.vars work
-        → Carries (done_named (task_of task.now) word work (mind_of process.old))
-        (λ end. turn_of end (mind_of process.new)) result
-        journal.old journal.new (D.told outside.old) (D.told outside.new) }
-    ensures sure { (work : Mind → Plan Tried) → IsWork task.now.flags errand process.old.vars work
-        → OnErr result (Undelivered task.now.flags journal.old journal.new) }
-    ensures keeping { Keeping journal.new process.new.locks.names }
+    ensures carries { (work : Mind → Plan Tried) → IsWork task.now.flags errand run.old.process.vars work
+        → Carries (done_named (task_of task.now) word work (mind_of run.old.process))
+        (λ end. turn_of end (mind_of run.new.process)) result
+        run.old.journal run.new.journal (D.told run.old.outside) (D.told run.new.outside) }
+    ensures sure { (work : Mind → Plan Tried) → IsWork task.now.flags errand run.old.process.vars work
+        → OnErr result (Undelivered task.now.flags run.old.journal run.new.journal) }
 {
-    match lock_file(alloc, word, process)? {
-        LockFile::Free(lock) => do_free(alloc, task, lock, errand, process, outside, journal),
+    match lock_file(alloc, word, &run.process)? {
+        LockFile::Free(lock) => do_free(alloc, task, lock, errand, run),
         LockFile::Refused => {
             let_go(errand);
             let text = blamed_text(task.lock, task.text);
-            refuse(alloc, text, process, outside, journal)
+            refuse(alloc, text, run)
         }
     }
 }
@@ -198,47 +193,42 @@ fn do_free<D: Effects>(
     task: &Task<'_>,
     lock: Option<Name>,
     errand: Errand,
-    process: &mut Process,
-    outside: &mut D,
-    journal: &mut Journal,
+    run: &mut Run<D>,
 ) -> Result<Option<End>, Memory>
-    requires free { IsFreeLock lock process.old.locks.names }
-    requires keeping { Keeping journal.old process.old.locks.names }
-    ensures carries { (work : Mind → Plan Tried) → IsWork task.now.flags errand process.old.vars work
-        → let t = task_of task.now in let p = mind_of process.old in
+    requires free { IsFreeLock lock run.old.process.locks.names }
+    ensures carries { (work : Mind → Plan Tried) → IsWork task.now.flags errand run.old.process.vars work
+        → let t = task_of task.now in let p = mind_of run.old.process in
         Carries (told_first t p (tried_and_said t lock work p))
-        (λ end. turn_of end (mind_of process.new)) result
-        journal.old journal.new (D.told outside.old) (D.told outside.new) }
-    ensures sure { (work : Mind → Plan Tried) → IsWork task.now.flags errand process.old.vars work
-        → OnErr result (Undelivered task.now.flags journal.old journal.new) }
-    ensures keeping { Keeping journal.new process.new.locks.names }
+        (λ end. turn_of end (mind_of run.new.process)) result
+        run.old.journal run.new.journal (D.told run.old.outside) (D.told run.new.outside) }
+    ensures sure { (work : Mind → Plan Tried) → IsWork task.now.flags errand run.old.process.vars work
+        → OnErr result (Undelivered task.now.flags run.old.journal run.new.journal) }
 {
-    tell_first(alloc, task, process, outside, journal)?;
-    try_and_say(alloc, task, lock, errand, process, outside, journal)
+    tell_first(alloc, task, run)?;
+    try_and_say(alloc, task, lock, errand, run)
 }
 
 // Tells that there is no automatic lock file, where one is asked for.
-fn tell_first<D: Effects>(
-    alloc: Global,
-    task: &Task<'_>,
-    process: &Process,
-    outside: &mut D,
-    journal: &mut Journal,
-) -> Result<(), Memory>
-    requires keeping { Keeping journal.old process.now.locks.names }
+fn tell_first<D: Effects>(alloc: Global, task: &Task<'_>, run: &mut Run<D>) -> Result<(), Memory>
     ensures told { (next : Plan Turn) → IfOk result (λ _. LeadsTo
-        (told_first (task_of task.now) (mind_of process.now) next) next
-        journal.old journal.new (D.told outside.old) (D.told outside.new)) }
+        (told_first (task_of task.now) (mind_of run.old.process) next) next
+        run.old.journal run.new.journal (D.told run.old.outside) (D.told run.new.outside)) }
     ensures memory { (next : Plan Turn) → OnErr result (OutOfMemory
-        (told_first (task_of task.now) (mind_of process.now) next)
-        journal.old journal.new (D.told outside.old) (D.told outside.new)) }
-    ensures keeping { Keeping journal.new process.now.locks.names }
+        (told_first (task_of task.now) (mind_of run.old.process) next)
+        run.old.journal run.new.journal (D.told run.old.outside) (D.told run.new.outside)) }
+    ensures same { run.new.process ≡ run.old.process }
 {
     if !lacks_lock(task) {
         return Ok(());
     }
     let line = no_lock(alloc, task.text)?;
-    tell(alloc, process, line, outside, journal)
+    tell(
+        alloc,
+        &run.process,
+        line,
+        &mut run.outside,
+        &mut run.journal,
+    )
 }
 
 // Does the errand, and tells what came of it.
@@ -247,25 +237,21 @@ fn try_and_say<D: Effects>(
     task: &Task<'_>,
     lock: Option<Name>,
     errand: Errand,
-    process: &mut Process,
-    outside: &mut D,
-    journal: &mut Journal,
+    run: &mut Run<D>,
 ) -> Result<Option<End>, Memory>
-    requires free { IsFreeLock lock process.old.locks.names }
-    requires keeping { Keeping journal.old process.old.locks.names }
-    ensures carries { (work : Mind → Plan Tried) → IsWork task.now.flags errand process.old.vars work
-        → Carries (tried_and_said (task_of task.now) lock work (mind_of process.old))
-        (λ end. turn_of end (mind_of process.new)) result
-        journal.old journal.new (D.told outside.old) (D.told outside.new) }
-    ensures sure { (work : Mind → Plan Tried) → IsWork task.now.flags errand process.old.vars work
-        → OnErr result (Undelivered task.now.flags journal.old journal.new) }
-    ensures keeping { Keeping journal.new process.new.locks.names }
+    requires free { IsFreeLock lock run.old.process.locks.names }
+    ensures carries { (work : Mind → Plan Tried) → IsWork task.now.flags errand run.old.process.vars work
+        → Carries (tried_and_said (task_of task.now) lock work (mind_of run.old.process))
+        (λ end. turn_of end (mind_of run.new.process)) result
+        run.old.journal run.new.journal (D.told run.old.outside) (D.told run.new.outside) }
+    ensures sure { (work : Mind → Plan Tried) → IsWork task.now.flags errand run.old.process.vars work
+        → OnErr result (Undelivered task.now.flags run.old.journal run.new.journal) }
 {
-    let trial = try_under(alloc, lock, errand, task.flags, process, outside, journal)?;
-    settle(&trial, process);
+    let trial = try_under(alloc, lock, errand, task.flags, run)?;
+    settle(&trial, &mut run.process);
     let end = end_of(is_final(task), &trial);
     let mut lines = trial_lines(alloc, task.flags, task.text, &trial)?;
     let delivered = is_delivery(task) && is_fine_trial(&trial);
-    push_copy(alloc, delivered, task.flags, process, &mut lines)?;
-    say_each(alloc, lines, end, process, outside, journal)
+    push_copy(alloc, delivered, task.flags, &run.process, &mut lines)?;
+    say_each(alloc, lines, end, run)
 }

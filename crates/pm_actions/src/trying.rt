@@ -1,7 +1,7 @@
 //! An errand under its lock file, where one is asked for.
 ghost use Rattle.std.specs.Prelude.{◌≡◌, ◌+◌, ◌<◌, ◌≤◌, false, length, Some, None, IfOk, OnOk, OnErr, true};
 ghost use Rattle.pm_journal.specs.Executed.{Carries};
-ghost use Rattle.pm_journal.specs.Held.{Keeping, holds_name};
+ghost use Rattle.pm_journal.specs.Held.{holds_name};
 ghost use Rattle.pm_journal.specs.Plan.{Plan};
 ghost use Rattle.pm_meaning.specs.Minds.{Mind, mind_of};
 ghost use Rattle.pm_meaning.specs.ProgramActions.{Tried, try_under as tried_under, is_fine_trial as trial_was_done};
@@ -14,6 +14,7 @@ use crate::attempting::is_stuck;
 use crate::ends::is_fine;
 use crate::errands::{Errand, carry};
 use crate::locks::lock_rule;
+use crate::run::Run;
 use pm_bytes::{Memory, Name};
 use pm_journal::{Effects, HeldLocks, Journal, LockEnd, give, take};
 use pm_meaning::{End, Process, Trial, succeed};
@@ -34,26 +35,23 @@ pub fn try_under<D: Effects>(
     lock: Option<Name>,
     errand: Errand,
     flags: Flags,
-    process: &mut Process,
-    outside: &mut D,
-    journal: &mut Journal,
+    run: &mut Run<D>,
 ) -> Result<Trial, Memory>
-    requires free { IsFreeLock lock process.old.locks.names }
-    requires keeping { Keeping journal.old process.old.locks.names }
-    ensures carries { (work : Mind → Plan Tried) → IsWork flags errand process.old.vars work
-        → Carries (tried_under lock work (mind_of process.old)) (λ trial. trying_of trial (mind_of process.new)) result
-        journal.old journal.new (D.told outside.old) (D.told outside.new) }
-    ensures sure { OnErr result (is_for_good errand ≡ true → journal.new.entries ≡ journal.old.entries) }
-    ensures keeping { Keeping journal.new process.new.locks.names }
+    requires free { IsFreeLock lock run.old.process.locks.names }
+    ensures carries { (work : Mind → Plan Tried) → IsWork flags errand run.old.process.vars work
+        → Carries (tried_under lock work (mind_of run.old.process))
+        (λ trial. trying_of trial (mind_of run.new.process)) result
+        run.old.journal run.new.journal (D.told run.old.outside) (D.told run.new.outside) }
+    ensures sure { OnErr result (is_for_good errand ≡ true → run.new.journal.entries ≡ run.old.journal.entries) }
 {
     match lock {
-        None => try_free(alloc, errand, flags, process, outside, journal),
-        Some(name) => match lock_request(alloc, name, &mut process.locks, journal) {
+        None => try_free(alloc, errand, flags, run),
+        Some(name) => match lock_request(alloc, name, &mut run.process.locks, &mut run.journal) {
             Err(Memory) => {
                 let_go(errand);
                 Err(Memory)
             }
-            Ok(request) => try_locked(alloc, request, errand, flags, process, outside, journal),
+            Ok(request) => try_locked(alloc, request, errand, flags, run),
         },
     }
 }
@@ -63,19 +61,16 @@ fn try_free<D: Effects>(
     alloc: Global,
     errand: Errand,
     flags: Flags,
-    process: &mut Process,
-    outside: &mut D,
-    journal: &mut Journal,
+    run: &mut Run<D>,
 ) -> Result<Trial, Memory>
-    requires keeping { Keeping journal.old process.old.locks.names }
-    ensures carries { (work : Mind → Plan Tried) → IsWork flags errand process.old.vars work
-        → Carries (tried_under None work (mind_of process.old)) (λ trial. trying_of trial (mind_of process.new)) result
-        journal.old journal.new (D.told outside.old) (D.told outside.new) }
-    ensures sure { OnErr result (is_for_good errand ≡ true → journal.new.entries ≡ journal.old.entries) }
-    ensures keeping { Keeping journal.new process.new.locks.names }
+    ensures carries { (work : Mind → Plan Tried) → IsWork flags errand run.old.process.vars work
+        → Carries (tried_under None work (mind_of run.old.process))
+        (λ trial. trying_of trial (mind_of run.new.process)) result
+        run.old.journal run.new.journal (D.told run.old.outside) (D.told run.new.outside) }
+    ensures sure { OnErr result (is_for_good errand ≡ true → run.new.journal.entries ≡ run.old.journal.entries) }
 {
-    journal.reserve(process.locks.len() + 2)?;
-    let outcome = carry(alloc, errand, flags, process, outside, journal)?;
+    run.journal.reserve(run.process.locks.len() + 2)?;
+    let outcome = carry(alloc, errand, flags, run)?;
     Ok(Trial::Unlocked(outcome))
 }
 
@@ -86,7 +81,7 @@ fn lock_request(
     locks: &mut HeldLocks,
     journal: &mut Journal,
 ) -> Result<LockRequest, Memory>
-    requires keeping { Keeping journal.old locks.old.names }
+    requires fits { length locks.old.names ≤ journal.old.room }
     ensures name { IfOk result (λ request. request.name ≡ name) }
     ensures noted { IfOk result (λ request. request.noted ≡ request.name) }
     ensures kept { IfOk result (λ request. request.kept ≡ request.name) }
@@ -94,7 +89,7 @@ fn lock_request(
     ensures room { OnOk result (length locks.new.names + 3 ≤ journal.new.room) }
     ensures names { locks.new.names ≡ locks.old.names }
     ensures entries { journal.new.entries ≡ journal.old.entries }
-    ensures keeping { Keeping journal.new locks.new.names }
+    ensures fits { length locks.new.names ≤ journal.new.room }
 {
     let noted = name.copy(alloc)?;
     let kept = name.copy(alloc)?;
@@ -109,28 +104,37 @@ fn try_locked<D: Effects>(
     request: LockRequest,
     errand: Errand,
     flags: Flags,
-    process: &mut Process,
-    outside: &mut D,
-    journal: &mut Journal,
+    run: &mut Run<D>,
 ) -> Result<Trial, Memory>
     requires noted { request.noted ≡ request.name }
     requires kept { request.kept ≡ request.name }
-    requires free { holds_name process.old.locks.names request.name ≡ false }
-    requires space { 0 < process.old.locks.room }
-    requires room { length process.old.locks.names + 3 ≤ journal.old.room }
-    requires keeping { Keeping journal.old process.old.locks.names }
-    ensures carries { (work : Mind → Plan Tried) → IsWork flags errand process.old.vars work
-        → Carries (tried_under (Some request.name) work (mind_of process.old)) (λ trial. trying_of trial (mind_of process.new)) result
-        journal.old journal.new (D.told outside.old) (D.told outside.new) }
+    requires free { holds_name run.old.process.locks.names request.name ≡ false }
+    requires space { 0 < run.old.process.locks.room }
+    requires room { length run.old.process.locks.names + 3 ≤ run.old.journal.room }
+    ensures carries { (work : Mind → Plan Tried) → IsWork flags errand run.old.process.vars work
+        → Carries (tried_under (Some request.name) work (mind_of run.old.process))
+        (λ trial. trying_of trial (mind_of run.new.process)) result
+        run.old.journal run.new.journal (D.told run.old.outside) (D.told run.new.outside) }
     ensures sure { OnErr result (is_for_good errand ≡ false) }
-    ensures keeping { Keeping journal.new process.new.locks.names }
 {
     let LockRequest { name, noted, kept } = request;
-    let rule = lock_rule(&process.vars);
-    match take(&mut process.locks, noted, kept, rule, outside, journal) {
+    let rule = lock_rule(&run.process.vars);
+    match take(
+        &mut run.process.locks,
+        noted,
+        kept,
+        rule,
+        &mut run.outside,
+        &mut run.journal,
+    ) {
         LockEnd::Held { forced, .. } => {
-            let outcome = carry(alloc, errand, flags, process, outside, journal)?;
-            let removed = give(&mut process.locks, &name, outside, journal);
+            let outcome = carry(alloc, errand, flags, run)?;
+            let removed = give(
+                &mut run.process.locks,
+                &name,
+                &mut run.outside,
+                &mut run.journal,
+            );
             let stuck = is_stuck(removed);
             Ok(Trial::Locked {
                 name,

@@ -10,15 +10,15 @@ pub returns-in_err-files-clause-carries : goal.returns-in_err-files-clause-carri
 returns-in_err-files-clause-carries g c = (search rules, on_err _ _ (out_anywhere _ _ _ _ refl))
 
 pub returns-in_err-files-clause-sure : goal.returns-in_err-files-clause-sure
-returns-in_err-files-clause-sure g c = on_err _ _ (sure_none c.args.order.now.flags c.args.journal.now c.args.journal.now refl)
+returns-in_err-files-clause-sure g c = on_err _ _ (sure_none c.args.order.now.flags c.args.run.now.journal c.args.run.now.journal refl)
 
 pub returns-then-is_taken-clause-sure : goal.returns-then-is_taken-clause-sure
 returns-then-is_taken-clause-sure g c =
-    err_map c.refuse.result _ _ (λ out. calm_sure c.args.order.now.flags c.args.journal.now c.refuse.new.journal (calm_out c.args.order.now.flags (refuse_name c.blamed_text-text.result.now (mind_of c.args.process.now)) c.args.journal.now c.refuse.new.journal _ _ (calm_said c.args.order.now.flags (mind_of c.args.process.now) _ (GoesOn (mind_of c.args.process.now))) out)) c.refuse.ensures.carries.1
+    err_map c.refuse.result _ _ (λ out. calm_sure c.args.order.now.flags c.args.run.now.journal c.refuse.new.run.journal (calm_out c.args.order.now.flags (refuse_name c.blamed_text-text.result.now (mind_of c.args.run.now.process)) c.args.run.now.journal c.refuse.new.run.journal _ _ (calm_said c.args.order.now.flags (mind_of c.args.run.now.process) _ (GoesOn (mind_of c.args.run.now.process))) out)) c.refuse.ensures.carries.1
 
 pub returns-then-any_held-clause-sure : goal.returns-then-any_held-clause-sure
 returns-then-any_held-clause-sure g c =
-    err_map c.refuse-then-any_held.result _ _ (λ out. calm_sure c.args.order.now.flags c.args.journal.now c.refuse-then-any_held.new.journal (calm_out c.args.order.now.flags (refuse_name c.args.order.now.text.now (mind_of c.args.process.now)) c.args.journal.now c.refuse-then-any_held.new.journal _ _ (calm_said c.args.order.now.flags (mind_of c.args.process.now) _ (GoesOn (mind_of c.args.process.now))) out)) c.refuse-then-any_held.ensures.carries.1
+    err_map c.refuse-then-any_held.result _ _ (λ out. calm_sure c.args.order.now.flags c.args.run.now.journal c.refuse-then-any_held.new.run.journal (calm_out c.args.order.now.flags (refuse_name c.args.order.now.text.now (mind_of c.args.run.now.process)) c.args.run.now.journal c.refuse-then-any_held.new.run.journal _ _ (calm_said c.args.order.now.flags (mind_of c.args.run.now.process) _ (GoesOn (mind_of c.args.run.now.process))) out)) c.refuse-then-any_held.ensures.carries.1
 
 pub returns-clause-sure : goal.returns-clause-sure
 returns-clause-sure g c = c.file_and_say.ensures.sure

@@ -19,7 +19,7 @@ returns-in_err-lock-in-Some-clause-carries g c = (search rules, on_err _ _ (out_
 pub returns-in_ok-lock-in-Some-clause-carries : goal.returns-in_ok-lock-in-Some-clause-carries
 returns-in_ok-lock-in-Some-clause-carries g c =
     let o = c.args.order.now in
-    let p = mind_of c.args.process.now in
+    let p = mind_of c.args.run.now.process in
     let blamed = blamed_text o.lock.now o.text.now in
     let usable = rw c.in-Some.is at c.in_ok-destinations.ensures in
     let ds = c.as_slice.result.now in
@@ -28,14 +28,14 @@ returns-in_ok-lock-in-Some-clause-carries g c =
     carried (deliver_at o.flags lock blamed o.text.now ds p) (deliver_named o.flags c.args.lock blamed o.text.now c.args.words.now p) _ _ _ _ _ _ same c.deliver_at.ensures.carries
 
 pub returns-in_err-destinations-clause-sure : goal.returns-in_err-destinations-clause-sure
-returns-in_err-destinations-clause-sure g c = on_err _ _ (sure_none c.args.order.now.flags c.args.journal.now c.args.journal.now refl)
+returns-in_err-destinations-clause-sure g c = on_err _ _ (sure_none c.args.order.now.flags c.args.run.now.journal c.args.run.now.journal refl)
 
 pub returns-in_err-lock-in-Some-clause-sure : goal.returns-in_err-lock-in-Some-clause-sure
-returns-in_err-lock-in-Some-clause-sure g c = on_err _ _ (sure_none c.args.order.now.flags c.args.journal.now c.args.journal.now refl)
+returns-in_err-lock-in-Some-clause-sure g c = on_err _ _ (sure_none c.args.order.now.flags c.args.run.now.journal c.args.run.now.journal refl)
 
 pub returns-in_ok-lock-in-Some-clause-sure : goal.returns-in_ok-lock-in-Some-clause-sure
 returns-in_ok-lock-in-Some-clause-sure g c = c.deliver_at.ensures.sure
 
 pub returns-in-None-clause-sure : goal.returns-in-None-clause-sure
 returns-in-None-clause-sure g c =
-    err_map c.refuse.result _ _ (λ out. calm_sure c.args.order.now.flags c.args.journal.now c.refuse.new.journal (calm_out c.args.order.now.flags (refuse_name c.args.order.now.text.now (mind_of c.args.process.now)) c.args.journal.now c.refuse.new.journal _ _ (calm_said c.args.order.now.flags (mind_of c.args.process.now) _ (GoesOn (mind_of c.args.process.now))) out)) c.refuse.ensures.carries.1
+    err_map c.refuse.result _ _ (λ out. calm_sure c.args.order.now.flags c.args.run.now.journal c.refuse.new.run.journal (calm_out c.args.order.now.flags (refuse_name c.args.order.now.text.now (mind_of c.args.run.now.process)) c.args.run.now.journal c.refuse.new.run.journal _ _ (calm_said c.args.order.now.flags (mind_of c.args.run.now.process) _ (GoesOn (mind_of c.args.run.now.process))) out)) c.refuse.ensures.carries.1

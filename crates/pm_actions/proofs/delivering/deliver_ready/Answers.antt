@@ -19,7 +19,7 @@ returns-in_err-words-clause-carries g c = (search rules, on_err _ _ (out_anywher
 pub returns-in-Words-clause-carries : goal.returns-in-Words-clause-carries
 returns-in-Words-clause-carries g c =
     let o = c.args.order.now in
-    let p = mind_of c.args.process.now in
+    let p = mind_of c.args.run.now.process in
     let r = ready_of c.args.ready.now p in
     let value = c.first_word-value.result in
     let fits = rw (c.in-Words.is, c.lock_text-lock.ensures, c.as_slice.ensures.value) at c.in_ok-words.ensures in
@@ -27,12 +27,12 @@ returns-in-Words-clause-carries g c =
     carried _ (deliver_with o.flags o.lock.now o.text.now r) _ _ _ _ _ _ same c.deliver_text.ensures.carries
 
 pub returns-in_err-words-clause-sure : goal.returns-in_err-words-clause-sure
-returns-in_err-words-clause-sure g c = on_err _ _ (sure_none c.args.order.now.flags c.args.journal.now c.args.journal.now refl)
+returns-in_err-words-clause-sure g c = on_err _ _ (sure_none c.args.order.now.flags c.args.run.now.journal c.args.run.now.journal refl)
 
 pub returns-in-Words-clause-sure : goal.returns-in-Words-clause-sure
 returns-in-Words-clause-sure g c = c.deliver_text.ensures.sure
 
 pub returns-in-TooLong-clause-sure : goal.returns-in-TooLong-clause-sure
 returns-in-TooLong-clause-sure g c =
-    let turn = GoesOn (overflowed (mind_of c.args.process.now)) in
-    err_map c.skip_value.result _ _ (λ out. calm_sure c.args.order.now.flags c.args.journal.now c.skip_value.new.journal (calm_out c.args.order.now.flags (say_then (mind_of c.args.process.now) (value_too_long_line c.in-TooLong.length) turn) c.args.journal.now c.skip_value.new.journal _ _ (calm_said c.args.order.now.flags (mind_of c.args.process.now) _ turn) out)) c.skip_value.ensures.carries.1
+    let turn = GoesOn (overflowed (mind_of c.args.run.now.process)) in
+    err_map c.skip_value.result _ _ (λ out. calm_sure c.args.order.now.flags c.args.run.now.journal c.skip_value.new.journal (calm_out c.args.order.now.flags (say_then (mind_of c.args.run.now.process) (value_too_long_line c.in-TooLong.length) turn) c.args.run.now.journal c.skip_value.new.journal _ _ (calm_said c.args.order.now.flags (mind_of c.args.run.now.process) _ turn) out)) c.skip_value.ensures.carries.1

@@ -16,7 +16,7 @@ returns-in_err-word-clause-carries g c = (search rules, on_err _ _ (out_anywhere
 pub returns-in-Ok-clause-carries : goal.returns-in-Ok-clause-carries
 returns-in-Ok-clause-carries g c =
     let o = c.args.order.now in
-    let p = mind_of c.args.process.now in
+    let p = mind_of c.args.run.now.process in
     let blamed = blamed_text o.lock.now o.text.now in
     let named = rw c.in-Ok.is at c.lock_name.ensures in
     let same = lock_usable o.flags o.lock.now c.args.value o.text.now c.in_ok-word.word c.in-Ok.lock c.args.words.now p (some_words _ c.if-words-eq0.false) c.in_ok-word.ensures named.0 named.1 in
@@ -28,31 +28,31 @@ returns-in-Err-Memory-clause-carries g c = (tt, out_anywhere _ _ _ _ refl)
 pub returns-then-words-eq0-clause-carries : goal.returns-then-words-eq0-clause-carries
 returns-then-words-eq0-clause-carries g c =
     let o = c.args.order.now in
-    let p = mind_of c.args.process.now in
+    let p = mind_of c.args.run.now.process in
     let same = no_destination o.flags o.lock.now c.args.value o.text.now c.args.words.now p (no_words _ c.if-words-eq0.true) in
     carried (refuse_name o.text.now p) (deliver_to o.flags o.lock.now c.args.value o.text.now c.args.words.now p) _ _ _ _ _ _ same c.refuse.ensures.carries
 
 pub returns-in-Err-Unusable-clause-carries : goal.returns-in-Err-Unusable-clause-carries
 returns-in-Err-Unusable-clause-carries g c =
     let o = c.args.order.now in
-    let p = mind_of c.args.process.now in
+    let p = mind_of c.args.run.now.process in
     let bad = rw (c.in-Err-Unusable.is, c.in-Err-Unusable.field-0-is) at c.lock_name.ensures in
     let same = lock_unusable o.flags o.lock.now c.args.value o.text.now c.blamed_text-text.result.now c.in_ok-word.word c.args.words.now p (some_words _ c.if-words-eq0.false) c.in_ok-word.ensures bad c.blamed_text-text.ensures in
     carried (refuse_name c.blamed_text-text.result.now p) (deliver_to o.flags o.lock.now c.args.value o.text.now c.args.words.now p) _ _ _ _ _ _ same c.refuse-in-Err-Unusable.ensures.carries
 
 pub returns-in_err-word-clause-sure : goal.returns-in_err-word-clause-sure
-returns-in_err-word-clause-sure g c = on_err _ _ (sure_none c.args.order.now.flags c.args.journal.now c.args.journal.now refl)
+returns-in_err-word-clause-sure g c = on_err _ _ (sure_none c.args.order.now.flags c.args.run.now.journal c.args.run.now.journal refl)
 
 pub returns-in-Ok-clause-sure : goal.returns-in-Ok-clause-sure
 returns-in-Ok-clause-sure g c = c.deliver_named.ensures.sure
 
 pub returns-in-Err-Memory-clause-sure : goal.returns-in-Err-Memory-clause-sure
-returns-in-Err-Memory-clause-sure g c = sure_none c.args.order.now.flags c.args.journal.now c.args.journal.now refl
+returns-in-Err-Memory-clause-sure g c = sure_none c.args.order.now.flags c.args.run.now.journal c.args.run.now.journal refl
 
 pub returns-then-words-eq0-clause-sure : goal.returns-then-words-eq0-clause-sure
 returns-then-words-eq0-clause-sure g c =
-    err_map c.refuse.result _ _ (λ out. calm_sure c.args.order.now.flags c.args.journal.now c.refuse.new.journal (calm_out c.args.order.now.flags (refuse_name c.args.order.now.text.now (mind_of c.args.process.now)) c.args.journal.now c.refuse.new.journal _ _ (calm_said c.args.order.now.flags (mind_of c.args.process.now) _ (GoesOn (mind_of c.args.process.now))) out)) c.refuse.ensures.carries.1
+    err_map c.refuse.result _ _ (λ out. calm_sure c.args.order.now.flags c.args.run.now.journal c.refuse.new.run.journal (calm_out c.args.order.now.flags (refuse_name c.args.order.now.text.now (mind_of c.args.run.now.process)) c.args.run.now.journal c.refuse.new.run.journal _ _ (calm_said c.args.order.now.flags (mind_of c.args.run.now.process) _ (GoesOn (mind_of c.args.run.now.process))) out)) c.refuse.ensures.carries.1
 
 pub returns-in-Err-Unusable-clause-sure : goal.returns-in-Err-Unusable-clause-sure
 returns-in-Err-Unusable-clause-sure g c =
-    err_map c.refuse-in-Err-Unusable.result _ _ (λ out. calm_sure c.args.order.now.flags c.args.journal.now c.refuse-in-Err-Unusable.new.journal (calm_out c.args.order.now.flags (refuse_name c.blamed_text-text.result.now (mind_of c.args.process.now)) c.args.journal.now c.refuse-in-Err-Unusable.new.journal _ _ (calm_said c.args.order.now.flags (mind_of c.args.process.now) _ (GoesOn (mind_of c.args.process.now))) out)) c.refuse-in-Err-Unusable.ensures.carries.1
+    err_map c.refuse-in-Err-Unusable.result _ _ (λ out. calm_sure c.args.order.now.flags c.args.run.now.journal c.refuse-in-Err-Unusable.new.run.journal (calm_out c.args.order.now.flags (refuse_name c.blamed_text-text.result.now (mind_of c.args.run.now.process)) c.args.run.now.journal c.refuse-in-Err-Unusable.new.run.journal _ _ (calm_said c.args.order.now.flags (mind_of c.args.run.now.process) _ (GoesOn (mind_of c.args.run.now.process))) out)) c.refuse-in-Err-Unusable.ensures.carries.1

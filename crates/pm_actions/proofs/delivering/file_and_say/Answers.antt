@@ -15,45 +15,45 @@ use Rattle.pm_actions.proofs.delivering.file_and_say.Goals as goal
 
 pub returns-in_err-attempt-clause-carries : goal.returns-in_err-attempt-clause-carries
 returns-in_err-attempt-clause-carries g c =
-    let p = mind_of c.args.process.now in
+    let p = mind_of c.args.run.now.process in
     (search rules, on_err _ _ (out_front (attempt c.args.lock c.args.order.now.flags c.args.destinations.now p) (after_attempt c.args.order.now.flags c.args.order.now.text.now) _ _ _ _ c.in_err-attempt.ensures.carries.1))
 
 pub returns-in_err-lines-clause-carries : goal.returns-in_err-lines-clause-carries
 returns-in_err-lines-clause-carries g c =
-    let p = mind_of c.args.process.now in
-    let done = attempted_of c.in_ok-attempt.attempt (mind_of c.attempt.new.process) in
-    (search rules, on_err _ _ (attempt_then_out c.args.order.now.flags c.args.lock c.args.order.now.text.now c.args.destinations.now p done _ c.attempt.new.journal _ _ _ _ c.in_ok-attempt.ensures.carries.0 (out_anywhere _ _ _ _ refl)))
+    let p = mind_of c.args.run.now.process in
+    let done = attempted_of c.in_ok-attempt.attempt (mind_of c.attempt.new.run.process) in
+    (search rules, on_err _ _ (attempt_then_out c.args.order.now.flags c.args.lock c.args.order.now.text.now c.args.destinations.now p done _ c.attempt.new.run.journal _ _ _ _ c.in_ok-attempt.ensures.carries.0 (out_anywhere _ _ _ _ refl)))
 
 pub returns-in_err-push_copy-clause-carries : goal.returns-in_err-push_copy-clause-carries
 returns-in_err-push_copy-clause-carries g c =
-    let p = mind_of c.args.process.now in
-    let done = attempted_of c.in_ok-attempt.attempt (mind_of c.attempt.new.process) in
-    (search rules, on_err _ _ (attempt_then_out c.args.order.now.flags c.args.lock c.args.order.now.text.now c.args.destinations.now p done _ c.attempt.new.journal _ _ _ _ c.in_ok-attempt.ensures.carries.0 (out_anywhere _ _ _ _ refl)))
+    let p = mind_of c.args.run.now.process in
+    let done = attempted_of c.in_ok-attempt.attempt (mind_of c.attempt.new.run.process) in
+    (search rules, on_err _ _ (attempt_then_out c.args.order.now.flags c.args.lock c.args.order.now.text.now c.args.destinations.now p done _ c.attempt.new.run.journal _ _ _ _ c.in_ok-attempt.ensures.carries.0 (out_anywhere _ _ _ _ refl)))
 
 pub returns-clause-carries : goal.returns-clause-carries
 returns-clause-carries g c =
-    let p = mind_of c.args.process.now in
+    let p = mind_of c.args.run.now.process in
     let q = mind_of c.settle.new.process in
-    let done = attempted_of c.in_ok-attempt.attempt (mind_of c.attempt.new.process) in
+    let done = attempted_of c.in_ok-attempt.attempt (mind_of c.attempt.new.run.process) in
     let said =
-    carried (say_each q c.push_copy.new.lines.items (turn_of c.end_of-end.result q)) (after_attempt c.args.order.now.flags c.args.order.now.text.now done) _ _ _ _ _ _ (said_after c.args.order.now.flags c.args.order.now.text.now c.in_ok-attempt.attempt (mind_of c.attempt.new.process) q c.in_ok-lines.lines.items _ c.is_done.result _ c.in_ok-push_copy.ensures.lines c.in_ok-lines.ensures.lines c.is_done.ensures c.settle.ensures.mind (c.end_of-end.ensures q)) c.say_each.ensures.carries in (
-      ok_map _ _ _ (λ end h. attempt_then c.args.order.now.flags c.args.lock c.args.order.now.text.now c.args.destinations.now p done (turn_of end q) c.args.journal.now c.attempt.new.journal c.say_each.new.journal _ _ _ c.in_ok-attempt.ensures.carries.0 h) said.0,
-      err_map _ _ _ (λ h. attempt_then_out c.args.order.now.flags c.args.lock c.args.order.now.text.now c.args.destinations.now p done c.args.journal.now c.attempt.new.journal c.say_each.new.journal _ _ _ c.in_ok-attempt.ensures.carries.0 h) said.1,
+    carried (say_each q c.push_copy.new.lines.items (turn_of c.end_of-end.result q)) (after_attempt c.args.order.now.flags c.args.order.now.text.now done) _ _ _ _ _ _ (said_after c.args.order.now.flags c.args.order.now.text.now c.in_ok-attempt.attempt (mind_of c.attempt.new.run.process) q c.in_ok-lines.lines.items _ c.is_done.result _ c.in_ok-push_copy.ensures.lines c.in_ok-lines.ensures.lines c.is_done.ensures c.settle.ensures.mind (c.end_of-end.ensures q)) c.say_each.ensures.carries in (
+      ok_map _ _ _ (λ end h. attempt_then c.args.order.now.flags c.args.lock c.args.order.now.text.now c.args.destinations.now p done (turn_of end (mind_of c.say_each.new.run.process)) c.args.run.now.journal c.attempt.new.run.journal c.say_each.new.run.journal _ _ _ c.in_ok-attempt.ensures.carries.0 h) said.0,
+      err_map _ _ _ (λ h. attempt_then_out c.args.order.now.flags c.args.lock c.args.order.now.text.now c.args.destinations.now p done c.args.run.now.journal c.attempt.new.run.journal c.say_each.new.run.journal _ _ _ c.in_ok-attempt.ensures.carries.0 h) said.1,
     )
 
 pub returns-in_err-attempt-clause-sure : goal.returns-in_err-attempt-clause-sure
 returns-in_err-attempt-clause-sure g c =
-    on_err _ _ (attempt_sure c.args.order.now.flags c.args.journal.now c.attempt.new.journal (grown_out _ c.args.journal.now c.attempt.new.journal _ _ c.in_err-attempt.ensures.carries.1) c.in_err-attempt.ensures.untouched)
+    on_err _ _ (attempt_sure c.args.order.now.flags c.args.run.now.journal c.attempt.new.run.journal (grown_out _ c.args.run.now.journal c.attempt.new.run.journal _ _ c.in_err-attempt.ensures.carries.1) c.in_err-attempt.ensures.untouched)
 
 pub returns-in_err-lines-clause-sure : goal.returns-in_err-lines-clause-sure
 returns-in_err-lines-clause-sure g c =
     let flags = c.args.order.now.flags in
     let text = c.args.order.now.text.now in
-    let done = attempted_of c.in_ok-attempt.attempt (mind_of c.attempt.new.process) in
-    let x = c.args.journal.now in
-    let y = c.attempt.new.journal in
+    let done = attempted_of c.in_ok-attempt.attempt (mind_of c.attempt.new.run.process) in
+    let x = c.args.run.now.journal in
+    let y = c.attempt.new.run.journal in
     let tried = c.in_ok-attempt.ensures.carries.0 in
-    let quiet = attempt_quiet flags text c.args.lock c.args.destinations.now (mind_of c.args.process.now) tried.more done tried.plays in
+    let quiet = attempt_quiet flags text c.args.lock c.args.destinations.now (mind_of c.args.run.now.process) tried.more done tried.plays in
     let first = attempt_lines text c.in_ok-attempt.attempt in
     on_err _ _ (sure_told flags first x y y tried.more tried.entries quiet (calm_none flags y y refl) (λ final. told_some first c.in_err-lines.ensures.sure))
 
@@ -61,11 +61,11 @@ pub returns-in_err-push_copy-clause-sure : goal.returns-in_err-push_copy-clause-
 returns-in_err-push_copy-clause-sure g c =
     let flags = c.args.order.now.flags in
     let text = c.args.order.now.text.now in
-    let done = attempted_of c.in_ok-attempt.attempt (mind_of c.attempt.new.process) in
-    let x = c.args.journal.now in
-    let y = c.attempt.new.journal in
+    let done = attempted_of c.in_ok-attempt.attempt (mind_of c.attempt.new.run.process) in
+    let x = c.args.run.now.journal in
+    let y = c.attempt.new.run.journal in
     let tried = c.in_ok-attempt.ensures.carries.0 in
-    let quiet = attempt_quiet flags text c.args.lock c.args.destinations.now (mind_of c.args.process.now) tried.more done tried.plays in
+    let quiet = attempt_quiet flags text c.args.lock c.args.destinations.now (mind_of c.args.run.now.process) tried.more done tried.plays in
     let first = attempt_lines text c.in_ok-attempt.attempt in
     on_err _ _ (sure_told flags first x y y tried.more tried.entries quiet (calm_none flags y y refl) (copy_some flags first c.in_err-push_copy.ensures.sure))
 
@@ -73,15 +73,15 @@ pub returns-clause-sure : goal.returns-clause-sure
 returns-clause-sure g c =
     let flags = c.args.order.now.flags in
     let text = c.args.order.now.text.now in
-    let done = attempted_of c.in_ok-attempt.attempt (mind_of c.attempt.new.process) in
-    let x = c.args.journal.now in
-    let y = c.attempt.new.journal in
+    let done = attempted_of c.in_ok-attempt.attempt (mind_of c.attempt.new.run.process) in
+    let x = c.args.run.now.journal in
+    let y = c.attempt.new.run.journal in
     let tried = c.in_ok-attempt.ensures.carries.0 in
-    let quiet = attempt_quiet flags text c.args.lock c.args.destinations.now (mind_of c.args.process.now) tried.more done tried.plays in
+    let quiet = attempt_quiet flags text c.args.lock c.args.destinations.now (mind_of c.args.run.now.process) tried.more done tried.plays in
     let first = attempt_lines text c.in_ok-attempt.attempt in
     let q = mind_of c.settle.new.process in
     let all = c.push_copy.new.lines.items in
-    let z = c.say_each.new.journal in
+    let z = c.say_each.new.run.journal in
     let same = c.in_ok-push_copy.ensures.lines ∙ ap (λ l. l ++ copy_lines c.is_done.result flags q) c.in_ok-lines.ensures.lines in
     err_both c.say_each.result _ _ _ (λ some out. sure_told flags first x y z tried.more tried.entries quiet (calm_out flags (say_each q all (turn_of c.end_of-end.result q)) y z _ _ (calm_each flags q all (turn_of c.end_of-end.result q)) out)
     (lines_some flags c.is_done.result q all first same some)) c.say_each.ensures.sure c.say_each.ensures.carries.1

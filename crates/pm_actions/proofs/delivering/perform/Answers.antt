@@ -11,7 +11,7 @@ use Rattle.pm_actions.proofs.delivering.perform.Goals as goal
 
 pub returns-in-Mailbox-clause-carries : goal.returns-in-Mailbox-clause-carries
 returns-in-Mailbox-clause-carries g c =
-    let p = mind_of c.args.process.now in
+    let p = mind_of c.args.run.now.process in
     let top = top_of c.args.recipe.now in
     let action = c.args.recipe.now.action in
     let o = c.order_of-order.result in
@@ -20,7 +20,7 @@ returns-in-Mailbox-clause-carries g c =
 
 pub returns-in-Pipe-clause-carries : goal.returns-in-Pipe-clause-carries
 returns-in-Pipe-clause-carries g c =
-    let p = mind_of c.args.process.now in
+    let p = mind_of c.args.run.now.process in
     let top = top_of c.args.recipe.now in
     let action = c.args.recipe.now.action in
     let o = c.order_of-order-in-Pipe.result in
@@ -29,7 +29,7 @@ returns-in-Pipe-clause-carries g c =
 
 pub returns-in-Capture-clause-carries : goal.returns-in-Capture-clause-carries
 returns-in-Capture-clause-carries g c =
-    let p = mind_of c.args.process.now in
+    let p = mind_of c.args.run.now.process in
     let top = top_of c.args.recipe.now in
     let action = c.args.recipe.now.action in
     let o = c.order_of-order-in-Capture.result in
@@ -38,7 +38,7 @@ returns-in-Capture-clause-carries g c =
 
 pub returns-in-Forward-clause-carries : goal.returns-in-Forward-clause-carries
 returns-in-Forward-clause-carries g c =
-    let p = mind_of c.args.process.now in
+    let p = mind_of c.args.run.now.process in
     let top = top_of c.args.recipe.now in
     let action = c.args.recipe.now.action in
     let o = c.order_of-order-in-Forward.result in
@@ -47,30 +47,30 @@ returns-in-Forward-clause-carries g c =
 
 pub returns-in-WriteOut-clause-carries : goal.returns-in-WriteOut-clause-carries
 returns-in-WriteOut-clause-carries g c =
-    let p = mind_of c.args.process.now in
+    let p = mind_of c.args.run.now.process in
     let top = top_of c.args.recipe.now in
     carried (write_out top.flags top.lock p) (act_on top (act_of c.args.recipe.now.action) p) _ _ _ _ _ _ (writes_out top c.args.recipe.now.action p c.in-WriteOut.is) c.write_out.ensures.carries
 
 pub returns-in-Block : goal.returns-in-Block
 returns-in-Block g c =
-    let p = mind_of c.args.process.now in
-    record { carries = (goes_on p _ _ _ (acts_block (top_of c.args.recipe.now) c.args.recipe.now.action _ p c.in-Block.is), tt); sure = tt; keeping = c.requires.keeping }
+    let p = mind_of c.args.run.now.process in
+    record { carries = (goes_on p _ _ _ (acts_block (top_of c.args.recipe.now) c.args.recipe.now.action _ p c.in-Block.is), tt); sure = tt }
 
 pub returns-in-Mailbox-clause-sure : goal.returns-in-Mailbox-clause-sure
 returns-in-Mailbox-clause-sure g c =
-    subst (λ f. OnErr c.deliver_mail.result (Undelivered f c.args.journal.now c.deliver_mail.new.journal)) c.order_of-order.ensures.flags c.deliver_mail.ensures.sure
+    subst (λ f. OnErr c.deliver_mail.result (Undelivered f c.args.run.now.journal c.deliver_mail.new.run.journal)) c.order_of-order.ensures.flags c.deliver_mail.ensures.sure
 
 pub returns-in-Pipe-clause-sure : goal.returns-in-Pipe-clause-sure
 returns-in-Pipe-clause-sure g c =
-    subst (λ f. OnErr c.pipe.result (Undelivered f c.args.journal.now c.pipe.new.journal)) c.order_of-order-in-Pipe.ensures.flags c.pipe.ensures.sure
+    subst (λ f. OnErr c.pipe.result (Undelivered f c.args.run.now.journal c.pipe.new.run.journal)) c.order_of-order-in-Pipe.ensures.flags c.pipe.ensures.sure
 
 pub returns-in-Capture-clause-sure : goal.returns-in-Capture-clause-sure
 returns-in-Capture-clause-sure g c =
-    subst (λ f. OnErr c.capture.result (Undelivered f c.args.journal.now c.capture.new.journal)) c.order_of-order-in-Capture.ensures.flags c.capture.ensures.sure
+    subst (λ f. OnErr c.capture.result (Undelivered f c.args.run.now.journal c.capture.new.run.journal)) c.order_of-order-in-Capture.ensures.flags c.capture.ensures.sure
 
 pub returns-in-Forward-clause-sure : goal.returns-in-Forward-clause-sure
 returns-in-Forward-clause-sure g c =
-    subst (λ f. OnErr c.forward.result (Undelivered f c.args.journal.now c.forward.new.journal)) c.order_of-order-in-Forward.ensures.flags c.forward.ensures.sure
+    subst (λ f. OnErr c.forward.result (Undelivered f c.args.run.now.journal c.forward.new.run.journal)) c.order_of-order-in-Forward.ensures.flags c.forward.ensures.sure
 
 pub returns-in-WriteOut-clause-sure : goal.returns-in-WriteOut-clause-sure
 returns-in-WriteOut-clause-sure g c = c.write_out.ensures.sure

@@ -7,10 +7,11 @@ use Rattle.pm_actions.proofs.errands.feed.Goals as goal
 
 pub returns-clause-feeds : goal.returns-clause-feeds
 returns-clause-feeds g c =
-    λ folder is. was_fed c.args.flags folder c.args.command c.args.input _ c.args.kept c.in-Ok.end _ (mind_of c.args.process.now) (mind_of c.keep_if.new.process) (mind_of c.note_code.new.process) c.args.journal.now c.run.new.journal _ _
+    λ folder is. was_fed c.args.flags folder c.args.command c.args.input _ c.args.kept c.in-Ok.end _ (mind_of c.args.run.now.process) (mind_of c.keep_if.new.process) (mind_of c.note_code.new.process) c.args.run.now.journal c.run.new.journal _ _
     c.len-count.ensures is c.in-Ok.ensures.ok c.feed_outcome-outcome.ensures c.keep_if.ensures.mind c.note_code.ensures.mind
 
-pub returns-clause-keeping : goal.returns-clause-keeping
-returns-clause-keeping g c =
-    subst (λ l. Keeping c.run.new.journal l.names) (sym (c.note_code.ensures.locks ∙ c.keep_if.ensures.locks))
-    (keeping_plain _ _ c.args.journal.now c.args.journal.now c.run.new.journal _ _ _ tt c.requires.keeping refl c.requires.room c.in-Ok.ensures.ok.notes)
+pub invariant_of-run : goal.invariant_of-run
+invariant_of-run g c =
+    let kept = subst (λ l. Keeping c.run.new.journal l.names) (sym (c.note_code.ensures.locks ∙ c.keep_if.ensures.locks))
+    (keeping_plain _ _ c.args.run.now.journal c.args.run.now.journal c.run.new.journal _ _ _ tt (record { keeps = c.args.run.now.keeps; room = c.args.run.now.room }) refl c.requires.room c.in-Ok.ensures.ok.notes) in
+    record { keeps = kept.keeps; room = kept.room }

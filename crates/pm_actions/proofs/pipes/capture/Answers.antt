@@ -8,7 +8,7 @@ use Rattle.pm_actions.proofs.pipes.capture.Goals as goal
 
 pub returns-clause-carries : goal.returns-clause-carries
 returns-clause-carries g c =
-    let p = mind_of c.args.process.now in
+    let p = mind_of c.args.run.now.process in
     let o = c.args.order.now in
     let name = c.args.name.now in
     let same =

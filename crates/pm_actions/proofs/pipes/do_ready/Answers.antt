@@ -25,7 +25,7 @@ returns-in_err-line-in-Word-clause-carries g c = (search rules, on_err _ _ (out_
 pub returns-in-TooLong-clause-carries : goal.returns-in-TooLong-clause-carries
 returns-in-TooLong-clause-carries g c =
     let t = task_of c.args.task.now in
-    let p = mind_of c.args.process.now in
+    let p = mind_of c.args.run.now.process in
     let reading = reading_of c.args.reading t.text in
     let r = ready_of c.args.ready.now p in
     let next : Option (List ℕ) → Plan Turn = λ word. do_line t word (work_of t.purpose t.flags (fed_piece t.flags p)) (reading.read r.outputs p) p in
@@ -35,7 +35,7 @@ returns-in-TooLong-clause-carries g c =
 pub returns-in_ok-line-in-Word-clause-carries : goal.returns-in_ok-line-in-Word-clause-carries
 returns-in_ok-line-in-Word-clause-carries g c =
     let t = task_of c.args.task.now in
-    let p = mind_of c.args.process.now in
+    let p = mind_of c.args.run.now.process in
     let reading = reading_of c.args.reading t.text in
     let r = ready_of c.args.ready.now p in
     let work : Command → Mind → Plan Tried = work_of t.purpose t.flags (fed_piece t.flags p) in
@@ -45,15 +45,15 @@ returns-in_ok-line-in-Word-clause-carries g c =
     carried (do_line t c.in-Word.word work c.in_ok-line-in-Word.line p) (program_with t reading r) _ _ _ _ _ _ (ap (λ l. do_line t c.in-Word.word work l p) read ∙ lock_worded t r.lock_outputs next c.in-Word.word p h) c.do_line.ensures.carries
 
 pub returns-in_err-text-clause-sure : goal.returns-in_err-text-clause-sure
-returns-in_err-text-clause-sure g c = on_err _ _ (sure_none c.args.task.now.flags c.args.journal.now c.args.journal.now refl)
+returns-in_err-text-clause-sure g c = on_err _ _ (sure_none c.args.task.now.flags c.args.run.now.journal c.args.run.now.journal refl)
 
 pub returns-in_err-line-in-Word-clause-sure : goal.returns-in_err-line-in-Word-clause-sure
-returns-in_err-line-in-Word-clause-sure g c = on_err _ _ (sure_none c.args.task.now.flags c.args.journal.now c.args.journal.now refl)
+returns-in_err-line-in-Word-clause-sure g c = on_err _ _ (sure_none c.args.task.now.flags c.args.run.now.journal c.args.run.now.journal refl)
 
 pub returns-in-TooLong-clause-sure : goal.returns-in-TooLong-clause-sure
 returns-in-TooLong-clause-sure g c =
-    let turn = GoesOn (overflowed (mind_of c.args.process.now)) in
-    err_map c.skip_value.result _ _ (λ out. calm_sure c.args.task.now.flags c.args.journal.now c.skip_value.new.journal (calm_out c.args.task.now.flags (say_then (mind_of c.args.process.now) (value_too_long_line c.in-TooLong.length) turn) c.args.journal.now c.skip_value.new.journal _ _ (calm_said c.args.task.now.flags (mind_of c.args.process.now) _ turn) out)) c.skip_value.ensures.carries.1
+    let turn = GoesOn (overflowed (mind_of c.args.run.now.process)) in
+    err_map c.skip_value.result _ _ (λ out. calm_sure c.args.task.now.flags c.args.run.now.journal c.skip_value.new.journal (calm_out c.args.task.now.flags (say_then (mind_of c.args.run.now.process) (value_too_long_line c.in-TooLong.length) turn) c.args.run.now.journal c.skip_value.new.journal _ _ (calm_said c.args.task.now.flags (mind_of c.args.run.now.process) _ turn) out)) c.skip_value.ensures.carries.1
 
 pub returns-in_ok-line-in-Word-clause-sure : goal.returns-in_ok-line-in-Word-clause-sure
 returns-in_ok-line-in-Word-clause-sure g c = c.do_line.ensures.sure

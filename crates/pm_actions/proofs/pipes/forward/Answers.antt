@@ -9,11 +9,11 @@ returns-in_err-destination-clause-carries g c = (search rules, on_err _ _ (out_a
 pub returns-in_err-push_slice-clause-carries : goal.returns-in_err-push_slice-clause-carries
 returns-in_err-push_slice-clause-carries g c = (search rules, on_err _ _ (out_anywhere _ _ _ _ refl))
 
-pub forward_as-requires-clause-called : goal.forward_as-requires-clause-called
-forward_as-requires-clause-called g c = c.as_slice.ensures ∙ (c.in_ok-push_slice.ensures.ok ∙ ap (λ l. l ++ c.args.order.now.text.now) c.in_ok-destination.ensures)
+pub forward_as-requires : goal.forward_as-requires
+forward_as-requires g c = record { called = c.as_slice.ensures ∙ (c.in_ok-push_slice.ensures.ok ∙ ap (λ l. l ++ c.args.order.now.text.now) c.in_ok-destination.ensures) }
 
 pub returns-in_err-destination-clause-sure : goal.returns-in_err-destination-clause-sure
-returns-in_err-destination-clause-sure g c = on_err _ _ (sure_none c.args.order.now.flags c.args.journal.now c.args.journal.now refl)
+returns-in_err-destination-clause-sure g c = on_err _ _ (sure_none c.args.order.now.flags c.args.run.now.journal c.args.run.now.journal refl)
 
 pub returns-in_err-push_slice-clause-sure : goal.returns-in_err-push_slice-clause-sure
-returns-in_err-push_slice-clause-sure g c = on_err _ _ (sure_none c.args.order.now.flags c.args.journal.now c.args.journal.now refl)
+returns-in_err-push_slice-clause-sure g c = on_err _ _ (sure_none c.args.order.now.flags c.args.run.now.journal c.args.run.now.journal refl)

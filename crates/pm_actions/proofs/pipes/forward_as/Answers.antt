@@ -8,7 +8,7 @@ use Rattle.pm_actions.proofs.pipes.forward_as.Goals as goal
 
 pub returns-clause-carries : goal.returns-clause-carries
 returns-clause-carries g c =
-    let p = mind_of c.args.process.now in
+    let p = mind_of c.args.run.now.process in
     let flags = c.args.flags in
     let lock = c.args.lock.now in
     let text = c.args.text.now in

@@ -8,7 +8,7 @@ use Rattle.pm_actions.proofs.pipes.pipe.Goals as goal
 
 pub returns-clause-carries : goal.returns-clause-carries
 returns-clause-carries g c =
-    let p = mind_of c.args.process.now in
+    let p = mind_of c.args.run.now.process in
     let o = c.args.order.now in
     let same =
     is_pipe o.flags o.lock.now o.text.now c.appended_name.result.now (purpose_of c.pipe_purpose.result) (reading_of c.line_reading-reading.result o.text.now) p c.appended_name.ensures c.pipe_purpose.ensures

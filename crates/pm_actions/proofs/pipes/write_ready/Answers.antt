@@ -23,7 +23,7 @@ returns-in_err-errand-in-Word-clause-carries g c = (search rules, on_err _ _ (ou
 pub returns-in-TooLong-clause-carries : goal.returns-in-TooLong-clause-carries
 returns-in-TooLong-clause-carries g c =
     let t = task_of c.args.task.now in
-    let p = mind_of c.args.process.now in
+    let p = mind_of c.args.run.now.process in
     let r = ready_of c.args.ready.now p in
     let next : Option (List ℕ) → Plan Turn = λ word. do_named t word (write (fed_piece t.flags p)) p in
     let h = rw (c.in-TooLong.is, c.as_slice.ensures.value) at c.in_ok-text.ensures in
@@ -32,22 +32,22 @@ returns-in-TooLong-clause-carries g c =
 pub returns-in_ok-errand-in-Word-clause-carries : goal.returns-in_ok-errand-in-Word-clause-carries
 returns-in_ok-errand-in-Word-clause-carries g c =
     let t = task_of c.args.task.now in
-    let p = mind_of c.args.process.now in
+    let p = mind_of c.args.run.now.process in
     let r = ready_of c.args.ready.now p in
     let next : Option (List ℕ) → Plan Turn = λ word. do_named t word (write (fed_piece t.flags p)) p in
     let h = rw (c.in-Word.is, c.as_slice.ensures.value) at c.in_ok-text.ensures in
     carried (next c.in-Word.word) (write_with t r) _ _ _ _ _ _ (lock_worded t r.lock_outputs next c.in-Word.word p h) (c.do_named.ensures.carries (write (fed_piece t.flags p)) c.in_ok-errand-in-Word.ensures)
 
 pub returns-in_err-text-clause-sure : goal.returns-in_err-text-clause-sure
-returns-in_err-text-clause-sure g c = on_err _ _ (sure_none c.args.task.now.flags c.args.journal.now c.args.journal.now refl)
+returns-in_err-text-clause-sure g c = on_err _ _ (sure_none c.args.task.now.flags c.args.run.now.journal c.args.run.now.journal refl)
 
 pub returns-in_err-errand-in-Word-clause-sure : goal.returns-in_err-errand-in-Word-clause-sure
-returns-in_err-errand-in-Word-clause-sure g c = on_err _ _ (sure_none c.args.task.now.flags c.args.journal.now c.args.journal.now refl)
+returns-in_err-errand-in-Word-clause-sure g c = on_err _ _ (sure_none c.args.task.now.flags c.args.run.now.journal c.args.run.now.journal refl)
 
 pub returns-in-TooLong-clause-sure : goal.returns-in-TooLong-clause-sure
 returns-in-TooLong-clause-sure g c =
-    let turn = GoesOn (overflowed (mind_of c.args.process.now)) in
-    err_map c.skip_value.result _ _ (λ out. calm_sure c.args.task.now.flags c.args.journal.now c.skip_value.new.journal (calm_out c.args.task.now.flags (say_then (mind_of c.args.process.now) (value_too_long_line c.in-TooLong.length) turn) c.args.journal.now c.skip_value.new.journal _ _ (calm_said c.args.task.now.flags (mind_of c.args.process.now) _ turn) out)) c.skip_value.ensures.carries.1
+    let turn = GoesOn (overflowed (mind_of c.args.run.now.process)) in
+    err_map c.skip_value.result _ _ (λ out. calm_sure c.args.task.now.flags c.args.run.now.journal c.skip_value.new.journal (calm_out c.args.task.now.flags (say_then (mind_of c.args.run.now.process) (value_too_long_line c.in-TooLong.length) turn) c.args.run.now.journal c.skip_value.new.journal _ _ (calm_said c.args.task.now.flags (mind_of c.args.run.now.process) _ turn) out)) c.skip_value.ensures.carries.1
 
 pub returns-in_ok-errand-in-Word-clause-sure : goal.returns-in_ok-errand-in-Word-clause-sure
-returns-in_ok-errand-in-Word-clause-sure g c = c.do_named.ensures.sure (write (fed_piece c.args.task.now.flags (mind_of c.args.process.now))) c.in_ok-errand-in-Word.ensures
+returns-in_ok-errand-in-Word-clause-sure g c = c.do_named.ensures.sure (write (fed_piece c.args.task.now.flags (mind_of c.args.run.now.process))) c.in_ok-errand-in-Word.ensures

@@ -15,36 +15,36 @@ use Rattle.pm_actions.proofs.tasks.do_free.Goals as goal
 
 pub returns-in_err-tell_first-clause-carries : goal.returns-in_err-tell_first-clause-carries
 returns-in_err-tell_first-clause-carries g c =
-    λ work is. (search rules, on_err _ _ (c.in_err-tell_first.ensures.memory (try_and_say (task_of c.args.task.now) c.args.lock work (mind_of c.args.process.now))))
+    λ work is. (search rules, on_err _ _ (c.in_err-tell_first.ensures.memory (try_and_say (task_of c.args.task.now) c.args.lock work (mind_of c.args.run.now.process))))
 
 pub returns-clause-carries : goal.returns-clause-carries
 returns-clause-carries g c =
     let t = task_of c.args.task.now in
-    let p = mind_of c.args.process.now in
-    let q = mind_of c.try_and_say.new.process in
+    let p = mind_of c.args.run.now.process in
+    let q = mind_of c.try_and_say.new.run.process in
     λ work is.
     let next = try_and_say t c.args.lock work p in
     let whole = told_first t p next in
     let leads = c.in_ok-tell_first.ensures.told next in
-    let said = c.try_and_say.ensures.carries work is in (
-      ok_map _ _ _ (λ end h. leads_to_end whole next (turn_of end q) c.args.journal.now c.tell_first.new.journal c.try_and_say.new.journal _ _ _ leads h) said.0,
-      err_map _ _ _ (λ h. leads_to_want whole next c.args.journal.now c.tell_first.new.journal c.try_and_say.new.journal _ _ _ leads h) said.1,
+    let said = (rw c.tell_first.ensures.same at c.try_and_say.ensures.carries) work is in (
+      ok_map _ _ _ (λ end h. leads_to_end whole next (turn_of end q) c.args.run.now.journal c.tell_first.new.run.journal c.try_and_say.new.run.journal _ _ _ leads h) said.0,
+      err_map _ _ _ (λ h. leads_to_want whole next c.args.run.now.journal c.tell_first.new.run.journal c.try_and_say.new.run.journal _ _ _ leads h) said.1,
     )
 
 pub returns-in_err-tell_first-clause-sure : goal.returns-in_err-tell_first-clause-sure
 returns-in_err-tell_first-clause-sure g c =
     let t = task_of c.args.task.now in
-    let p = mind_of c.args.process.now in
+    let p = mind_of c.args.run.now.process in
     let flags = c.args.task.now.flags in
     let whole = told_first t p (Ends (GoesOn p)) in
     let calm = calm_if flags (lacks_lock t) (and_then (log (no_lock_line t.text) p) (λ done. Ends (GoesOn p))) (Ends (GoesOn p)) (calm_said flags p (no_lock_line t.text) (GoesOn p)) tt in
-    λ work is. on_err _ _ (calm_sure flags c.args.journal.now c.tell_first.new.journal (calm_out flags whole c.args.journal.now c.tell_first.new.journal _ _ calm (c.in_err-tell_first.ensures.memory (Ends (GoesOn p)))))
+    λ work is. on_err _ _ (calm_sure flags c.args.run.now.journal c.tell_first.new.run.journal (calm_out flags whole c.args.run.now.journal c.tell_first.new.run.journal _ _ calm (c.in_err-tell_first.ensures.memory (Ends (GoesOn p)))))
 
 pub returns-clause-sure : goal.returns-clause-sure
 returns-clause-sure g c =
     let t = task_of c.args.task.now in
-    let p = mind_of c.args.process.now in
+    let p = mind_of c.args.run.now.process in
     let flags = c.args.task.now.flags in
     let whole = told_first t p (Ends (GoesOn p)) in
     let calm = calm_if flags (lacks_lock t) (and_then (log (no_lock_line t.text) p) (λ done. Ends (GoesOn p))) (Ends (GoesOn p)) (calm_said flags p (no_lock_line t.text) (GoesOn p)) tt in
-    λ work is. err_map c.try_and_say.result _ _ (sure_after flags c.args.journal.now c.tell_first.new.journal c.try_and_say.new.journal (calm_lead flags whole (GoesOn p) c.args.journal.now c.tell_first.new.journal _ _ calm (c.in_ok-tell_first.ensures.told (Ends (GoesOn p))))) (c.try_and_say.ensures.sure work is)
+    λ work is. err_map c.try_and_say.result _ _ (sure_after flags c.args.run.now.journal c.tell_first.new.run.journal c.try_and_say.new.run.journal (calm_lead flags whole (GoesOn p) c.args.run.now.journal c.tell_first.new.run.journal _ _ calm (c.in_ok-tell_first.ensures.told (Ends (GoesOn p))))) ((rw c.tell_first.ensures.same at c.try_and_say.ensures.sure) work is)

@@ -21,7 +21,7 @@ returns-in_err-errand-in-Runs-clause-carries g c = (search rules, on_err _ _ (ou
 pub returns-in_ok-errand-in-Runs-clause-carries : goal.returns-in_ok-errand-in-Runs-clause-carries
 returns-in_ok-errand-in-Runs-clause-carries g c =
     let t = task_of c.args.task.now in
-    let p = mind_of c.args.process.now in
+    let p = mind_of c.args.run.now.process in
     let work : Command → Mind → Plan Tried = work_of t.purpose t.flags (fed_piece t.flags p) in
     carried (do_named t c.args.word (work c.in-Runs.command) p) (do_line t c.args.word work c.args.line p) _ _ _ _ _ _
     (read_so t c.args.word work (Runs c.in-Runs.command) c.args.line p c.in-Runs.is) (c.do_named.ensures.carries (work c.in-Runs.command) c.in_ok-errand-in-Runs.ensures)
@@ -29,14 +29,14 @@ returns-in_ok-errand-in-Runs-clause-carries g c =
 pub returns-in-NoWords-clause-carries : goal.returns-in-NoWords-clause-carries
 returns-in-NoWords-clause-carries g c =
     let t = task_of c.args.task.now in
-    let p = mind_of c.args.process.now in
+    let p = mind_of c.args.run.now.process in
     let work : Command → Mind → Plan Tried = work_of t.purpose t.flags (fed_piece t.flags p) in
     carried (refuse_name t.text p) (do_line t c.args.word work c.args.line p) _ _ _ _ _ _ (read_so t c.args.word work NoWords c.args.line p c.in-NoWords.is) c.refuse.ensures.carries
 
 pub returns-in-Unusable-clause-carries : goal.returns-in-Unusable-clause-carries
 returns-in-Unusable-clause-carries g c =
     let t = task_of c.args.task.now in
-    let p = mind_of c.args.process.now in
+    let p = mind_of c.args.run.now.process in
     let work : Command → Mind → Plan Tried = work_of t.purpose t.flags (fed_piece t.flags p) in
     carried (refuse_name (unusable_text t c.args.word) p) (do_line t c.args.word work c.args.line p) _ _ _ _ _ _
     (read_so t c.args.word work Unusable c.args.line p c.in-Unusable.is) c.refuse_line.ensures.carries
@@ -44,30 +44,30 @@ returns-in-Unusable-clause-carries g c =
 pub returns-in-TooLong-clause-carries : goal.returns-in-TooLong-clause-carries
 returns-in-TooLong-clause-carries g c =
     let t = task_of c.args.task.now in
-    let p = mind_of c.args.process.now in
+    let p = mind_of c.args.run.now.process in
     let work : Command → Mind → Plan Tried = work_of t.purpose t.flags (fed_piece t.flags p) in
     carried (say_then p (value_too_long_line c.in-TooLong.length) (GoesOn (overflowed p))) (do_line t c.args.word work c.args.line p) _ _ _ _ _ _
     (read_so t c.args.word work (TooLong c.in-TooLong.length) c.args.line p c.in-TooLong.is) c.skip_value.ensures.carries
 
 pub returns-in_err-errand-in-Runs-clause-sure : goal.returns-in_err-errand-in-Runs-clause-sure
-returns-in_err-errand-in-Runs-clause-sure g c = on_err _ _ (sure_none c.args.task.now.flags c.args.journal.now c.args.journal.now refl)
+returns-in_err-errand-in-Runs-clause-sure g c = on_err _ _ (sure_none c.args.task.now.flags c.args.run.now.journal c.args.run.now.journal refl)
 
 pub returns-in_ok-errand-in-Runs-clause-sure : goal.returns-in_ok-errand-in-Runs-clause-sure
 returns-in_ok-errand-in-Runs-clause-sure g c =
     let t = task_of c.args.task.now in
-    let p = mind_of c.args.process.now in
+    let p = mind_of c.args.run.now.process in
     let work : Command → Mind → Plan Tried = work_of t.purpose t.flags (fed_piece t.flags p) in
     c.do_named.ensures.sure (work c.in-Runs.command) c.in_ok-errand-in-Runs.ensures
 
 pub returns-in-NoWords-clause-sure : goal.returns-in-NoWords-clause-sure
 returns-in-NoWords-clause-sure g c =
-    err_map c.refuse.result _ _ (λ out. calm_sure c.args.task.now.flags c.args.journal.now c.refuse.new.journal (calm_out c.args.task.now.flags (refuse_name c.args.task.now.text.now (mind_of c.args.process.now)) c.args.journal.now c.refuse.new.journal _ _ (calm_said c.args.task.now.flags (mind_of c.args.process.now) _ (GoesOn (mind_of c.args.process.now))) out)) c.refuse.ensures.carries.1
+    err_map c.refuse.result _ _ (λ out. calm_sure c.args.task.now.flags c.args.run.now.journal c.refuse.new.run.journal (calm_out c.args.task.now.flags (refuse_name c.args.task.now.text.now (mind_of c.args.run.now.process)) c.args.run.now.journal c.refuse.new.run.journal _ _ (calm_said c.args.task.now.flags (mind_of c.args.run.now.process) _ (GoesOn (mind_of c.args.run.now.process))) out)) c.refuse.ensures.carries.1
 
 pub returns-in-Unusable-clause-sure : goal.returns-in-Unusable-clause-sure
 returns-in-Unusable-clause-sure g c =
-    err_map c.refuse_line.result _ _ (λ out. calm_sure c.args.task.now.flags c.args.journal.now c.refuse_line.new.journal (calm_out c.args.task.now.flags (refuse_name (unusable_text (task_of c.args.task.now) c.args.word) (mind_of c.args.process.now)) c.args.journal.now c.refuse_line.new.journal _ _ (calm_said c.args.task.now.flags (mind_of c.args.process.now) _ (GoesOn (mind_of c.args.process.now))) out)) c.refuse_line.ensures.carries.1
+    err_map c.refuse_line.result _ _ (λ out. calm_sure c.args.task.now.flags c.args.run.now.journal c.refuse_line.new.run.journal (calm_out c.args.task.now.flags (refuse_name (unusable_text (task_of c.args.task.now) c.args.word) (mind_of c.args.run.now.process)) c.args.run.now.journal c.refuse_line.new.run.journal _ _ (calm_said c.args.task.now.flags (mind_of c.args.run.now.process) _ (GoesOn (mind_of c.args.run.now.process))) out)) c.refuse_line.ensures.carries.1
 
 pub returns-in-TooLong-clause-sure : goal.returns-in-TooLong-clause-sure
 returns-in-TooLong-clause-sure g c =
-    let turn = GoesOn (overflowed (mind_of c.args.process.now)) in
-    err_map c.skip_value.result _ _ (λ out. calm_sure c.args.task.now.flags c.args.journal.now c.skip_value.new.journal (calm_out c.args.task.now.flags (say_then (mind_of c.args.process.now) (value_too_long_line c.in-TooLong.length) turn) c.args.journal.now c.skip_value.new.journal _ _ (calm_said c.args.task.now.flags (mind_of c.args.process.now) _ turn) out)) c.skip_value.ensures.carries.1
+    let turn = GoesOn (overflowed (mind_of c.args.run.now.process)) in
+    err_map c.skip_value.result _ _ (λ out. calm_sure c.args.task.now.flags c.args.run.now.journal c.skip_value.new.journal (calm_out c.args.task.now.flags (say_then (mind_of c.args.run.now.process) (value_too_long_line c.in-TooLong.length) turn) c.args.run.now.journal c.skip_value.new.journal _ _ (calm_said c.args.task.now.flags (mind_of c.args.run.now.process) _ turn) out)) c.skip_value.ensures.carries.1

@@ -9,8 +9,8 @@ returns-in_err-reserve-clause-carries g c = λ work is. (search rules, on_err _ 
 
 pub returns-in_err-outcome-clause-carries : goal.returns-in_err-outcome-clause-carries
 returns-in_err-outcome-clause-carries g c =
-    λ work is. (search rules, on_err _ _ (tried_free_out work (mind_of c.args.process.now) c.args.journal.now c.reserve.new.self c.carry.new.journal _ _ c.reserve.ensures.same (c.in_err-outcome.ensures.carries work is).1))
+    λ work is. (search rules, on_err _ _ (tried_free_out work (mind_of c.args.run.now.process) c.args.run.now.journal c.reserve.new.self c.carry.new.run.journal _ _ c.reserve.ensures.same (c.in_err-outcome.ensures.carries work is).1))
 
 pub returns-clause-carries : goal.returns-clause-carries
 returns-clause-carries g c =
-    λ work is. (tried_free work (mind_of c.args.process.now) (mind_of c.carry.new.process) c.in_ok-outcome.outcome c.args.journal.now c.reserve.new.self c.carry.new.journal _ _ c.reserve.ensures.same (c.in_ok-outcome.ensures.carries work is).0, tt)
+    λ work is. (tried_free work (mind_of c.args.run.now.process) (mind_of c.carry.new.run.process) c.in_ok-outcome.outcome c.args.run.now.journal c.reserve.new.self c.carry.new.run.journal _ _ c.reserve.ensures.same (c.in_ok-outcome.ensures.carries work is).0, tt)
