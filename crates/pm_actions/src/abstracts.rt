@@ -1,14 +1,14 @@
 //! The abstract of a delivery, and when it is logged (procmailrc(5), LOGFILE and LOGABSTRACT).
-ghost use Rattle.std.specs.Prelude.{◌≡◌, ◌==◌, ◌≤◌, ◌-◌, ◌++◌, position, take, drop, true, IfOk, OnOk, OnErr, map, vec_capacity, vec_len};
+ghost use Rattle.std.specs.Prelude.{◌≡◌, ◌==◌, ◌≤◌, ◌-◌, ◌++◌, position, take, drop, true, IfOk, OnOk, OnErr, map};
+ghost use Rattle.std.specs.Prelude.{vec_capacity, vec_len};
 ghost use Rattle.pm_bytes.specs.Letter.{lower_case};
 ghost use Rattle.pm_message.specs.Field.{texts_of};
 ghost use Rattle.pm_journal.specs.LogText.{shown_byte, quoted};
-ghost use Rattle.pm_meaning.specs.Abstracts.{abstract_of as abstract_in, first_line as line_first};
-ghost use Rattle.pm_meaning.specs.Abstracts.{from_part as part_of_from, is_subject as subject_is, subject_line as line_of_subject};
-ghost use Rattle.pm_meaning.specs.Abstracts.{subject_part as part_of_subject, folder_part as part_of_folder};
-ghost use Rattle.pm_meaning.specs.Abstracts.{has_log as log_is_there, logs_all as all_are_logged, logs_last as last_is_logged, copy_lines};
+ghost use Rattle.pm_meaning.specs.Abstracts;
+ghost use Rattle.pm_meaning.specs.Abstracts.{folder_part};
+ghost use Rattle.pm_meaning.specs.Abstracts.{copy_lines};
 ghost use Rattle.pm_meaning.specs.Minds.{mind_of};
-ghost use Rattle.pm_actions.specs.AbstractParts.{mail_part as part_of_mail};
+ghost use Rattle.pm_actions.specs.AbstractParts;
 
 use itoa::Buffer;
 use pm_bytes::{Blob, Memory, fold};
@@ -21,7 +21,7 @@ use std::collections::VecDeque;
 /// The abstract of the last delivery: the line From of the mail and its first subject, where it has them, and where it
 /// was delivered to, with the number of bytes.
 pub fn abstract_of(alloc: Global, process: &Process) -> Result<Blob, Memory>
-    ensures { IfOk result (λ text. text ≡ abstract_in (mind_of process.now)) }
+    ensures { IfOk result (λ text. text ≡ Abstracts.abstract_of (mind_of process.now)) }
 {
     let mut text = mail_part(alloc, process.message.parts(), 0)?;
     push_folder(&process.stored, &mut text)?;
@@ -30,7 +30,7 @@ pub fn abstract_of(alloc: Global, process: &Process) -> Result<Blob, Memory>
 
 /// What an abstract says of the mail itself, with room for so many bytes more.
 pub fn mail_part(alloc: Global, message: &Message, room: usize) -> Result<Vec<u8>, Memory>
-    ensures text { IfOk result (λ text. text.items ≡ part_of_mail message.now.head) }
+    ensures text { IfOk result (λ text. text.items ≡ AbstractParts.mail_part message.now.head) }
     ensures room { IfOk result (λ text. room ≤ vec_capacity text - vec_len text) }
 {
     let mut text = from_part(alloc, message.head.as_slice())?;
@@ -43,7 +43,7 @@ pub fn mail_part(alloc: Global, message: &Message, room: usize) -> Result<Vec<u8
 
 // The line From, where the mail has one.
 fn from_part(alloc: Global, head: &[u8]) -> Result<Blob, Memory>
-    ensures { IfOk result (λ text. text ≡ part_of_from head.now) }
+    ensures { IfOk result (λ text. text ≡ Abstracts.from_part head.now) }
 {
     if !head.starts_with(b"From ") {
         return Ok(Blob::empty(alloc));
@@ -55,7 +55,7 @@ fn from_part(alloc: Global, head: &[u8]) -> Result<Blob, Memory>
 
 // The text up to its first newline.
 fn first_line(text: &[u8]) -> &[u8]
-    ensures { result.now ≡ line_first text.now }
+    ensures { result.now ≡ Abstracts.first_line text.now }
 {
     &text[..line_end(text).unwrap_or(text.len())]
 }
@@ -67,7 +67,7 @@ fn line_end(text: &[u8]) -> Option<usize>
 }
 
 fn subject_part(alloc: Global, message: &Message) -> Result<Blob, Memory>
-    ensures { IfOk result (λ text. text ≡ part_of_subject (texts_of message.now.head)) }
+    ensures { IfOk result (λ text. text ≡ Abstracts.subject_part (texts_of message.now.head)) }
 {
     let fields = field_texts(alloc, message)?;
     first_subject(alloc, fields.as_slice())
@@ -75,7 +75,7 @@ fn subject_part(alloc: Global, message: &Message) -> Result<Blob, Memory>
 
 // The first subject among these fields.
 fn first_subject(alloc: Global, fields: &[Blob]) -> Result<Blob, Memory>
-    ensures { IfOk result (λ text. text ≡ part_of_subject fields.now) }
+    ensures { IfOk result (λ text. text ≡ Abstracts.subject_part fields.now) }
 {
     for field in fields {
         if is_subject(alloc, field.as_slice())? {
@@ -86,7 +86,7 @@ fn first_subject(alloc: Global, fields: &[Blob]) -> Result<Blob, Memory>
 }
 
 fn is_subject(alloc: Global, field: &[u8]) -> Result<bool, Memory>
-    ensures { IfOk result (λ is. is ≡ subject_is field.now) }
+    ensures { IfOk result (λ is. is ≡ Abstracts.is_subject field.now) }
 {
     let name = folded(alloc, front(field, 8))?;
     Ok(name.as_slice() == b"subject:".as_slice())
@@ -101,7 +101,7 @@ fn folded(alloc: Global, text: &[u8]) -> Result<Vec<u8>, AllocError>
 
 // What the subject's first line says, as far as 78 bytes.
 fn subject_line(alloc: Global, field: &[u8]) -> Result<Blob, Memory>
-    ensures { IfOk result (λ text. text ≡ line_of_subject field.now) }
+    ensures { IfOk result (λ text. text ≡ Abstracts.subject_line field.now) }
 {
     let value = past_blanks(first_line(behind(field, 8)));
     let mut line = Blob::from_slice(alloc, b" Subject: ")?;
@@ -134,7 +134,7 @@ fn behind(text: &[u8], count: usize) -> &[u8]
 
 /// Adds where the mail was delivered to, and how many bytes.
 pub fn push_folder(stored: &Stored, text: &mut Vec<u8>) -> Result<(), Memory>
-    ensures { OnOk result (text.new.items ≡ text.old.items ++ part_of_folder stored.now) }
+    ensures { OnOk result (text.new.items ≡ text.old.items ++ folder_part stored.now) }
 {
     let mut buffer = Buffer::new();
     text.extend_from_slice(b"  Folder: ")?;
@@ -163,21 +163,21 @@ fn shown(byte: u8) -> u8
 
 // Whether there is a log for abstracts.
 fn has_log(process: &Process) -> bool
-    ensures { result ≡ log_is_there (mind_of process.now) }
+    ensures { result ≡ Abstracts.has_log (mind_of process.now) }
 {
     !value_or(b"", b"LOGFILE", &process.vars).is_empty()
 }
 
 /// Whether the abstract of each delivery is logged: LOGFILE isn't empty, and LOGABSTRACT is `all`.
 pub fn logs_all(process: &Process) -> bool
-    ensures { result ≡ all_are_logged (mind_of process.now) }
+    ensures { result ≡ Abstracts.logs_all (mind_of process.now) }
 {
     has_log(process) && value_or(b"", b"LOGABSTRACT", &process.vars) == b"all".as_slice()
 }
 
 /// Whether the abstract of the last delivery is logged: LOGFILE isn't empty, and LOGABSTRACT isn't `no`.
 pub fn logs_last(process: &Process) -> bool
-    ensures { result ≡ last_is_logged (mind_of process.now) }
+    ensures { result ≡ Abstracts.logs_last (mind_of process.now) }
 {
     has_log(process) && value_or(b"", b"LOGABSTRACT", &process.vars) != b"no".as_slice()
 }

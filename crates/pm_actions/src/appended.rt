@@ -1,19 +1,21 @@
 //! The file to which a program line appends: its name gives the automatic lock file (procmailrc(5), "Local lockfile").
 ghost use Rattle.std.specs.Prelude.{◌≡◌, position};
-ghost use Rattle.pm_meaning.specs.Leads.{is_no_blank, behind_blanks as past_blanks};
-ghost use Rattle.pm_meaning.specs.ProgramActions.{behind_arrows as past_arrows, ends_name, up_to_end, appended_name as name_appended};
+ghost use Rattle.pm_meaning.specs.Leads.{is_no_blank};
+ghost use Rattle.pm_meaning.specs.Leads;
+ghost use Rattle.pm_meaning.specs.ProgramActions.{ends_name, up_to_end};
+ghost use Rattle.pm_meaning.specs.ProgramActions;
 
 use pm_bytes::{is_blank, is_space};
 
 /// The name after the first `>>` and blanks.
 pub fn appended_name(line: &[u8]) -> &[u8]
-    ensures { result.now ≡ name_appended line.now }
+    ensures { result.now ≡ ProgramActions.appended_name line.now }
 {
     first_name(behind_blanks(behind_arrows(line)))
 }
 
 fn behind_arrows(line: &[u8]) -> &[u8]
-    ensures { result.now ≡ past_arrows line.now }
+    ensures { result.now ≡ ProgramActions.behind_arrows line.now }
 {
     let mut rest = line;
     while let [_, behind @ ..] = rest {
@@ -26,7 +28,7 @@ fn behind_arrows(line: &[u8]) -> &[u8]
 }
 
 fn behind_blanks(text: &[u8]) -> &[u8]
-    ensures { result.now ≡ past_blanks text.now }
+    ensures { result.now ≡ Leads.behind_blanks text.now }
 {
     &text[blanks_end(text).unwrap_or(text.len())..]
 }

@@ -1,11 +1,11 @@
 //! An attempt to deliver to destinations, under a lock file where one is asked for. All memory that files want is taken
-//! before the first act, so that none can be wanting between two deliveries to files. A folder wants some of its own; where
-//! that is wanting under the lock, the lock is still held, and whoever holds it gives it back.
+//! before the first act, so that none can be wanting between two deliveries to files. A folder wants some of its own;
+//! where that is wanting under the lock, the lock is still held, and whoever holds it gives it back.
 ghost use Rattle.std.specs.Prelude.{◌≡◌, ◌+◌, ◌*◌, false, IfOk, OnErr};
 ghost use Rattle.pm_journal.specs.Entries.{unlock_reply};
 ghost use Rattle.pm_journal.specs.Executed.{Carries};
 ghost use Rattle.pm_journal.specs.Held.{holds_name};
-ghost use Rattle.pm_meaning.specs.Delivering.{attempt as attempted};
+ghost use Rattle.pm_meaning.specs.Delivering;
 ghost use Rattle.pm_meaning.specs.Locks.{is_fault};
 ghost use Rattle.pm_meaning.specs.Minds.{mind_of};
 ghost use Rattle.pm_actions.specs.Copies.{attempted_of, IsFreeLock};
@@ -21,8 +21,8 @@ use pm_meaning::{Attempt, Destination};
 use pm_recipe::Flags;
 use std::alloc::Global;
 
-/// Delivers to each destination in order, up to one that doesn't get the mail, under the lock of this name. After want of
-/// memory nothing was noted, unless a folder was met.
+/// Delivers to each destination in order, up to one that doesn't get the mail, under the lock of this name. After want
+/// of memory nothing was noted, unless a folder was met.
 pub fn attempt<D: Effects>(
     alloc: Global,
     lock: Option<Name>,
@@ -31,7 +31,7 @@ pub fn attempt<D: Effects>(
     run: &mut Run<D>,
 ) -> Result<Attempt, Memory>
     requires free { IsFreeLock lock run.old.process.locks.names }
-    ensures carries { Carries (attempted lock flags destinations.now (mind_of run.old.process))
+    ensures carries { Carries (Delivering.attempt lock flags destinations.now (mind_of run.old.process))
         (λ attempt. attempted_of attempt (mind_of run.new.process)) result
         run.old.journal run.new.journal (D.told run.old.outside) (D.told run.new.outside) }
     ensures untouched { OnErr result (HasNone run.old.journal run.new.journal) }
@@ -48,7 +48,7 @@ fn file_all<D: Effects>(
     destinations: &[Destination],
     run: &mut Run<D>,
 ) -> Result<Attempt, Memory>
-    ensures carries { Carries (attempted None flags destinations.now (mind_of run.old.process))
+    ensures carries { Carries (Delivering.attempt None flags destinations.now (mind_of run.old.process))
         (λ attempt. attempted_of attempt (mind_of run.new.process)) result
         run.old.journal run.new.journal (D.told run.old.outside) (D.told run.new.outside) }
     ensures untouched { OnErr result (HasNone run.old.journal run.new.journal) }
@@ -69,7 +69,7 @@ fn file_locked<D: Effects>(
     run: &mut Run<D>,
 ) -> Result<Attempt, Memory>
     requires free { holds_name run.old.process.locks.names name ≡ false }
-    ensures carries { Carries (attempted (Some name) flags destinations.now (mind_of run.old.process))
+    ensures carries { Carries (Delivering.attempt (Some name) flags destinations.now (mind_of run.old.process))
         (λ attempt. attempted_of attempt (mind_of run.new.process)) result
         run.old.journal run.new.journal (D.told run.old.outside) (D.told run.new.outside) }
     ensures untouched { OnErr result (HasNone run.old.journal run.new.journal) }

@@ -5,14 +5,13 @@ ghost use Rattle.pm_subst.specs.Commands.{commands_in};
 ghost use Rattle.pm_subst.specs.declared.kinds.Mode.TheVariants.{One, Many};
 ghost use Rattle.pm_recipe.specs.View.{act_of};
 ghost use Rattle.pm_meaning.specs.Acting.{act_on};
-ghost use Rattle.pm_meaning.specs.Locks.{blamed_text as blamed, text_or};
-ghost use Rattle.pm_meaning.specs.Delivering.{attempt_turn, filed_turn, is_done as is_done_by, settled};
-ghost use Rattle.pm_meaning.specs.Delivering.{file_and_say as filed_and_said};
+ghost use Rattle.pm_meaning.specs.Locks.{text_or};
+ghost use Rattle.pm_meaning.specs.Locks;
+ghost use Rattle.pm_meaning.specs.Delivering.{attempt_turn, filed_turn, settled};
+ghost use Rattle.pm_meaning.specs.Delivering;
 ghost use Rattle.pm_meaning.specs.Turns.{refuse_name};
-ghost use Rattle.pm_meaning.specs.Delivering.{deliver_at as to_names, deliver_named as to_usable};
-ghost use Rattle.pm_meaning.specs.Delivering.{deliver_to as to_words, deliver_text as by_value, deliver_with, deliver};
+ghost use Rattle.pm_meaning.specs.Delivering.{deliver_with, deliver, deliver_to};
 ghost use Rattle.pm_meaning.specs.Minds.{Mind, mind_of};
-ghost use Rattle.pm_meaning.specs.Delivering.{deliver_default as to_default, no_flags as none_flags};
 ghost use Rattle.pm_actions.specs.Copies.{IsFreeLock};
 ghost use Rattle.pm_actions.specs.Names.{top_of};
 ghost use Rattle.pm_meaning.specs.Ready.{ready_of};
@@ -99,10 +98,10 @@ pub fn deliver_default<D: Effects>(
     mailbox: &Blob,
     run: &mut Run<D>,
 ) -> Result<Option<End>, Memory>
-    ensures carries { Carries (to_default mailbox.now (mind_of run.old.process))
+    ensures carries { Carries (Delivering.deliver_default mailbox.now (mind_of run.old.process))
         (λ end. turn_of end (mind_of run.new.process)) result
         run.old.journal run.new.journal (D.told run.old.outside) (D.told run.new.outside) }
-    ensures sure { OnErr result (Undelivered none_flags run.old.journal run.new.journal) }
+    ensures sure { OnErr result (Undelivered Delivering.no_flags run.old.journal run.new.journal) }
 {
     let lock = Some(Blob::empty(alloc));
     let word = mailbox.copy(alloc)?;
@@ -116,7 +115,7 @@ pub fn deliver_default<D: Effects>(
 
 // The flags of a recipe that has no letters.
 fn no_flags() -> Flags
-    ensures { result ≡ none_flags }
+    ensures { result ≡ Delivering.no_flags }
 {
     Flags {
         search_head: false,
@@ -210,7 +209,7 @@ fn deliver_text<D: Effects>(
 ) -> Result<Option<End>, Memory>
     requires each { length outputs.now ≡ length (commands_in Many order.now.text.now) }
     ensures carries { let o = order.now in
-        Carries (by_value o.flags o.lock.now value o.text.now outputs.now (mind_of run.old.process))
+        Carries (Delivering.deliver_text o.flags o.lock.now value o.text.now outputs.now (mind_of run.old.process))
         (λ end. turn_of end (mind_of run.new.process)) result
         run.old.journal run.new.journal (D.told run.old.outside) (D.told run.new.outside) }
     ensures sure { OnErr result (Undelivered order.now.flags run.old.journal run.new.journal) }
@@ -236,7 +235,7 @@ fn deliver_to_words<D: Effects>(
     run: &mut Run<D>,
 ) -> Result<Option<End>, Memory>
     ensures carries { let o = order.now in
-        Carries (to_words o.flags o.lock.now value o.text.now words.now (mind_of run.old.process))
+        Carries (deliver_to o.flags o.lock.now value o.text.now words.now (mind_of run.old.process))
         (λ end. turn_of end (mind_of run.new.process)) result
         run.old.journal run.new.journal (D.told run.old.outside) (D.told run.new.outside) }
     ensures sure { OnErr result (Undelivered order.now.flags run.old.journal run.new.journal) }
@@ -264,7 +263,7 @@ fn deliver_named<D: Effects>(
     run: &mut Run<D>,
 ) -> Result<Option<End>, Memory>
     ensures carries { let o = order.now in
-        Carries (to_usable o.flags lock (blamed o.lock.now o.text.now) o.text.now words.now
+        Carries (Delivering.deliver_named o.flags lock (Locks.blamed_text o.lock.now o.text.now) o.text.now words.now
         (mind_of run.old.process))
         (λ end. turn_of end (mind_of run.new.process)) result
         run.old.journal run.new.journal (D.told run.old.outside) (D.told run.new.outside) }
@@ -288,7 +287,8 @@ fn deliver_at<D: Effects>(
     run: &mut Run<D>,
 ) -> Result<Option<End>, Memory>
     ensures carries { let o = order.now in
-        Carries (to_names o.flags lock (blamed o.lock.now o.text.now) o.text.now destinations.now
+        Carries (Delivering.deliver_at o.flags lock
+            (Locks.blamed_text o.lock.now o.text.now) o.text.now destinations.now
         (mind_of run.old.process))
         (λ end. turn_of end (mind_of run.new.process)) result
         run.old.journal run.new.journal (D.told run.old.outside) (D.told run.new.outside) }
@@ -315,7 +315,7 @@ fn file_and_say<D: Effects>(
 ) -> Result<Option<End>, Memory>
     requires free { IsFreeLock lock run.old.process.locks.names }
     ensures carries { let o = order.now in
-        Carries (filed_and_said o.flags lock o.text.now destinations.now (mind_of run.old.process))
+        Carries (Delivering.file_and_say o.flags lock o.text.now destinations.now (mind_of run.old.process))
         (λ end. turn_of end (mind_of run.new.process)) result
         run.old.journal run.new.journal (D.told run.old.outside) (D.told run.new.outside) }
     ensures sure { OnErr result (Undelivered order.now.flags run.old.journal run.new.journal) }
@@ -367,7 +367,7 @@ fn settle(attempt: &Attempt, process: &mut Process)
 }
 
 fn is_done(attempt: &Attempt) -> bool
-    ensures { result ≡ is_done_by attempt.now }
+    ensures { result ≡ Delivering.is_done attempt.now }
 {
     match attempt {
         Attempt::Unlocked(filed) => is_stored(filed),

@@ -1,9 +1,7 @@
 //! What came of a program or of standard output, by how that ended.
 ghost use Rattle.std.specs.Prelude.{◌≡◌};
 ghost use Rattle.pm_journal.specs.Sayings.{say_reply};
-ghost use Rattle.pm_meaning.specs.ProgramActions.{is_fine as was_done, code_outcome as outcome_by_code};
-ghost use Rattle.pm_meaning.specs.ProgramActions.{feed_outcome as outcome_of_feed, end_outcome as outcome_of_end};
-ghost use Rattle.pm_meaning.specs.ProgramActions.{write_outcome as outcome_of_write};
+ghost use Rattle.pm_meaning.specs.ProgramActions;
 
 use pm_journal::{RunEnd, WriteEnd};
 use pm_meaning::Outcome;
@@ -11,14 +9,14 @@ use pm_recipe::Flags;
 
 /// Whether it was done.
 pub fn is_fine(outcome: Outcome) -> bool
-    ensures { result ≡ was_done outcome }
+    ensures { result ≡ ProgramActions.is_fine outcome }
 {
     matches!(outcome, Outcome::Done)
 }
 
 /// What came of a program that was fed so many bytes, and is to take them all.
 pub fn feed_outcome(flags: Flags, count: u64, end: RunEnd) -> Outcome
-    ensures { result ≡ outcome_of_feed flags count end }
+    ensures { result ≡ ProgramActions.feed_outcome flags count end }
 {
     match end {
         RunEnd::Ended { code, took } => {
@@ -36,7 +34,7 @@ pub fn feed_outcome(flags: Flags, count: u64, end: RunEnd) -> Outcome
 
 /// What came of a program that may leave input.
 pub fn end_outcome(flags: Flags, end: RunEnd) -> Outcome
-    ensures { result ≡ outcome_of_end flags end }
+    ensures { result ≡ ProgramActions.end_outcome flags end }
 {
     match end {
         RunEnd::Ended { code, .. } => code_outcome(flags, code),
@@ -47,7 +45,7 @@ pub fn end_outcome(flags: Flags, end: RunEnd) -> Outcome
 }
 
 fn code_outcome(flags: Flags, code: u8) -> Outcome
-    ensures { result ≡ outcome_by_code flags code }
+    ensures { result ≡ ProgramActions.code_outcome flags code }
 {
     if (flags.wait || flags.wait_quiet) && code != 0 {
         Outcome::Code(code)
@@ -58,7 +56,7 @@ fn code_outcome(flags: Flags, code: u8) -> Outcome
 
 /// What came of a piece for standard output.
 pub fn write_outcome(end: WriteEnd) -> Outcome
-    ensures { result ≡ outcome_of_write (say_reply end) }
+    ensures { result ≡ ProgramActions.write_outcome (say_reply end) }
 {
     match end {
         WriteEnd::Wrote => Outcome::Done,

@@ -1,10 +1,11 @@
-//! What a task asks of the outside: the mail goes to a program or to standard output, is filtered, or is captured. All memory
-//! for a delivery is taken before, so that none can be wanting after it.
+//! What a task asks of the outside: the mail goes to a program or to standard output, is filtered, or is captured. All
+//! memory for a delivery is taken before, so that none can be wanting after it.
 ghost use Rattle.std.specs.Prelude.{◌≡◌, ◌+◌, ◌≤◌, ℕ, List, codes, length, IfOk, OnErr, false};
 ghost use Rattle.pm_journal.specs.Executed.{Carries, Executes};
 ghost use Rattle.pm_journal.specs.Plan.{Plan};
 ghost use Rattle.pm_meaning.specs.Minds.{Mind, mind_of};
-ghost use Rattle.pm_meaning.specs.ProgramActions.{Tried, feed as fed_by, write as written, fed_piece as piece_fed, work_of};
+ghost use Rattle.pm_meaning.specs.ProgramActions.{Tried, work_of};
+ghost use Rattle.pm_meaning.specs.ProgramActions;
 ghost use Rattle.pm_actions.specs.Copies.{remembered};
 ghost use Rattle.pm_actions.specs.Errands.{tried_of, kept_if, purpose_of, IsWork, is_for_good};
 
@@ -57,7 +58,7 @@ pub fn errand_for(
 ) -> Result<Errand, Memory>
     ensures { let flags = task.now.flags in let p = mind_of process.now in
         IfOk result (λ errand. IsWork flags errand p.vars
-        (work_of (purpose_of task.now.purpose) flags (piece_fed flags p) command)) }
+        (work_of (purpose_of task.now.purpose) flags (ProgramActions.fed_piece flags p) command)) }
 {
     let input = fed_piece(alloc, task.flags, process)?;
     match task.purpose {
@@ -84,7 +85,7 @@ pub fn errand_for(
 /// The mail, as the flags feed it, goes to standard output.
 pub fn write_errand(alloc: Global, flags: Flags, process: &Process) -> Result<Errand, Memory>
     ensures { let p = mind_of process.now in
-        IfOk result (λ errand. IsWork flags errand p.vars (written (piece_fed flags p))) }
+        IfOk result (λ errand. IsWork flags errand p.vars (ProgramActions.write (ProgramActions.fed_piece flags p))) }
 {
     let piece = fed_piece(alloc, flags, process)?;
     let kept = remembering(alloc, b"|", piece.len() as u64, &process.vars)?;
@@ -93,7 +94,7 @@ pub fn write_errand(alloc: Global, flags: Flags, process: &Process) -> Result<Er
 
 // The parts of the mail that the flags h and b feed, as they are.
 fn fed_piece(alloc: Global, flags: Flags, process: &Process) -> Result<Blob, Memory>
-    ensures { IfOk result (λ bytes. bytes ≡ piece_fed flags (mind_of process.now)) }
+    ensures { IfOk result (λ bytes. bytes ≡ ProgramActions.fed_piece flags (mind_of process.now)) }
 {
     process.message.chosen(alloc, fed_parts(flags))
 }
@@ -139,7 +140,7 @@ fn feed<D: Effects>(
 ) -> Outcome
     requires room { length run.old.process.locks.names + 1 ≤ run.old.journal.room }
     ensures feeds { (folder : List ℕ) → kept ≡ remembered folder (length input) run.old.process.vars
-        → Executes (fed_by flags folder command input (mind_of run.old.process))
+        → Executes (ProgramActions.feed flags folder command input (mind_of run.old.process))
         (tried_of result (mind_of run.new.process))
         run.old.journal run.new.journal (D.told run.old.outside) (D.told run.new.outside) }
     ensures locks { run.new.process.locks ≡ run.old.process.locks }
@@ -159,7 +160,7 @@ fn feed<D: Effects>(
 fn write<D: Effects>(piece: Blob, kept: Kept, run: &mut Run<D>) -> Outcome
     requires room { length run.old.process.locks.names + 1 ≤ run.old.journal.room }
     ensures writes { kept ≡ remembered (codes "|") (length piece) run.old.process.vars
-        → Executes (written piece (mind_of run.old.process)) (tried_of result (mind_of run.new.process))
+        → Executes (ProgramActions.write piece (mind_of run.old.process)) (tried_of result (mind_of run.new.process))
         run.old.journal run.new.journal (D.told run.old.outside) (D.told run.new.outside) }
     ensures locks { run.new.process.locks ≡ run.old.process.locks }
 {

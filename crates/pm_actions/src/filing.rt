@@ -1,16 +1,18 @@
-//! The mail goes to files and folders, one destination after the other. What each wants is taken before the first of them,
-//! so that no memory can be wanting between two deliveries to files or right after one.
+//! The mail goes to files and folders, one destination after the other. What each wants is taken before the first of
+//! them, so that no memory can be wanting between two deliveries to files or right after one.
 ghost use Rattle.std.specs.Prelude.{◌≡◌, ◌+◌, ◌*◌, ◌≤◌, length, map, IfOk, OnErr, List};
 ghost use Rattle.pm_bytes.specs.Path.{full_name};
 ghost use Rattle.pm_journal.specs.Appending.{append_reply};
 ghost use Rattle.pm_journal.specs.Executed.{Carries};
-ghost use Rattle.pm_meaning.specs.Delivering.{feed_of, folder_piece, file_size as size_of_file};
-ghost use Rattle.pm_meaning.specs.Delivering.{file_all, to_file, in_plain, is_stored as is_stored_by};
-ghost use Rattle.pm_meaning.specs.Locks.{is_nothing as is_null_device};
+ghost use Rattle.pm_meaning.specs.Delivering.{feed_of, folder_piece};
+ghost use Rattle.pm_meaning.specs.Delivering;
+ghost use Rattle.pm_meaning.specs.Delivering.{file_all, to_file, in_plain};
+ghost use Rattle.pm_meaning.specs.Locks;
 ghost use Rattle.pm_meaning.specs.Minds.{mind_of};
 ghost use Rattle.pm_meaning.specs.declared.process.Destination.{Destination as Asked};
 ghost use Rattle.pm_actions.specs.Copies.{copy_for, file_copy_for, folder_copy_for, filing_of, with_kept};
-ghost use Rattle.pm_actions.specs.Copies.{file_copy as copy_filed, file_piece as piece_for, IsShown, AllShown};
+ghost use Rattle.pm_actions.specs.Copies.{IsShown, AllShown};
+ghost use Rattle.pm_actions.specs.Copies;
 ghost use Rattle.pm_actions.specs.Filing.{is_folder_there, filed_by, mind_after, HasMet};
 
 use crate::kept::{Kept, keep, remembering};
@@ -49,7 +51,8 @@ pub fn copies_for(
     destinations: &[Destination],
     process: &mut Process,
 ) -> Result<VecDeque<Copy>, Memory>
-    ensures copies { IfOk result (λ copies. copies.items ≡ map (copy_for flags (mind_of process.old)) destinations.now) }
+    ensures copies { IfOk result (λ copies. copies.items
+        ≡ map (copy_for flags (mind_of process.old)) destinations.now) }
     ensures same { process.new ≡ process.old }
 {
     let mut copies = VecDeque::new(alloc);
@@ -99,7 +102,7 @@ fn file_copy_with(
     process: &Process,
 ) -> Result<FileCopy, Memory>
     requires name { name ≡ full_name process.now.base word.now }
-    requires piece { piece ≡ piece_for name flags (mind_of process.now) }
+    requires piece { piece ≡ Copies.file_piece name flags (mind_of process.now) }
     ensures { IfOk result (λ copy. copy ≡ file_copy_for flags (mind_of process.now) word.now) }
 {
     let shown = name.copy(alloc)?;
@@ -120,7 +123,7 @@ fn file_piece(
     name: &Name,
     process: &mut Process,
 ) -> Result<Blob, Memory>
-    ensures piece { IfOk result (λ piece. piece ≡ piece_for name.now flags (mind_of process.old)) }
+    ensures piece { IfOk result (λ piece. piece ≡ Copies.file_piece name.now flags (mind_of process.old)) }
     ensures same { process.new ≡ process.old }
 {
     if is_nothing(name) {
@@ -134,8 +137,8 @@ fn file_piece(
 
 // How many bytes the file gets of which this is the piece: `/dev/null` gets those of no mailbox.
 fn file_size(flags: Flags, name: &Name, piece: &Blob, process: &Process) -> u64
-    requires { piece.now ≡ piece_for name.now flags (mind_of process.now) }
-    ensures { result ≡ size_of_file name.now flags (mind_of process.now) }
+    requires { piece.now ≡ Copies.file_piece name.now flags (mind_of process.now) }
+    ensures { result ≡ Delivering.file_size name.now flags (mind_of process.now) }
 {
     if is_nothing(name) {
         fed_length(flags, process)
@@ -236,7 +239,7 @@ fn file_copy<D: Effects>(
 ) -> Result<Filed, Memory>
     requires room { length run.old.process.locks.names + 3 ≤ run.old.journal.room }
     requires shown { IsShown copy }
-    ensures carries { Carries (copy_filed flags copy (mind_of run.old.process))
+    ensures carries { Carries (Copies.file_copy flags copy (mind_of run.old.process))
         (λ filed. filing_of filed (mind_of run.new.process)) result
         run.old.journal run.new.journal (D.told run.old.outside) (D.told run.new.outside) }
     ensures locks { run.new.process.locks ≡ run.old.process.locks }
@@ -345,7 +348,7 @@ fn filed_of(end: AppendEnd, name: Name) -> Filed
 
 /// Whether the destinations have the mail.
 pub fn is_stored(filed: &Filed) -> bool
-    ensures { result ≡ is_stored_by filed.now }
+    ensures { result ≡ Delivering.is_stored filed.now }
 {
     matches!(filed, Filed::Stored)
 }

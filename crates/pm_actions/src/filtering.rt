@@ -1,15 +1,15 @@
-//! Programs whose output is wanted: it takes the place of the parts of the mail that they were fed, or becomes the value of a
-//! variable (procmailrc(5), "Recipe flags" and "Recipe action line"). Memory can be wanting after their run.
+//! Programs whose output is wanted: it takes the place of the parts of the mail that they were fed, or becomes the
+//! value of a variable (procmailrc(5), "Recipe flags" and "Recipe action line"). Memory can be wanting after their run.
 ghost use Rattle.std.specs.Prelude.{◌≡◌, ◌++◌, ◌+◌, ℕ, List, [], length, nat_lt, IfOk, OnOk};
 ghost use Rattle.pm_journal.specs.Executed.{Carries};
-ghost use Rattle.pm_journal.specs.Outcomes.{last_output as output_of_last};
+ghost use Rattle.pm_journal.specs.Outcomes;
 ghost use Rattle.pm_meaning.specs.Changes.{overflowed};
 ghost use Rattle.pm_meaning.specs.Delivering.{feed_of};
 ghost use Rattle.pm_meaning.specs.Locks.{text_or};
 ghost use Rattle.pm_meaning.specs.Minds.{mind_of};
-ghost use Rattle.pm_meaning.specs.ProgramActions.{filter_mail, mail_if, unless_too_long, refilled as mail_refilled};
-ghost use Rattle.pm_meaning.specs.ProgramActions.{capture as output_captured, captured_in, unless_overflow};
-ghost use Rattle.pm_meaning.specs.ProgramActions.{end_outcome as outcome_of_end};
+ghost use Rattle.pm_meaning.specs.ProgramActions.{filter_mail, mail_if, unless_too_long};
+ghost use Rattle.pm_meaning.specs.ProgramActions;
+ghost use Rattle.pm_meaning.specs.ProgramActions.{captured_in, unless_overflow};
 ghost use Rattle.pm_actions.specs.Errands.{tried_of};
 
 use crate::ends::{end_outcome, feed_outcome, is_fine};
@@ -68,7 +68,7 @@ pub fn capture<D: Effects>(
     flags: Flags,
     run: &mut Run<D>,
 ) -> Result<Outcome, Memory>
-    ensures carries { Carries (output_captured flags name command input (mind_of run.old.process))
+    ensures carries { Carries (ProgramActions.capture flags name command input (mind_of run.old.process))
         (λ outcome. tried_of outcome (mind_of run.new.process)) result
         run.old.journal run.new.journal (D.told run.old.outside) (D.told run.new.outside) }
     ensures locks { run.new.process.locks ≡ run.old.process.locks }
@@ -96,7 +96,7 @@ pub fn capture<D: Effects>(
 
 // The output of the program that ran last, or nothing where none came.
 fn last_output(journal: &Journal) -> &[u8]
-    ensures { result.now ≡ text_or [] (output_of_last journal.now.entries) }
+    ensures { result.now ≡ text_or [] (Outcomes.last_output journal.now.entries) }
 {
     match journal.last_output() {
         None => b"",
@@ -106,7 +106,7 @@ fn last_output(journal: &Journal) -> &[u8]
 
 // The same, in the memory of the entry.
 fn output_copy(alloc: Global, journal: &Journal) -> Result<Blob, Memory>
-    ensures { IfOk result (λ output. output ≡ text_or [] (output_of_last journal.now.entries)) }
+    ensures { IfOk result (λ output. output ≡ text_or [] (Outcomes.last_output journal.now.entries)) }
 {
     match journal.last_output() {
         None => Ok(Blob::empty(alloc)),
@@ -122,11 +122,11 @@ fn take_mail(
     journal: &Journal,
     process: &mut Process,
 ) -> Result<Outcome, Memory>
-    ensures outcome { let output = text_or [] (output_of_last journal.now.entries) in
-        let mail = mail_refilled (feed_of flags) output process.old.message in
+    ensures outcome { let output = text_or [] (Outcomes.last_output journal.now.entries) in
+        let mail = ProgramActions.refilled (feed_of flags) output process.old.message in
         IfOk result (λ outcome. outcome ≡ unless_too_long fed (length mail)) }
-    ensures mind { let output = text_or [] (output_of_last journal.now.entries) in
-        let mail = mail_refilled (feed_of flags) output process.old.message in
+    ensures mind { let output = text_or [] (Outcomes.last_output journal.now.entries) in
+        let mail = ProgramActions.refilled (feed_of flags) output process.old.message in
         IfOk result (λ outcome. mind_of process.new ≡ mail_if outcome mail (mind_of process.old)) }
     ensures locks { process.new.locks ≡ process.old.locks }
 {
@@ -141,9 +141,9 @@ fn take_output(
     output: Blob,
     process: &mut Process,
 ) -> Result<Outcome, Memory>
-    ensures outcome { let mail = mail_refilled (feed_of flags) output process.old.message in
+    ensures outcome { let mail = ProgramActions.refilled (feed_of flags) output process.old.message in
         IfOk result (λ outcome. outcome ≡ unless_too_long fed (length mail)) }
-    ensures mind { let mail = mail_refilled (feed_of flags) output process.old.message in
+    ensures mind { let mail = ProgramActions.refilled (feed_of flags) output process.old.message in
         IfOk result (λ outcome. mind_of process.new ≡ mail_if outcome mail (mind_of process.old)) }
     ensures locks { process.new.locks ≡ process.old.locks }
 {
@@ -162,14 +162,14 @@ fn take_output(
 
 // Whether the mail with the output in its place has too many bytes.
 fn is_too_long(feed: Feed, output: &Blob, message: &Message) -> bool
-    ensures { result ≡ nat_lt 67108864 (length (mail_refilled feed output.now message.now)) }
+    ensures { result ≡ nat_lt 67108864 (length (ProgramActions.refilled feed output.now message.now)) }
 {
     output.len() > MOST_MAIL || kept_length(feed, message) > MOST_MAIL - output.len()
 }
 
 // How many bytes of the mail stay.
 fn kept_length(feed: Feed, message: &Message) -> usize
-    ensures { (output : List ℕ) → length output + result ≡ length (mail_refilled feed output message.now) }
+    ensures { (output : List ℕ) → length output + result ≡ length (ProgramActions.refilled feed output message.now) }
 {
     match feed {
         Feed::Both => 0,
@@ -180,7 +180,7 @@ fn kept_length(feed: Feed, message: &Message) -> usize
 
 // The mail with the output in the place of the parts that were fed.
 fn refilled(alloc: Global, feed: Feed, output: Blob, message: &Message) -> Result<Blob, Memory>
-    ensures { IfOk result (λ bytes. bytes ≡ mail_refilled feed output message.now) }
+    ensures { IfOk result (λ bytes. bytes ≡ ProgramActions.refilled feed output message.now) }
 {
     match feed {
         Feed::Both => Ok(output),
@@ -205,8 +205,10 @@ fn take_value(
     output: &[u8],
     process: &mut Process,
 ) -> Result<Outcome, Memory>
-    ensures outcome { IfOk result (λ outcome. outcome ≡ unless_overflow (outcome_of_end flags end) (length output.now)) }
-    ensures mind { IfOk result (λ outcome. mind_of process.new ≡ captured_in name.now output.now outcome (mind_of process.old)) }
+    ensures outcome { IfOk result (λ outcome. outcome
+        ≡ unless_overflow (ProgramActions.end_outcome flags end) (length output.now)) }
+    ensures mind { IfOk result (λ outcome. mind_of process.new
+        ≡ captured_in name.now output.now outcome (mind_of process.old)) }
     ensures locks { process.new.locks ≡ process.old.locks }
 {
     let came = end_outcome(flags, end);

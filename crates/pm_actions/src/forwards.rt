@@ -1,8 +1,8 @@
 //! How mail is forwarded: SENDMAIL with the words of SENDMAILFLAGS and the addresses (procmailrc(5), "Recipe action
 //! line", `!`).
 ghost use Rattle.std.specs.Prelude.{◌≡◌, ◌++◌, length, IfOk, OnOk};
-ghost use Rattle.pm_meaning.specs.Forwards.{addressed as line_addressed, blank_words};
-ghost use Rattle.pm_meaning.specs.Forwards.{forward_line as line_forwarded, sendmail_words as words_of_sendmail};
+ghost use Rattle.pm_meaning.specs.Forwards.{blank_words};
+ghost use Rattle.pm_meaning.specs.Forwards;
 ghost use Rattle.pm_meaning.specs.Minds.{mind_of};
 ghost use Rattle.pm_subst.specs.Commands.{commands_in};
 ghost use Rattle.pm_subst.specs.declared.kinds.Mode.TheVariants.{Many};
@@ -22,7 +22,7 @@ pub fn forward_line(
     process: &Process,
 ) -> Result<ProgramLine, Memory>
     requires { length outputs.now ≡ length (commands_in Many text.now) }
-    ensures { IfOk result (λ read. read ≡ line_forwarded outputs.now text.now (mind_of process.now)) }
+    ensures { IfOk result (λ read. read ≡ Forwards.forward_line outputs.now text.now (mind_of process.now)) }
 {
     match expand(alloc, text, Mode::Many, &process.vars, outputs) {
         Ok(addresses) => addressed(alloc, addresses, process),
@@ -33,7 +33,7 @@ pub fn forward_line(
 
 // The addresses come last, and there has to be one.
 fn addressed(alloc: Global, addresses: Vec<Blob>, process: &Process) -> Result<ProgramLine, Memory>
-    ensures { IfOk result (λ read. read ≡ line_addressed addresses.items (mind_of process.now)) }
+    ensures { IfOk result (λ read. read ≡ Forwards.addressed addresses.items (mind_of process.now)) }
 {
     if addresses.is_empty() {
         return Ok(ProgramLine::NoWords);
@@ -44,7 +44,7 @@ fn addressed(alloc: Global, addresses: Vec<Blob>, process: &Process) -> Result<P
 
 // SENDMAIL with the words of SENDMAILFLAGS, and after them the addresses.
 fn sendmail_words(alloc: Global, addresses: Vec<Blob>, vars: &Vars) -> Result<Vec<Blob>, Memory>
-    ensures { IfOk result (λ words. words.items ≡ words_of_sendmail vars.now ++ addresses.items) }
+    ensures { IfOk result (λ words. words.items ≡ Forwards.sendmail_words vars.now ++ addresses.items) }
 {
     let mut words = Vec::new(alloc);
     let program = value_or(b"/usr/sbin/sendmail", b"SENDMAIL", vars);

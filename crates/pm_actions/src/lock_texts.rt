@@ -2,9 +2,7 @@
 ghost use Rattle.std.specs.Prelude.{◌≡◌, ◌++◌, codes, length, IfOk};
 ghost use Rattle.pm_meaning.specs.Locks.{value_or};
 ghost use Rattle.pm_meaning.specs.Minds.{mind_of};
-ghost use Rattle.pm_meaning.specs.ProgramActions.{lock_source as source_of, lock_mode as mode_of, lacks_lock as lacks};
-ghost use Rattle.pm_meaning.specs.ProgramActions.{is_automatic as automatic_asked, named_lock as lock_named};
-ghost use Rattle.pm_meaning.specs.ProgramActions.{lock_commands as commands_of_lock};
+ghost use Rattle.pm_meaning.specs.ProgramActions;
 ghost use Rattle.pm_actions.specs.Errands.{task_of, IsLockText};
 
 use crate::locks::{lock_extension, lock_text};
@@ -23,7 +21,7 @@ pub enum LockText {
 
 /// The commands of the text that names the lock file.
 pub fn lock_commands(alloc: Global, task: &Task<'_>) -> Result<Vec<Blob>, Memory>
-    ensures { IfOk result (λ commands. commands.items ≡ commands_of_lock (task_of task.now)) }
+    ensures { IfOk result (λ commands. commands.items ≡ ProgramActions.lock_commands (task_of task.now)) }
 {
     commands(alloc, lock_source(task), lock_mode(task))
 }
@@ -35,7 +33,7 @@ pub fn lock_word(
     outputs: &[Blob],
     process: &Process,
 ) -> Result<LockText, Memory>
-    requires { length outputs.now ≡ length (commands_of_lock (task_of task.now)) }
+    requires { length outputs.now ≡ length (ProgramActions.lock_commands (task_of task.now)) }
     ensures { IfOk result (λ text. IsLockText (task_of task.now) outputs.now (mind_of process.now) text) }
 {
     let source = lock_source(task);
@@ -50,7 +48,7 @@ pub fn lock_word(
 
 // Whether the automatic lock file is asked for.
 fn is_automatic(lock: &Option<Blob>) -> bool
-    ensures { result ≡ automatic_asked lock.now }
+    ensures { result ≡ ProgramActions.is_automatic lock.now }
 {
     match lock {
         None => false,
@@ -60,7 +58,7 @@ fn is_automatic(lock: &Option<Blob>) -> bool
 
 // The text that names the lock file.
 fn lock_source<'a>(task: &Task<'a>) -> &'a [u8]
-    ensures { result.now ≡ source_of (task_of task.now) }
+    ensures { result.now ≡ ProgramActions.lock_source (task_of task.now) }
 {
     if is_automatic(task.lock) {
         task.automatic
@@ -71,7 +69,7 @@ fn lock_source<'a>(task: &Task<'a>) -> &'a [u8]
 
 // How it is expanded.
 fn lock_mode(task: &Task<'_>) -> Mode
-    ensures { result ≡ mode_of (task_of task.now) }
+    ensures { result ≡ ProgramActions.lock_mode (task_of task.now) }
 {
     if is_automatic(task.lock) {
         Mode::Quoted
@@ -82,14 +80,14 @@ fn lock_mode(task: &Task<'_>) -> Mode
 
 /// Whether there is no automatic lock file though one is asked for.
 pub fn lacks_lock(task: &Task<'_>) -> bool
-    ensures { result ≡ lacks (task_of task.now) }
+    ensures { result ≡ ProgramActions.lacks_lock (task_of task.now) }
 {
     is_automatic(task.lock) && task.automatic.is_empty()
 }
 
 // The word that names the lock file, by what its text expands to.
 fn named_lock(task: &Task<'_>, value: Blob, process: &Process) -> Result<Option<Blob>, Memory>
-    ensures { IfOk result (λ word. word ≡ lock_named (task_of task.now) value (mind_of process.now)) }
+    ensures { IfOk result (λ word. word ≡ ProgramActions.named_lock (task_of task.now) value (mind_of process.now)) }
 {
     if lacks_lock(task) {
         return Ok(None);

@@ -3,10 +3,8 @@ ghost use Rattle.std.specs.Prelude.{◌≡◌, [], codes, map, bytes_eq, IfOk};
 ghost use Rattle.std.specs.List.{list_any};
 ghost use Rattle.pm_bytes.specs.Path.{full_name};
 ghost use Rattle.pm_meaning.specs.Destinations.{full_of};
-ghost use Rattle.pm_meaning.specs.Locks.{rule_of, number_or as number_in, value_or, text_or};
-ghost use Rattle.pm_meaning.specs.Locks.{automatic_lock as automatic, lock_word as word_of_lock};
-ghost use Rattle.pm_meaning.specs.Locks.{blamed_text as blamed, full_lock as full_of_lock};
-ghost use Rattle.pm_meaning.specs.Locks.{is_taken as taken, any_held as some_held};
+ghost use Rattle.pm_meaning.specs.Locks.{rule_of, value_or, text_or};
+ghost use Rattle.pm_meaning.specs.Locks;
 ghost use Rattle.pm_meaning.specs.Minds.{mind_of};
 ghost use Rattle.pm_actions.specs.Names.{IsLockName};
 
@@ -31,7 +29,7 @@ pub fn lock_rule(vars: &Vars) -> LockRule
 
 // The number in a variable's value.
 fn number_or(otherwise: u64, name: &[u8], vars: &Vars) -> u64
-    ensures { result ≡ number_in otherwise name.now vars.now }
+    ensures { result ≡ Locks.number_or otherwise name.now vars.now }
 {
     match vars.get(name) {
         None => otherwise,
@@ -60,7 +58,7 @@ pub fn lock_word(
     words: &[Blob],
     process: &Process,
 ) -> Result<Option<Blob>, Memory>
-    ensures { IfOk result (λ word. word ≡ word_of_lock lock.now value words.now (mind_of process.now)) }
+    ensures { IfOk result (λ word. word ≡ Locks.lock_word lock.now value words.now (mind_of process.now)) }
 {
     match lock {
         None => Ok(None),
@@ -76,7 +74,7 @@ pub fn lock_word(
 
 // The first destination's name, without a folder's ending, with LOCKEXT.
 fn automatic_lock(alloc: Global, words: &[Blob], process: &Process) -> Result<Option<Blob>, Memory>
-    ensures { IfOk result (λ word. word ≡ automatic words.now (mind_of process.now)) }
+    ensures { IfOk result (λ word. word ≡ Locks.automatic_lock words.now (mind_of process.now)) }
 {
     match words.first() {
         None => Ok(None),
@@ -134,7 +132,7 @@ pub fn lock_name(alloc: Global, word: Option<Blob>) -> Result<Option<Name>, Name
 
 /// The text that is told where the lock file's name can't be used.
 pub fn blamed_text<'a>(lock: &'a Option<Blob>, text: &'a [u8]) -> &'a [u8]
-    ensures { result.now ≡ blamed lock.now text.now }
+    ensures { result.now ≡ Locks.blamed_text lock.now text.now }
 {
     match lock {
         None => text,
@@ -144,7 +142,7 @@ pub fn blamed_text<'a>(lock: &'a Option<Blob>, text: &'a [u8]) -> &'a [u8]
 
 /// The lock file as seen from where the run began.
 pub fn full_lock(alloc: Global, base: &Name, lock: Option<Name>) -> Result<Option<Name>, Memory>
-    ensures { IfOk result (λ full. full ≡ full_of_lock base.now lock) }
+    ensures { IfOk result (λ full. full ≡ Locks.full_lock base.now lock) }
 {
     match lock {
         None => Ok(None),
@@ -169,7 +167,7 @@ pub fn full_names(
 
 /// Whether the lock file is a destination, or is held already.
 pub fn is_taken(lock: &Option<Name>, names: &[Name], held: &HeldLocks) -> bool
-    ensures { result ≡ taken lock.now names.now held.now.names }
+    ensures { result ≡ Locks.is_taken lock.now names.now held.now.names }
 {
     match lock {
         None => false,
@@ -185,7 +183,7 @@ fn is_among(lock: &Name, names: &[Name]) -> bool
 
 /// Whether a destination is a lock file that is held.
 pub fn any_held(names: &[Name], held: &HeldLocks) -> bool
-    ensures { result ≡ some_held names.now held.now.names }
+    ensures { result ≡ Locks.any_held names.now held.now.names }
 {
     names.iter().any(|name| held.holds(name))
 }

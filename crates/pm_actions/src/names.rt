@@ -1,6 +1,6 @@
 //! Texts as names of files.
 ghost use Rattle.std.specs.Prelude.{◌≡◌, IfOk, codes};
-ghost use Rattle.pm_meaning.specs.Destinations.{folder_kind as kind_of_ending, without_ending as word_without_ending};
+ghost use Rattle.pm_meaning.specs.Destinations;
 ghost use Rattle.pm_meaning.specs.Locks.{value_or};
 ghost use Rattle.pm_actions.specs.Names.{AreDestinations, usable_destination, prefix_of};
 ghost use Rattle.pm_meaning.specs.UsableNames.{file_name_of};
@@ -43,7 +43,7 @@ fn destination(alloc: Global, word: &[u8]) -> Result<Option<Destination>, Memory
 
 // The kind of folder that a word's ending asks for (procmailrc(5), "Recipe action line").
 fn folder_kind(word: &[u8]) -> Option<FolderKind>
-    ensures { result ≡ kind_of_ending word.now }
+    ensures { result ≡ Destinations.folder_kind word.now }
 {
     if word.ends_with(b"/.") {
         Some(FolderKind::Mh)
@@ -56,7 +56,7 @@ fn folder_kind(word: &[u8]) -> Option<FolderKind>
 
 /// A word without a folder's ending.
 pub fn without_ending(word: &[u8]) -> &[u8]
-    ensures { result.now ≡ word_without_ending word.now }
+    ensures { result.now ≡ Destinations.without_ending word.now }
 {
     if word.ends_with(b"/.") {
         &word[..word.len() - 2]

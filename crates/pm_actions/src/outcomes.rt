@@ -2,7 +2,8 @@
 ghost use Rattle.std.specs.Prelude.{◌≡◌, ◌++◌, false, not, IfOk, OnOk, OnErr};
 ghost use Rattle.pm_journal.specs.LogText.{program_failure_line};
 ghost use Rattle.pm_meaning.specs.Delivering.{line_if, is_without};
-ghost use Rattle.pm_meaning.specs.ProgramActions.{outcome_lines, trial_lines as lines_of_trial};
+ghost use Rattle.pm_meaning.specs.ProgramActions.{outcome_lines};
+ghost use Rattle.pm_meaning.specs.ProgramActions;
 
 use crate::saying::{push_forced, push_stuck};
 use pm_bytes::{Blob, Memory};
@@ -23,8 +24,8 @@ pub fn trial_lines(
     line: &[u8],
     trial: &Trial,
 ) -> Result<VecDeque<Blob>, Memory>
-    ensures lines { IfOk result (λ lines. lines.items ≡ lines_of_trial flags line.now trial.now) }
-    ensures sure { OnErr result (is_without (lines_of_trial flags line.now trial.now) ≡ false) }
+    ensures lines { IfOk result (λ lines. lines.items ≡ ProgramActions.trial_lines flags line.now trial.now) }
+    ensures sure { OnErr result (is_without (ProgramActions.trial_lines flags line.now trial.now) ≡ false) }
 {
     let mut lines = VecDeque::new(alloc);
     match trial {

@@ -3,11 +3,10 @@
 ghost use Rattle.std.specs.Prelude.{◌≡◌, ◌++◌, codes, length, IfOk, OnErr};
 ghost use Rattle.pm_journal.specs.Executed.{Carries};
 ghost use Rattle.pm_meaning.specs.Minds.{mind_of};
-ghost use Rattle.pm_meaning.specs.ProgramActions.{pipe as piped, pipe_purpose as purpose_of_pipe};
-ghost use Rattle.pm_meaning.specs.ProgramActions.{capture_line as captured};
-ghost use Rattle.pm_meaning.specs.ProgramActions.{forward as forwarded, write_out as output_written, write_with};
-ghost use Rattle.pm_meaning.specs.ProgramActions.{do_program as program_done, program_with};
-ghost use Rattle.pm_meaning.specs.ProgramActions.{lock_commands as commands_of_lock};
+ghost use Rattle.pm_meaning.specs.ProgramActions;
+ghost use Rattle.pm_meaning.specs.ProgramActions.{capture_line};
+ghost use Rattle.pm_meaning.specs.ProgramActions.{write_with};
+ghost use Rattle.pm_meaning.specs.ProgramActions.{program_with};
 ghost use Rattle.pm_meaning.specs.Programs.{line_reading as reading_of_line};
 ghost use Rattle.pm_actions.specs.Errands.{task_of, purpose_of};
 ghost use Rattle.pm_meaning.specs.Ready.{ready_of};
@@ -47,7 +46,7 @@ pub fn pipe<D: Effects>(
     run: &mut Run<D>,
 ) -> Result<Option<End>, Memory>
     ensures carries { let o = order.now in
-        Carries (piped o.flags o.lock.now o.text.now (mind_of run.old.process))
+        Carries (ProgramActions.pipe o.flags o.lock.now o.text.now (mind_of run.old.process))
         (λ end. turn_of end (mind_of run.new.process)) result
         run.old.journal run.new.journal (D.told run.old.outside) (D.told run.new.outside) }
     ensures sure { OnErr result (Undelivered order.now.flags run.old.journal run.new.journal) }
@@ -64,7 +63,7 @@ pub fn pipe<D: Effects>(
 }
 
 fn pipe_purpose<'a>(flags: Flags, line: &'a [u8]) -> Purpose<'a>
-    ensures { purpose_of result ≡ purpose_of_pipe flags line.now }
+    ensures { purpose_of result ≡ ProgramActions.pipe_purpose flags line.now }
 {
     if flags.filter {
         Purpose::Filters
@@ -81,7 +80,7 @@ pub fn capture<D: Effects>(
     run: &mut Run<D>,
 ) -> Result<Option<End>, Memory>
     ensures carries { let o = order.now in
-        Carries (captured o.flags o.lock.now name.now o.text.now (mind_of run.old.process))
+        Carries (capture_line o.flags o.lock.now name.now o.text.now (mind_of run.old.process))
         (λ end. turn_of end (mind_of run.new.process)) result
         run.old.journal run.new.journal (D.told run.old.outside) (D.told run.new.outside) }
     ensures sure { OnErr result (Undelivered order.now.flags run.old.journal run.new.journal) }
@@ -104,7 +103,7 @@ pub fn forward<D: Effects>(
     run: &mut Run<D>,
 ) -> Result<Option<End>, Memory>
     ensures carries { let o = order.now in
-        Carries (forwarded o.flags o.lock.now o.text.now (mind_of run.old.process))
+        Carries (ProgramActions.forward o.flags o.lock.now o.text.now (mind_of run.old.process))
         (λ end. turn_of end (mind_of run.new.process)) result
         run.old.journal run.new.journal (D.told run.old.outside) (D.told run.new.outside) }
     ensures sure { OnErr result (Undelivered order.now.flags run.old.journal run.new.journal) }
@@ -131,7 +130,7 @@ fn forward_as<'a, D: Effects>(
     run: &mut Run<D>,
 ) -> Result<Option<End>, Memory>
     requires called { destination.now ≡ codes "!" ++ text.now }
-    ensures carries { Carries (forwarded flags lock.now text.now (mind_of run.old.process))
+    ensures carries { Carries (ProgramActions.forward flags lock.now text.now (mind_of run.old.process))
         (λ end. turn_of end (mind_of run.new.process)) result
         run.old.journal run.new.journal (D.told run.old.outside) (D.told run.new.outside) }
     ensures sure { OnErr result (Undelivered flags run.old.journal run.new.journal) }
@@ -165,7 +164,7 @@ fn do_program<D: Effects>(
     run: &mut Run<D>,
 ) -> Result<Option<End>, Memory>
     ensures carries { let t = task_of task.now in
-        Carries (program_done t (reading_of reading t.text) (mind_of run.old.process))
+        Carries (ProgramActions.do_program t (reading_of reading t.text) (mind_of run.old.process))
         (λ end. turn_of end (mind_of run.new.process)) result
         run.old.journal run.new.journal (D.told run.old.outside) (D.told run.new.outside) }
     ensures sure { OnErr result (Undelivered task.now.flags run.old.journal run.new.journal) }
@@ -201,7 +200,7 @@ fn do_ready<D: Effects>(
     ready: &Ready,
     run: &mut Run<D>,
 ) -> Result<Option<End>, Memory>
-    requires locks { length ready.now.lock_outputs.items ≡ length (commands_of_lock (task_of task.now)) }
+    requires locks { length ready.now.lock_outputs.items ≡ length (ProgramActions.lock_commands (task_of task.now)) }
     requires each { length ready.now.outputs.items ≡ length (reading_of reading task.now.text.now).commands }
     ensures carries { let t = task_of task.now in
         Carries (program_with t (reading_of reading t.text) (ready_of ready.now (mind_of run.old.process)))
@@ -256,7 +255,7 @@ pub fn write_out<D: Effects>(
     lock: &Option<Blob>,
     run: &mut Run<D>,
 ) -> Result<Option<End>, Memory>
-    ensures carries { Carries (output_written flags lock.now (mind_of run.old.process))
+    ensures carries { Carries (ProgramActions.write_out flags lock.now (mind_of run.old.process))
         (λ end. turn_of end (mind_of run.new.process)) result
         run.old.journal run.new.journal (D.told run.old.outside) (D.told run.new.outside) }
     ensures sure { OnErr result (Undelivered flags run.old.journal run.new.journal) }
@@ -287,7 +286,7 @@ fn write_ready<D: Effects>(
     ready: &Ready,
     run: &mut Run<D>,
 ) -> Result<Option<End>, Memory>
-    requires locks { length ready.now.lock_outputs.items ≡ length (commands_of_lock (task_of task.now)) }
+    requires locks { length ready.now.lock_outputs.items ≡ length (ProgramActions.lock_commands (task_of task.now)) }
     ensures carries { Carries
         (write_with (task_of task.now) (ready_of ready.now (mind_of run.old.process)))
         (λ end. turn_of end (mind_of run.new.process)) result

@@ -1,7 +1,7 @@
 //! A piece is filed in a folder: under the moment, which is asked first, and with the count of the run's filings.
 ghost use Rattle.std.specs.Prelude.{◌≡◌, ◌+◌, ◌≤◌, true, [], length, is_some, IfOk, OnErr};
 ghost use Rattle.pm_journal.specs.Executed.{Carries};
-ghost use Rattle.pm_journal.specs.Outcomes.{last_file as file_of_last};
+ghost use Rattle.pm_journal.specs.Outcomes;
 ghost use Rattle.pm_meaning.specs.Changes.{stored_in};
 ghost use Rattle.pm_meaning.specs.Delivering.{in_folder};
 ghost use Rattle.pm_meaning.specs.Locks.{text_or};
@@ -16,8 +16,8 @@ use pm_journal::{Effects, Filing, FolderEnd, FolderKind, Journal, Stamp};
 use pm_meaning::{Filed, Process, Stored};
 use std::alloc::Global;
 
-/// A folder with all that is wanted to file a piece there: its name for the entry and for the line where that fails, how
-/// the names in it begin, and the piece.
+/// A folder with all that is wanted to file a piece there: its name for the entry and for the line where that fails,
+/// how the names in it begin, and the piece.
 #[derive(Drop)]
 pub struct FolderCopy {
     pub kind: FolderKind,
@@ -90,9 +90,9 @@ fn conclude(
     process: &mut Process,
     journal: &Journal,
 ) -> Result<Filed, Memory>
-    requires file { HasFile end (file_of_last journal.now.entries) }
+    requires file { HasFile end (Outcomes.last_file journal.now.entries) }
     ensures filed { IfOk result (λ filed. filing_of filed (mind_of process.new)
-        ≡ placed_as end (file_of_last journal.now.entries) folder size (mind_of process.old)) }
+        ≡ placed_as end (Outcomes.last_file journal.now.entries) folder size (mind_of process.old)) }
     ensures locks { process.new.locks ≡ process.old.locks }
 {
     match end {
@@ -116,9 +116,9 @@ fn remember_file(
     process: &mut Process,
     journal: &Journal,
 ) -> Result<(), Memory>
-    requires file { is_some (file_of_last journal.now.entries) ≡ true }
+    requires file { is_some (Outcomes.last_file journal.now.entries) ≡ true }
     ensures mind { IfOk result (λ _. mind_of process.new
-        ≡ stored_in (text_or [] (file_of_last journal.now.entries)) size (mind_of process.old)) }
+        ≡ stored_in (text_or [] (Outcomes.last_file journal.now.entries)) size (mind_of process.old)) }
     ensures locks { process.new.locks ≡ process.old.locks }
 {
     let name = last_file(journal).as_str().as_bytes();
@@ -130,8 +130,8 @@ fn remember_file(
 }
 
 fn last_file(journal: &Journal) -> &Name
-    requires { is_some (file_of_last journal.now.entries) ≡ true }
-    ensures { result.now ≡ text_or [] (file_of_last journal.now.entries) }
+    requires { is_some (Outcomes.last_file journal.now.entries) ≡ true }
+    ensures { result.now ≡ text_or [] (Outcomes.last_file journal.now.entries) }
 {
     match journal.last_file() {
         Some(name) => name,

@@ -3,7 +3,8 @@ ghost use Rattle.std.specs.Prelude.{◌≡◌, ◌++◌, ◌∷◌, [], false, n
 ghost use Rattle.pm_journal.specs.Executed.{Carries};
 ghost use Rattle.pm_journal.specs.LogText.{forcing_lock_line, couldnt_unlock_line};
 ghost use Rattle.pm_meaning.specs.Delivering.{is_without};
-ghost use Rattle.pm_meaning.specs.Delivering.{filed_lines, line_if, attempt_lines as lines_of_attempt, say_each as each_said};
+ghost use Rattle.pm_meaning.specs.Delivering.{filed_lines, line_if};
+ghost use Rattle.pm_meaning.specs.Delivering;
 ghost use Rattle.pm_meaning.specs.Minds.{mind_of};
 ghost use Rattle.pm_meaning.specs.Turning.{turn_of};
 
@@ -24,8 +25,8 @@ pub fn attempt_lines(
     text: &[u8],
     attempt: &Attempt,
 ) -> Result<VecDeque<Blob>, Memory>
-    ensures lines { IfOk result (λ lines. lines.items ≡ lines_of_attempt text.now attempt.now) }
-    ensures sure { OnErr result (is_without (lines_of_attempt text.now attempt.now) ≡ false) }
+    ensures lines { IfOk result (λ lines. lines.items ≡ Delivering.attempt_lines text.now attempt.now) }
+    ensures sure { OnErr result (is_without (Delivering.attempt_lines text.now attempt.now) ≡ false) }
 {
     let mut lines = VecDeque::new(alloc);
     match attempt {
@@ -107,7 +108,7 @@ pub fn say_each<D: Effects>(
     run: &mut Run<D>,
 ) -> Result<Option<End>, Memory>
     ensures carries { let p = mind_of run.old.process in
-        Carries (each_said p lines.items (turn_of end p))
+        Carries (Delivering.say_each p lines.items (turn_of end p))
         (λ end. turn_of end (mind_of run.new.process)) result
         run.old.journal run.new.journal (D.told run.old.outside) (D.told run.new.outside) }
     ensures sure { OnErr result (is_without lines.items ≡ false) }

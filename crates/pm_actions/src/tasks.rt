@@ -4,12 +4,12 @@ ghost use Rattle.std.specs.Prelude.{◌≡◌, [], true, IfOk, OnErr};
 ghost use Rattle.pm_journal.specs.Executed.{Carries, LeadsTo, OutOfMemory};
 ghost use Rattle.pm_journal.specs.Plan.{Plan};
 ghost use Rattle.pm_meaning.specs.Minds.{Mind, mind_of};
-ghost use Rattle.pm_meaning.specs.ProgramActions.{Tried, is_final as final_purpose, is_delivery as purpose_delivers};
-ghost use Rattle.pm_meaning.specs.ProgramActions.{work_of, fed_piece as piece_fed};
-ghost use Rattle.pm_meaning.specs.ProgramActions.{do_line as line_done, do_named as done_named};
-ghost use Rattle.pm_meaning.specs.ProgramActions.{unusable_text as text_unusable};
-ghost use Rattle.pm_meaning.specs.ProgramActions.{told_first, try_and_say as tried_and_said};
-ghost use Rattle.pm_meaning.specs.Locks.{is_lock_word as lock_word_fits};
+ghost use Rattle.pm_meaning.specs.ProgramActions.{Tried};
+ghost use Rattle.pm_meaning.specs.ProgramActions;
+ghost use Rattle.pm_meaning.specs.ProgramActions.{work_of, fed_piece};
+ghost use Rattle.pm_meaning.specs.ProgramActions.{unusable_text};
+ghost use Rattle.pm_meaning.specs.ProgramActions.{told_first};
+ghost use Rattle.pm_meaning.specs.Locks;
 ghost use Rattle.pm_meaning.specs.Turns.{Turn, refuse_name};
 ghost use Rattle.pm_actions.specs.Copies.{IsFreeLock};
 ghost use Rattle.pm_actions.specs.Errands.{task_of, purpose_of, IsWork, IsLockFile};
@@ -53,7 +53,7 @@ pub struct Task<'a> {
 
 /// Whether the process ends once such a task is done: the mail was delivered, and no copy of it.
 pub fn is_final(task: &Task<'_>) -> bool
-    ensures { result ≡ final_purpose (purpose_of task.now.purpose) task.now.flags }
+    ensures { result ≡ ProgramActions.is_final (purpose_of task.now.purpose) task.now.flags }
 {
     match task.purpose {
         Purpose::Delivers(_) => !task.flags.copy,
@@ -63,7 +63,7 @@ pub fn is_final(task: &Task<'_>) -> bool
 
 // Whether the task delivers the mail.
 fn is_delivery(task: &Task<'_>) -> bool
-    ensures { result ≡ purpose_delivers (purpose_of task.now.purpose) }
+    ensures { result ≡ ProgramActions.is_delivery (purpose_of task.now.purpose) }
 {
     matches!(task.purpose, Purpose::Delivers(_))
 }
@@ -84,7 +84,7 @@ pub fn do_line<D: Effects>(
     run: &mut Run<D>,
 ) -> Result<Option<End>, Memory>
     ensures carries { let t = task_of task.now in let p = mind_of run.old.process in
-        Carries (line_done t word (work_of t.purpose t.flags (piece_fed t.flags p)) line p)
+        Carries (ProgramActions.do_line t word (work_of t.purpose t.flags (fed_piece t.flags p)) line p)
         (λ end. turn_of end (mind_of run.new.process)) result
         run.old.journal run.new.journal (D.told run.old.outside) (D.told run.new.outside) }
     ensures sure { OnErr result (Undelivered task.now.flags run.old.journal run.new.journal) }
@@ -114,7 +114,7 @@ fn refuse_line<D: Effects>(
     run: &mut Run<D>,
 ) -> Result<Option<End>, Memory>
     ensures carries { let p = mind_of run.old.process in
-        Carries (refuse_name (text_unusable (task_of task.now) word) p)
+        Carries (refuse_name (unusable_text (task_of task.now) word) p)
         (λ end. turn_of end (mind_of run.new.process)) result
         run.old.journal run.new.journal (D.told run.old.outside) (D.told run.new.outside) }
     ensures same { run.new.process ≡ run.old.process }
@@ -130,7 +130,7 @@ fn refuse_line<D: Effects>(
 
 // Whether the lock file's name, where one is asked for, can be a file's.
 fn is_lock_word(alloc: Global, word: Option<Blob>) -> Result<bool, Memory>
-    ensures { IfOk result (λ fits. fits ≡ lock_word_fits word) }
+    ensures { IfOk result (λ fits. fits ≡ Locks.is_lock_word word) }
 {
     match lock_name(alloc, word) {
         Ok(_) => Ok(true),
@@ -148,7 +148,7 @@ pub fn do_named<D: Effects>(
     run: &mut Run<D>,
 ) -> Result<Option<End>, Memory>
     ensures carries { (work : Mind → Plan Tried) → IsWork task.now.flags errand run.old.process.vars work
-        → Carries (done_named (task_of task.now) word work (mind_of run.old.process))
+        → Carries (ProgramActions.do_named (task_of task.now) word work (mind_of run.old.process))
         (λ end. turn_of end (mind_of run.new.process)) result
         run.old.journal run.new.journal (D.told run.old.outside) (D.told run.new.outside) }
     ensures sure { (work : Mind → Plan Tried) → IsWork task.now.flags errand run.old.process.vars work
@@ -177,7 +177,7 @@ fn lock_file(alloc: Global, word: Option<Blob>, process: &Process) -> Result<Loc
 
 fn free_file(alloc: Global, name: Option<Name>, process: &Process) -> Result<LockFile, Memory>
     ensures { let p = mind_of process.now in
-        lock_word_fits name ≡ true → IfOk result (λ file. IsLockFile name p file) }
+        Locks.is_lock_word name ≡ true → IfOk result (λ file. IsLockFile name p file) }
 {
     let lock = full_lock(alloc, &process.base, name)?;
     if is_taken(&lock, &[], &process.locks) {
@@ -198,7 +198,7 @@ fn do_free<D: Effects>(
     requires free { IsFreeLock lock run.old.process.locks.names }
     ensures carries { (work : Mind → Plan Tried) → IsWork task.now.flags errand run.old.process.vars work
         → let t = task_of task.now in let p = mind_of run.old.process in
-        Carries (told_first t p (tried_and_said t lock work p))
+        Carries (told_first t p (ProgramActions.try_and_say t lock work p))
         (λ end. turn_of end (mind_of run.new.process)) result
         run.old.journal run.new.journal (D.told run.old.outside) (D.told run.new.outside) }
     ensures sure { (work : Mind → Plan Tried) → IsWork task.now.flags errand run.old.process.vars work
@@ -241,7 +241,7 @@ fn try_and_say<D: Effects>(
 ) -> Result<Option<End>, Memory>
     requires free { IsFreeLock lock run.old.process.locks.names }
     ensures carries { (work : Mind → Plan Tried) → IsWork task.now.flags errand run.old.process.vars work
-        → Carries (tried_and_said (task_of task.now) lock work (mind_of run.old.process))
+        → Carries (ProgramActions.try_and_say (task_of task.now) lock work (mind_of run.old.process))
         (λ end. turn_of end (mind_of run.new.process)) result
         run.old.journal run.new.journal (D.told run.old.outside) (D.told run.new.outside) }
     ensures sure { (work : Mind → Plan Tried) → IsWork task.now.flags errand run.old.process.vars work

@@ -4,7 +4,8 @@ ghost use Rattle.pm_journal.specs.Executed.{Carries};
 ghost use Rattle.pm_journal.specs.Held.{holds_name};
 ghost use Rattle.pm_journal.specs.Plan.{Plan};
 ghost use Rattle.pm_meaning.specs.Minds.{Mind, mind_of};
-ghost use Rattle.pm_meaning.specs.ProgramActions.{Tried, try_under as tried_under, is_fine_trial as trial_was_done};
+ghost use Rattle.pm_meaning.specs.ProgramActions.{Tried};
+ghost use Rattle.pm_meaning.specs.ProgramActions;
 ghost use Rattle.pm_meaning.specs.ProgramActions.{settled_by, trial_turn};
 ghost use Rattle.pm_actions.specs.Copies.{IsFreeLock};
 ghost use Rattle.pm_actions.specs.Errands.{trying_of, IsWork, is_for_good};
@@ -39,7 +40,7 @@ pub fn try_under<D: Effects>(
 ) -> Result<Trial, Memory>
     requires free { IsFreeLock lock run.old.process.locks.names }
     ensures carries { (work : Mind → Plan Tried) → IsWork flags errand run.old.process.vars work
-        → Carries (tried_under lock work (mind_of run.old.process))
+        → Carries (ProgramActions.try_under lock work (mind_of run.old.process))
         (λ trial. trying_of trial (mind_of run.new.process)) result
         run.old.journal run.new.journal (D.told run.old.outside) (D.told run.new.outside) }
     ensures sure { OnErr result (is_for_good errand ≡ true → run.new.journal.entries ≡ run.old.journal.entries) }
@@ -64,7 +65,7 @@ fn try_free<D: Effects>(
     run: &mut Run<D>,
 ) -> Result<Trial, Memory>
     ensures carries { (work : Mind → Plan Tried) → IsWork flags errand run.old.process.vars work
-        → Carries (tried_under None work (mind_of run.old.process))
+        → Carries (ProgramActions.try_under None work (mind_of run.old.process))
         (λ trial. trying_of trial (mind_of run.new.process)) result
         run.old.journal run.new.journal (D.told run.old.outside) (D.told run.new.outside) }
     ensures sure { OnErr result (is_for_good errand ≡ true → run.new.journal.entries ≡ run.old.journal.entries) }
@@ -112,7 +113,7 @@ fn try_locked<D: Effects>(
     requires space { 0 < run.old.process.locks.room }
     requires room { length run.old.process.locks.names + 3 ≤ run.old.journal.room }
     ensures carries { (work : Mind → Plan Tried) → IsWork flags errand run.old.process.vars work
-        → Carries (tried_under (Some request.name) work (mind_of run.old.process))
+        → Carries (ProgramActions.try_under (Some request.name) work (mind_of run.old.process))
         (λ trial. trying_of trial (mind_of run.new.process)) result
         run.old.journal run.new.journal (D.told run.old.outside) (D.told run.new.outside) }
     ensures sure { OnErr result (is_for_good errand ≡ false) }
@@ -155,7 +156,7 @@ pub fn let_go(_errand: Errand) {}
 
 /// Whether the errand was done.
 pub fn is_fine_trial(trial: &Trial) -> bool
-    ensures { result ≡ trial_was_done trial.now }
+    ensures { result ≡ ProgramActions.is_fine_trial trial.now }
 {
     match trial {
         Trial::Unlocked(outcome) => is_fine(*outcome),
