@@ -136,8 +136,28 @@ fn sweep_up(steps: &[Step], area: &[u8], place: usize, set: &mut Vec<bool>, next
     is_more
 }
 
-/// One round over all states, from the last to the first: it follows edges to states that were made later.
-fn sweep_down(steps: &[Step], area: &[u8], place: usize, set: &mut Vec<bool>, next: &[bool])
+/// The state that is listed so many places before the list's end, or that of this number, if none is.
+fn listed_at(order: &Vec<usize>, number: usize, size: usize) -> usize
+    requires { number < size }
+    ensures { result < size }
+{
+    let index = size - 1 - number;
+    if index >= order.len() {
+        return number;
+    }
+    let state = order[index];
+    if state < size { state } else { number }
+}
+
+/// One round over as many states as there are, in the order of a list.
+fn sweep_listed(
+    steps: &[Step],
+    order: &Vec<usize>,
+    area: &[u8],
+    place: usize,
+    set: &mut Vec<bool>,
+    next: &[bool],
+)
     requires program { InRange steps.now }
     requires place { place ≤ length area.now }
     requires set { vec_len set.old ≡ length steps.now }
@@ -149,15 +169,23 @@ fn sweep_down(steps: &[Step], area: &[u8], place: usize, set: &mut Vec<bool>, ne
     ensures len { vec_len set.new ≡ vec_len set.old }
     ensures lighter { missing set.new.items ≤ missing set.old.items }
 {
-    let mut state = steps.len();
-    while state > 0 {
-        state -= 1;
+    let mut number = steps.len();
+    while number > 0 {
+        number -= 1;
+        let state = listed_at(order, number, steps.len());
         add_state(steps, area, place, set, next, state);
     }
 }
 
-/// A round from the last state to the first and one back. It returns whether the second found another state.
-fn sweep_both(steps: &[Step], area: &[u8], place: usize, set: &mut Vec<bool>, next: &[bool]) -> bool
+/// A round in the order of a list, and one over all states. It returns whether the second found another state.
+fn sweep_both(
+    steps: &[Step],
+    order: &Vec<usize>,
+    area: &[u8],
+    place: usize,
+    set: &mut Vec<bool>,
+    next: &[bool],
+) -> bool
     requires program { InRange steps.now }
     requires place { place ≤ length area.now }
     requires set { vec_len set.old ≡ length steps.now }
@@ -170,13 +198,15 @@ fn sweep_both(steps: &[Step], area: &[u8], place: usize, set: &mut Vec<bool>, ne
     ensures fewer { IsTrue result → missing set.new.items < missing set.old.items }
     ensures closed { IsFalse result → IsClosedBackward steps.now area.now place set.new.items next.now }
 {
-    sweep_down(steps, area, place, set, next);
+    sweep_listed(steps, order, area, place, set, next);
     sweep_up(steps, area, place, set, next)
 }
 
-/// The states from which the exit can be reached at a place, by those of the next place.
+/// The states from which the exit can be reached at a place, by those of the next place. It takes few rounds where
+/// each state is listed after those that it leads to.
 pub fn step_back(
     steps: &[Step],
+    order: &Vec<usize>,
     exit: usize,
     area: &[u8],
     place: usize,
@@ -196,11 +226,17 @@ pub fn step_back(
         set[state] = false;
     }
     set[exit] = true;
-    while sweep_both(steps, area, place, set, next) {}
+    while sweep_both(steps, order, area, place, set, next) {}
 }
 
 /// The states from which the exit can be reached at the area's end.
-pub fn set_at_end(program: &Program, area: &[u8], set: &mut Vec<bool>, next: &[bool])
+pub fn set_at_end(
+    program: &Program,
+    order: &Vec<usize>,
+    area: &[u8],
+    set: &mut Vec<bool>,
+    next: &[bool],
+)
     requires program { InRange program.now.steps.items }
     requires exit { program.now.exit < length program.now.steps.items }
     requires set { vec_len set.old ≡ length program.now.steps.items }
@@ -208,5 +244,13 @@ pub fn set_at_end(program: &Program, area: &[u8], set: &mut Vec<bool>, next: &[b
     ensures set { vec_len set.new ≡ length program.now.steps.items }
     ensures back { IsExitSet program.now.steps.items area.now program.now.exit (length area.now) set.new.items }
 {
-    step_back(&program.steps, program.exit, area, area.len(), next, set);
+    step_back(
+        &program.steps,
+        order,
+        program.exit,
+        area,
+        area.len(),
+        next,
+        set,
+    );
 }

@@ -45,6 +45,8 @@ pub struct Cache {
     pub links: Vec<u16>,
     /// The set that was made last.
     pub made: Vec<bool>,
+    /// An order of the states that makes a step from the end quick.
+    pub order: Vec<usize>,
 }
 
 /// How many sets there is room for, by the length of the area.
@@ -60,7 +62,12 @@ fn room_for(reach: usize) -> usize
 }
 
 /// An empty cache for so many states and areas of up to this length.
-pub fn make_cache(alloc: Global, size: usize, reach: usize) -> Result<Cache, AllocError>
+pub fn make_cache(
+    alloc: Global,
+    size: usize,
+    reach: usize,
+    order: Vec<usize>,
+) -> Result<Cache, AllocError>
     ensures { IfOk result (λ cache. (on : Bool) (p : List Step) (exit : ℕ) → length p ≡ size
         → AreReady on p exit cache) }
 {
@@ -77,6 +84,7 @@ pub fn make_cache(alloc: Global, size: usize, reach: usize) -> Result<Cache, All
         count: 0,
         links,
         made,
+        order,
     })
 }
 
@@ -262,6 +270,7 @@ fn meet(cache: &mut Cache, program: &Program, area: &[u8], place: usize, at: usi
 {
     step_back(
         &program.steps,
+        &cache.order,
         program.exit,
         area,
         place,
@@ -378,7 +387,13 @@ fn last_number(cache: &mut Cache, program: &Program, area: &[u8]) -> usize
     ensures ready { AreReady false program.now.steps.items program.now.exit cache.new }
     ensures number { IsNumberOf program.now.steps.items area.now program.now.exit (length area.now) cache.new result }
 {
-    set_at_end(program, area, &mut cache.made, &cache.sets[0].set);
+    set_at_end(
+        program,
+        &cache.order,
+        area,
+        &mut cache.made,
+        &cache.sets[0].set,
+    );
     let number = number_of(cache);
     settle(cache, number)
 }

@@ -10,9 +10,6 @@ use crate::find::Match;
 use crate::marks::Progress;
 use crate::search::Search;
 
-/// How many of the first bytes show whether a search visits most bytes.
-const FIRST: usize = 4096;
-
 /// Where the search goes on after a match: at its end, or one further if it is empty.
 fn next_place(found: Match) -> usize
     requires { found.start < 2 ^ 64 - 1 }
@@ -60,11 +57,7 @@ fn expected(search: &mut Search, area: &[u8]) -> usize
     requires { (e : Re) × (fold : Bool) × Runs search.old e nothing fold }
     ensures { (l r : Re) (fold : Bool) → Runs search.old l r fold → Runs search.new l r fold }
 {
-    if search.is_dense(area, FIRST) {
-        area.len()
-    } else {
-        0
-    }
+    if search.is_busy(area) { area.len() } else { 0 }
 }
 
 /// How many places the last search visited that the next one visits again. If it visited many of those that it went

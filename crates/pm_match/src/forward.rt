@@ -36,7 +36,7 @@ pub struct Forward {
 pub fn make_forward(alloc: Global, size: usize, reach: usize) -> Result<Forward, AllocError>
     ensures { IfOk result (λ forward. (p : List Step) (entry : ℕ) → length p ≡ size → AreRuns p entry forward) }
 {
-    let cache = make_cache(alloc, size, reach)?;
+    let cache = make_cache(alloc, size, reach, Vec::new(alloc))?;
     let begins = vec![in alloc; NONE; 3]?;
     let labels = no_labels(alloc, size)?;
     let next = no_labels(alloc, size)?;

@@ -16,6 +16,7 @@ mod forward;
 mod labels;
 mod laws;
 mod marks;
+mod order;
 mod row;
 mod search;
 mod sets;

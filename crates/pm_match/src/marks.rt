@@ -40,8 +40,13 @@ fn window_of(reach: usize) -> usize
     if reach < WINDOW { reach } else { WINDOW }
 }
 
-/// Room for so many states and an area of up to this length.
-pub fn make_marks(alloc: Global, size: usize, reach: usize) -> Result<Marks, AllocError>
+/// Room for so many states and an area of up to this length. The order is one of the states.
+pub fn make_marks(
+    alloc: Global,
+    size: usize,
+    reach: usize,
+    order: Vec<usize>,
+) -> Result<Marks, AllocError>
     ensures room { IfOk result (λ marks. (p : List Step) (entry exit : ℕ) → length p ≡ size
         → HasRoom p entry exit marks) }
     ensures reach { IfOk result (λ marks. marks.reach ≡ reach) }
@@ -54,7 +59,7 @@ pub fn make_marks(alloc: Global, size: usize, reach: usize) -> Result<Marks, All
         let set = vec![in alloc; false; size]?;
         checkpoints.push(States { set })?;
     }
-    let cache = make_cache(alloc, size, reach)?;
+    let cache = make_cache(alloc, size, reach, order)?;
     let forward = make_forward(alloc, size, reach)?;
     Ok(Marks {
         reach,
@@ -170,7 +175,13 @@ fn keep_checkpoints(program: &Program, area: &[u8], marks: &mut Marks)
     ensures reach { marks.new.reach ≡ marks.old.reach }
     ensures kept { AreCheckpoints program.now.steps.items area.now program.now.exit 1 marks.new.checkpoints.items }
 {
-    set_at_end(program, area, &mut marks.set, &marks.cache.made);
+    set_at_end(
+        program,
+        &marks.cache.order,
+        area,
+        &mut marks.set,
+        &marks.cache.made,
+    );
     let mut index = (area.len() - 1) / WINDOW;
     let mut high = area.len();
     while index > 0 {
@@ -204,7 +215,13 @@ fn set_after_window(program: &Program, area: &[u8], marks: &mut Marks, index: us
         copy_set(&marks.checkpoints[index + 1].set, &mut marks.set);
         low + WINDOW
     } else {
-        set_at_end(program, area, &mut marks.set, &marks.cache.made);
+        set_at_end(
+            program,
+            &marks.cache.order,
+            area,
+            &mut marks.set,
+            &marks.cache.made,
+        );
         area.len()
     }
 }

@@ -12,6 +12,7 @@ use crate::cache::{Cache, least_start, make_cache};
 use crate::find::{Match, find};
 use crate::labels::no_labels;
 use crate::marks::{Marks, Progress, count_marked, make_marks};
+use crate::order::order_of;
 use crate::starts::Starts;
 use crate::tables::starts_of;
 use pm_bytes::Memory;
@@ -24,16 +25,23 @@ const LONG: usize = 256;
 /// How long an area is if the tables of later bytes, and rows, save more than it takes to make them.
 const VERY_LONG: usize = 16384;
 
+/// How long an area is if pieces of it show whether a count by sets of states saves more than it takes.
+const BUSY: usize = 4096;
+
 /// How long an area is if a pass from its end may save more than it takes.
 const LARGE: usize = 16384;
 
 /// How many of its first bytes show whether it does.
 const SAMPLE: usize = 1024;
 
-/// How many pieces of an area show whether it has many labels, and how many bytes each has.
+/// How many pieces of an area show how many labels a search has, or how many places it visits.
 const PIECES: usize = 16;
 
+/// How many bytes each has for the labels.
 const PIECE: usize = 128;
+
+/// How many bytes each has for the places.
+const SHORT: usize = 64;
 
 /// How many bytes for each state an area must have to pay for sets of states.
 const STATE: usize = 32;
@@ -58,13 +66,13 @@ fn is_needed(starts: &Option<Starts>, size: usize) -> bool {
     }
 }
 
-/// The piece of this number, of pieces at equal distances from the area's front on.
-fn piece_of(area: &[u8], number: usize) -> &[u8] {
+/// The piece of this number and size, of pieces at equal distances from the area's front on.
+fn piece_of(area: &[u8], number: usize, size: usize) -> &[u8] {
     let start = (area.len() / PIECES).saturating_mul(number);
-    if area.len() < PIECE || start > area.len() - PIECE {
+    if area.len() < size || start > area.len() - size {
         return &area[..0];
     }
-    &area[start..start + PIECE]
+    &area[start..start + size]
 }
 
 /// The tables of an automaton. Where there is no memory for them the search goes on without.
@@ -90,7 +98,11 @@ fn tables(alloc: Global, program: &Program, is_very_long: bool) -> Option<Starts
 fn spare_cache(alloc: Global, program: &Program) -> Option<Cache>
     ensures { IfSome result (AreReady false program.now.steps.items program.now.exit) }
 {
-    match make_cache(alloc, program.steps.len(), REACH) {
+    let order = match order_of(alloc, &program.steps) {
+        Err(_) => return None,
+        Ok(order) => order,
+    };
+    match make_cache(alloc, program.steps.len(), REACH, order) {
         Err(_) => None,
         Ok(cache) => Some(cache),
     }
@@ -189,9 +201,35 @@ impl Search {
         find(&self.automata, &mut self.room, area, from)
     }
 
+    /// How many places searches of short pieces from all over the area visit.
+    fn visits_of(&mut self, area: &[u8]) -> usize
+        requires { (l : Re) × (r : Re) × (fold : Bool) × Runs self.old l r fold }
+        ensures { (l r : Re) (fold : Bool) → Runs self.old l r fold → Runs self.new l r fold }
+    {
+        self.prepare(area);
+        let mut visits: usize = 0;
+        for number in 0..PIECES {
+            let _found = self.first(piece_of(area, number, SHORT), 0);
+            visits = visits.saturating_add(self.room.visits);
+        }
+        visits
+    }
+
+    /// Whether a count by sets of states is likely to be faster than one by labels: the area is long beside the
+    /// automaton, and searches of pieces of it visit most of their places.
+    pub fn is_busy(&mut self, area: &[u8]) -> bool
+        requires { (l : Re) × (r : Re) × (fold : Bool) × Runs self.old l r fold }
+        ensures { (l r : Re) (fold : Bool) → Runs self.old l r fold → Runs self.new l r fold }
+    {
+        if area.len() < BUSY || !self.is_small(area.len()) {
+            return false;
+        }
+        self.visits_of(area) > PIECES * SHORT / 2
+    }
+
     /// Whether a pass over sets of states is likely to be faster than a search by labels: the area is long beside the
     /// automaton, and a search of so many of its first bytes visits most of them.
-    pub fn is_dense(&mut self, area: &[u8], first: usize) -> bool
+    fn is_dense(&mut self, area: &[u8], first: usize) -> bool
         requires { (l : Re) × (r : Re) × (fold : Bool) × Runs self.old l r fold }
         ensures { (l r : Re) (fold : Bool) → Runs self.old l r fold → Runs self.new l r fold }
     {
@@ -252,7 +290,7 @@ impl Search {
         self.prepare(area);
         let mut labels: usize = 0;
         for number in 0..PIECES {
-            let _found = self.first(piece_of(area, number), 0);
+            let _found = self.first(piece_of(area, number, PIECE), 0);
             labels = labels.saturating_add(self.room.labels);
         }
         labels
@@ -340,7 +378,8 @@ impl Search {
         ensures kept { (l r : Re) (fold : Bool) → Runs self.old l r fold → Runs self.new l r fold }
     {
         if !self.is_reserved(length) {
-            let marks = make_marks(self.alloc, self.automata.left.steps.len(), length)?;
+            let order = order_of(self.alloc, &self.automata.left.steps)?;
+            let marks = make_marks(self.alloc, self.automata.left.steps.len(), length, order)?;
             self.marks = Some(marks);
         }
         Ok(())
