@@ -25,10 +25,10 @@ use std::alloc::Global;
 /// of memory nothing was noted, unless a folder was met.
 pub fn attempt<D: Effects>(
     alloc: Global,
+    run: &mut Run<D>,
     lock: Option<Name>,
     flags: Flags,
     destinations: &[Destination],
-    run: &mut Run<D>,
 ) -> Result<Attempt, Memory>
     requires free { IsFreeLock lock run.old.process.locks.names }
     ensures carries { Carries (Delivering.attempt lock flags destinations.now (mind_of run.old.process))
@@ -37,16 +37,16 @@ pub fn attempt<D: Effects>(
     ensures untouched { OnErr result (HasNone run.old.journal run.new.journal) }
 {
     match lock {
-        None => file_all(alloc, flags, destinations, run),
-        Some(name) => file_locked(alloc, name, flags, destinations, run),
+        None => file_all(alloc, run, flags, destinations),
+        Some(name) => file_locked(alloc, run, name, flags, destinations),
     }
 }
 
 fn file_all<D: Effects>(
     alloc: Global,
+    run: &mut Run<D>,
     flags: Flags,
     destinations: &[Destination],
-    run: &mut Run<D>,
 ) -> Result<Attempt, Memory>
     ensures carries { Carries (Delivering.attempt None flags destinations.now (mind_of run.old.process))
         (λ attempt. attempted_of attempt (mind_of run.new.process)) result
@@ -56,17 +56,17 @@ fn file_all<D: Effects>(
     let copies = copies_for(alloc, flags, destinations, &mut run.process)?;
     let room = room_for(copies.len(), run.process.locks.len())?;
     run.journal.reserve(room)?;
-    let filed = file_each(alloc, flags, copies, run)?;
+    let filed = file_each(alloc, run, flags, copies)?;
     Ok(Attempt::Unlocked(filed))
 }
 
 // The lock's entry and that of its removal have room too.
 fn file_locked<D: Effects>(
     alloc: Global,
+    run: &mut Run<D>,
     name: Name,
     flags: Flags,
     destinations: &[Destination],
-    run: &mut Run<D>,
 ) -> Result<Attempt, Memory>
     requires free { holds_name run.old.process.locks.names name ≡ false }
     ensures carries { Carries (Delivering.attempt (Some name) flags destinations.now (mind_of run.old.process))
@@ -90,7 +90,7 @@ fn file_locked<D: Effects>(
         &mut run.journal,
     ) {
         LockEnd::Held { forced, .. } => {
-            let filed = file_each(alloc, flags, copies, run)?;
+            let filed = file_each(alloc, run, flags, copies)?;
             let removed = give(
                 &mut run.process.locks,
                 &name,

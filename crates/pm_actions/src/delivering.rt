@@ -49,8 +49,8 @@ pub struct Order<'a> {
 /// Does the action of a recipe that is executed. One with a block isn't done here.
 pub fn perform<D: Effects>(
     alloc: Global,
-    recipe: &Recipe,
     run: &mut Run<D>,
+    recipe: &Recipe,
 ) -> Result<Option<End>, Memory>
     ensures carries { Carries
         (act_on (top_of recipe.now) (act_of recipe.now.action) (mind_of run.old.process))
@@ -61,21 +61,21 @@ pub fn perform<D: Effects>(
     match &recipe.action {
         Action::Mailbox(text) => {
             let order = order_of(recipe, text);
-            deliver_mail(alloc, &order, run)
+            deliver_mail(alloc, run, &order)
         }
         Action::Pipe(line) => {
             let order = order_of(recipe, line);
-            pipe(alloc, &order, run)
+            pipe(alloc, run, &order)
         }
         Action::Capture { name, line } => {
             let order = order_of(recipe, line);
-            capture(alloc, &order, name, run)
+            capture(alloc, run, &order, name)
         }
         Action::Forward(text) => {
             let order = order_of(recipe, text);
-            forward(alloc, &order, run)
+            forward(alloc, run, &order)
         }
-        Action::WriteOut => write_out(alloc, recipe.flags, &recipe.lock, run),
+        Action::WriteOut => write_out(alloc, run, recipe.flags, &recipe.lock),
         Action::Block(_) => Ok(None),
     }
 }
@@ -95,8 +95,8 @@ fn order_of<'a>(recipe: &'a Recipe, text: &'a Blob) -> Order<'a>
 /// Delivers to a default mailbox, under its automatic lock file.
 pub fn deliver_default<D: Effects>(
     alloc: Global,
-    mailbox: &Blob,
     run: &mut Run<D>,
+    mailbox: &Blob,
 ) -> Result<Option<End>, Memory>
     ensures carries { Carries (Delivering.deliver_default mailbox.now (mind_of run.old.process))
         (λ end. turn_of end (mind_of run.new.process)) result
@@ -110,7 +110,7 @@ pub fn deliver_default<D: Effects>(
         lock: &lock,
         text: mailbox.as_slice(),
     };
-    deliver_to_words(alloc, &order, Blob::empty(alloc), &[word], run)
+    deliver_to_words(alloc, run, &order, Blob::empty(alloc), &[word])
 }
 
 // The flags of a recipe that has no letters.
@@ -139,8 +139,8 @@ fn no_flags() -> Flags
 // Runs the commands of the lock file's text and of the action's, and then delivers.
 fn deliver_mail<D: Effects>(
     alloc: Global,
-    order: &Order<'_>,
     run: &mut Run<D>,
+    order: &Order<'_>,
 ) -> Result<Option<End>, Memory>
     ensures carries { let o = order.now in
         Carries (deliver o.flags o.lock.now o.text.now (mind_of run.old.process))
@@ -158,15 +158,15 @@ fn deliver_mail<D: Effects>(
         &mut run.outside,
         &mut run.journal,
     )?;
-    deliver_ready(alloc, order, &ready, run)
+    deliver_ready(alloc, run, order, &ready)
 }
 
 // Expands the text of the lock file, and then delivers.
 fn deliver_ready<D: Effects>(
     alloc: Global,
+    run: &mut Run<D>,
     order: &Order<'_>,
     ready: &Ready,
-    run: &mut Run<D>,
 ) -> Result<Option<End>, Memory>
     requires locks { length ready.now.lock_outputs.items ≡ length (commands_in One (text_or [] order.now.lock.now)) }
     requires each { length ready.now.outputs.items ≡ length (commands_in Many order.now.text.now) }
@@ -187,7 +187,7 @@ fn deliver_ready<D: Effects>(
         Expansion::Words(words) => {
             let value = first_word(alloc, words);
             let outputs = ready.outputs.as_slice();
-            deliver_text(alloc, order, value, outputs, run)
+            deliver_text(alloc, run, order, value, outputs)
         }
         Expansion::TooLong(length) => skip_value(
             alloc,
@@ -202,10 +202,10 @@ fn deliver_ready<D: Effects>(
 // Expands the text of the action into destinations, and delivers to them.
 fn deliver_text<D: Effects>(
     alloc: Global,
+    run: &mut Run<D>,
     order: &Order<'_>,
     value: Blob,
     outputs: &[Blob],
-    run: &mut Run<D>,
 ) -> Result<Option<End>, Memory>
     requires each { length outputs.now ≡ length (commands_in Many order.now.text.now) }
     ensures carries { let o = order.now in
@@ -215,7 +215,7 @@ fn deliver_text<D: Effects>(
     ensures sure { OnErr result (Undelivered order.now.flags run.old.journal run.new.journal) }
 {
     match expand_text(alloc, order.text, Mode::Many, &run.process.vars, outputs)? {
-        Expansion::Words(words) => { deliver_to_words(alloc, order, value, words.as_slice(), run) }
+        Expansion::Words(words) => { deliver_to_words(alloc, run, order, value, words.as_slice()) }
         Expansion::TooLong(length) => skip_value(
             alloc,
             length,
@@ -229,10 +229,10 @@ fn deliver_text<D: Effects>(
 // Delivers to these destinations, if there is one and the lock file's name can be used.
 fn deliver_to_words<D: Effects>(
     alloc: Global,
+    run: &mut Run<D>,
     order: &Order<'_>,
     value: Blob,
     words: &[Blob],
-    run: &mut Run<D>,
 ) -> Result<Option<End>, Memory>
     ensures carries { let o = order.now in
         Carries (deliver_to o.flags o.lock.now value o.text.now words.now (mind_of run.old.process))
@@ -241,14 +241,14 @@ fn deliver_to_words<D: Effects>(
     ensures sure { OnErr result (Undelivered order.now.flags run.old.journal run.new.journal) }
 {
     if words.len() == 0 {
-        return refuse(alloc, order.text, run);
+        return refuse(alloc, run, order.text);
     }
     let word = lock_word(alloc, order.lock, value, words, &run.process)?;
     match lock_name(alloc, word) {
-        Ok(lock) => deliver_named(alloc, order, lock, words, run),
+        Ok(lock) => deliver_named(alloc, run, order, lock, words),
         Err(NameRefused::Unusable) => {
             let text = blamed_text(order.lock, order.text);
-            refuse(alloc, text, run)
+            refuse(alloc, run, text)
         }
         Err(NameRefused::Memory) => Err(Memory),
     }
@@ -257,10 +257,10 @@ fn deliver_to_words<D: Effects>(
 // Delivers to these destinations, if each can be the name of a file or a folder.
 fn deliver_named<D: Effects>(
     alloc: Global,
+    run: &mut Run<D>,
     order: &Order<'_>,
     lock: Option<Name>,
     words: &[Blob],
-    run: &mut Run<D>,
 ) -> Result<Option<End>, Memory>
     ensures carries { let o = order.now in
         Carries (Delivering.deliver_named o.flags lock (Locks.blamed_text o.lock.now o.text.now) o.text.now words.now
@@ -270,10 +270,10 @@ fn deliver_named<D: Effects>(
     ensures sure { OnErr result (Undelivered order.now.flags run.old.journal run.new.journal) }
 {
     match destinations(alloc, words)? {
-        None => refuse(alloc, order.text, run),
+        None => refuse(alloc, run, order.text),
         Some(all) => {
             let lock = full_lock(alloc, &run.process.base, lock)?;
-            deliver_at(alloc, order, lock, all.as_slice(), run)
+            deliver_at(alloc, run, order, lock, all.as_slice())
         }
     }
 }
@@ -281,14 +281,14 @@ fn deliver_named<D: Effects>(
 // Delivers to these destinations, if the lock file is none of them and nothing of it is held.
 fn deliver_at<D: Effects>(
     alloc: Global,
+    run: &mut Run<D>,
     order: &Order<'_>,
     lock: Option<Name>,
     destinations: &[Destination],
-    run: &mut Run<D>,
 ) -> Result<Option<End>, Memory>
     ensures carries { let o = order.now in
         Carries (Delivering.deliver_at o.flags lock
-            (Locks.blamed_text o.lock.now o.text.now) o.text.now destinations.now
+        (Locks.blamed_text o.lock.now o.text.now) o.text.now destinations.now
         (mind_of run.old.process))
         (λ end. turn_of end (mind_of run.new.process)) result
         run.old.journal run.new.journal (D.told run.old.outside) (D.told run.new.outside) }
@@ -297,21 +297,21 @@ fn deliver_at<D: Effects>(
     let files = full_names(alloc, &run.process.base, destinations)?;
     if is_taken(&lock, files.as_slice(), &run.process.locks) {
         let text = blamed_text(order.lock, order.text);
-        return refuse(alloc, text, run);
+        return refuse(alloc, run, text);
     }
     if any_held(files.as_slice(), &run.process.locks) {
-        return refuse(alloc, order.text, run);
+        return refuse(alloc, run, order.text);
     }
-    file_and_say(alloc, lock, order, destinations, run)
+    file_and_say(alloc, run, lock, order, destinations)
 }
 
 // Delivers, and says what came of it.
 fn file_and_say<D: Effects>(
     alloc: Global,
+    run: &mut Run<D>,
     lock: Option<Name>,
     order: &Order<'_>,
     destinations: &[Destination],
-    run: &mut Run<D>,
 ) -> Result<Option<End>, Memory>
     requires free { IsFreeLock lock run.old.process.locks.names }
     ensures carries { let o = order.now in
@@ -320,7 +320,7 @@ fn file_and_say<D: Effects>(
         run.old.journal run.new.journal (D.told run.old.outside) (D.told run.new.outside) }
     ensures sure { OnErr result (Undelivered order.now.flags run.old.journal run.new.journal) }
 {
-    let attempt = attempt(alloc, lock, order.flags, destinations, run)?;
+    let attempt = attempt(alloc, run, lock, order.flags, destinations)?;
     settle(&attempt, &mut run.process);
     let end = end_of(order.flags, &attempt);
     let mut lines = attempt_lines(alloc, order.text, &attempt)?;
@@ -331,14 +331,14 @@ fn file_and_say<D: Effects>(
         &run.process,
         &mut lines,
     )?;
-    say_each(alloc, lines, end, run)
+    say_each(alloc, run, lines, end)
 }
 
 /// The name of a file can't be used: this is told of the text.
 pub fn refuse<D: Effects>(
     alloc: Global,
-    text: &[u8],
     run: &mut Run<D>,
+    text: &[u8],
 ) -> Result<Option<End>, Memory>
     ensures carries { Carries (refuse_name text.now (mind_of run.old.process))
         (λ end. turn_of end (mind_of run.new.process)) result

@@ -102,9 +102,9 @@ fn fed_piece(alloc: Global, flags: Flags, process: &Process) -> Result<Blob, Mem
 /// Does the errand. There is room for its entry.
 pub fn carry<D: Effects>(
     alloc: Global,
+    run: &mut Run<D>,
     errand: Errand,
     flags: Flags,
-    run: &mut Run<D>,
 ) -> Result<Outcome, Memory>
     requires room { length run.old.process.locks.names + 1 ≤ run.old.journal.room }
     ensures carries { (work : Mind → Plan Tried) → IsWork flags errand run.old.process.vars work
@@ -119,24 +119,24 @@ pub fn carry<D: Effects>(
             command,
             input,
             kept,
-        } => Ok(feed(alloc, command, input, kept, flags, run)),
-        Errand::Filter { command, input } => filter(alloc, command, input, flags, run),
+        } => Ok(feed(alloc, run, command, input, kept, flags)),
+        Errand::Filter { command, input } => filter(alloc, run, command, input, flags),
         Errand::Capture {
             command,
             input,
             name,
-        } => capture(alloc, command, input, name, flags, run),
-        Errand::Write { piece, kept } => Ok(write(piece, kept, run)),
+        } => capture(alloc, run, command, input, name, flags),
+        Errand::Write { piece, kept } => Ok(write(run, piece, kept)),
     }
 }
 
 fn feed<D: Effects>(
     alloc: Global,
+    run: &mut Run<D>,
     command: Command,
     input: Blob,
     kept: Kept,
     flags: Flags,
-    run: &mut Run<D>,
 ) -> Outcome
     requires room { length run.old.process.locks.names + 1 ≤ run.old.journal.room }
     ensures feeds { (folder : List ℕ) → kept ≡ remembered folder (length input) run.old.process.vars
@@ -157,7 +157,7 @@ fn feed<D: Effects>(
     outcome
 }
 
-fn write<D: Effects>(piece: Blob, kept: Kept, run: &mut Run<D>) -> Outcome
+fn write<D: Effects>(run: &mut Run<D>, piece: Blob, kept: Kept) -> Outcome
     requires room { length run.old.process.locks.names + 1 ≤ run.old.journal.room }
     ensures writes { kept ≡ remembered (codes "|") (length piece) run.old.process.vars
         → Executes (ProgramActions.write piece (mind_of run.old.process)) (tried_of result (mind_of run.new.process))

@@ -208,9 +208,9 @@ pub fn fed_parts(flags: Flags) -> Feed
 /// directory is met.
 pub fn file_each<D: Effects>(
     alloc: Global,
+    run: &mut Run<D>,
     flags: Flags,
     mut copies: VecDeque<Copy>,
-    run: &mut Run<D>,
 ) -> Result<Filed, Memory>
     requires room { length run.old.process.locks.names + 3 * length copies.items ≤ run.old.journal.room }
     requires shown { AllShown copies.items }
@@ -223,7 +223,7 @@ pub fn file_each<D: Effects>(
     ensures met { OnErr result (HasMet run.old.journal run.new.journal) }
 {
     while let Some(copy) = copies.pop_front() {
-        let filed = file_copy(alloc, flags, copy, run)?;
+        let filed = file_copy(alloc, run, flags, copy)?;
         if !is_stored(&filed) {
             return Ok(filed);
         }
@@ -233,9 +233,9 @@ pub fn file_each<D: Effects>(
 
 fn file_copy<D: Effects>(
     alloc: Global,
+    run: &mut Run<D>,
     flags: Flags,
     copy: Copy,
-    run: &mut Run<D>,
 ) -> Result<Filed, Memory>
     requires room { length run.old.process.locks.names + 3 ≤ run.old.journal.room }
     requires shown { IsShown copy }
@@ -247,17 +247,17 @@ fn file_copy<D: Effects>(
     ensures met { OnErr result (HasMet run.old.journal run.new.journal) }
 {
     match copy {
-        Copy::ToFile(copy) => append_copy(alloc, flags, copy, run),
-        Copy::ToFolder(copy) => file_in_folder(alloc, copy, run),
+        Copy::ToFile(copy) => append_copy(alloc, run, flags, copy),
+        Copy::ToFolder(copy) => file_in_folder(alloc, run, copy),
     }
 }
 
 // A file gets the piece; where a folder stands, that gets it.
 fn append_copy<D: Effects>(
     alloc: Global,
+    run: &mut Run<D>,
     flags: Flags,
     copy: FileCopy,
-    run: &mut Run<D>,
 ) -> Result<Filed, Memory>
     requires room { length run.old.process.locks.names + 3 ≤ run.old.journal.room }
     requires shown { copy.shown ≡ copy.name }
@@ -281,7 +281,7 @@ fn append_copy<D: Effects>(
     }
     let end = run.outside.append(&mut run.journal, name, piece);
     if is_folder(end) {
-        return file_plain(alloc, flags, shown, run);
+        return file_plain(alloc, run, flags, shown);
     }
     let filed = filed_of(end, shown);
     remember(&filed, kept, &mut run.process);
@@ -291,9 +291,9 @@ fn append_copy<D: Effects>(
 // A plain folder gets the piece as a file of its own, if a name can begin as MSGPREFIX says.
 fn file_plain<D: Effects>(
     alloc: Global,
+    run: &mut Run<D>,
     flags: Flags,
     folder: Name,
-    run: &mut Run<D>,
 ) -> Result<Filed, Memory>
     requires room { length run.old.process.locks.names + 2 ≤ run.old.journal.room }
     ensures carries { Carries (in_plain flags folder (mind_of run.old.process))
@@ -314,7 +314,7 @@ fn file_plain<D: Effects>(
                 prefix,
                 piece,
             };
-            file_in_folder(alloc, copy, run)
+            file_in_folder(alloc, run, copy)
         }
     }
 }

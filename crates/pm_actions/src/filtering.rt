@@ -33,10 +33,10 @@ const MOST_VALUE: usize = 1_048_576;
 /// Runs a program that filters the mail.
 pub fn filter<D: Effects>(
     alloc: Global,
+    run: &mut Run<D>,
     command: Command,
     input: Blob,
     flags: Flags,
-    run: &mut Run<D>,
 ) -> Result<Outcome, Memory>
     ensures carries { Carries (filter_mail flags command input (mind_of run.old.process))
         (λ outcome. tried_of outcome (mind_of run.new.process)) result
@@ -62,11 +62,11 @@ pub fn filter<D: Effects>(
 /// Runs a program whose output is for the variable of this name.
 pub fn capture<D: Effects>(
     alloc: Global,
+    run: &mut Run<D>,
     command: Command,
     input: Blob,
     name: Blob,
     flags: Flags,
-    run: &mut Run<D>,
 ) -> Result<Outcome, Memory>
     ensures carries { Carries (ProgramActions.capture flags name command input (mind_of run.old.process))
         (λ outcome. tried_of outcome (mind_of run.new.process)) result

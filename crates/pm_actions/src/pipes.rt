@@ -42,8 +42,8 @@ pub enum Reading {
 /// The mail goes to the program of the line. Under the flag f what comes out takes its place.
 pub fn pipe<D: Effects>(
     alloc: Global,
-    order: &Order<'_>,
     run: &mut Run<D>,
+    order: &Order<'_>,
 ) -> Result<Option<End>, Memory>
     ensures carries { let o = order.now in
         Carries (ProgramActions.pipe o.flags o.lock.now o.text.now (mind_of run.old.process))
@@ -59,7 +59,7 @@ pub fn pipe<D: Effects>(
         purpose: pipe_purpose(order.flags, order.text),
     };
     let reading = line_reading(order.text, &run.process);
-    do_program(alloc, &task, reading, run)
+    do_program(alloc, run, &task, reading)
 }
 
 fn pipe_purpose<'a>(flags: Flags, line: &'a [u8]) -> Purpose<'a>
@@ -75,9 +75,9 @@ fn pipe_purpose<'a>(flags: Flags, line: &'a [u8]) -> Purpose<'a>
 /// The mail goes to the program of the line, and what comes out is the value of this variable.
 pub fn capture<D: Effects>(
     alloc: Global,
+    run: &mut Run<D>,
     order: &Order<'_>,
     name: &Blob,
-    run: &mut Run<D>,
 ) -> Result<Option<End>, Memory>
     ensures carries { let o = order.now in
         Carries (capture_line o.flags o.lock.now name.now o.text.now (mind_of run.old.process))
@@ -93,14 +93,14 @@ pub fn capture<D: Effects>(
         purpose: Purpose::Captures(name),
     };
     let reading = line_reading(order.text, &run.process);
-    do_program(alloc, &task, reading, run)
+    do_program(alloc, run, &task, reading)
 }
 
 /// The mail goes to the addresses of the text, by the program that sends mail.
 pub fn forward<D: Effects>(
     alloc: Global,
-    order: &Order<'_>,
     run: &mut Run<D>,
+    order: &Order<'_>,
 ) -> Result<Option<End>, Memory>
     ensures carries { let o = order.now in
         Carries (ProgramActions.forward o.flags o.lock.now o.text.now (mind_of run.old.process))
@@ -112,22 +112,22 @@ pub fn forward<D: Effects>(
     destination.push_slice(order.text)?;
     forward_as(
         alloc,
+        run,
         order.flags,
         order.lock,
         order.text,
         destination.as_slice(),
-        run,
     )
 }
 
 // The mail goes to the addresses of the text, and its destination is called so.
 fn forward_as<'a, D: Effects>(
     alloc: Global,
+    run: &mut Run<D>,
     flags: Flags,
     lock: &'a Option<Blob>,
     text: &'a [u8],
     destination: &'a [u8],
-    run: &mut Run<D>,
 ) -> Result<Option<End>, Memory>
     requires called { destination.now ≡ codes "!" ++ text.now }
     ensures carries { Carries (ProgramActions.forward flags lock.now text.now (mind_of run.old.process))
@@ -142,7 +142,7 @@ fn forward_as<'a, D: Effects>(
         text,
         purpose: Purpose::Delivers(destination),
     };
-    do_program(alloc, &task, Reading::Forward, run)
+    do_program(alloc, run, &task, Reading::Forward)
 }
 
 // A line with a byte of SHELLMETAS is left to the shell.
@@ -159,9 +159,9 @@ fn line_reading(line: &[u8], process: &Process) -> Reading
 // Runs the commands of the task's texts, and then the program that its own text names.
 fn do_program<D: Effects>(
     alloc: Global,
+    run: &mut Run<D>,
     task: &Task<'_>,
     reading: Reading,
-    run: &mut Run<D>,
 ) -> Result<Option<End>, Memory>
     ensures carries { let t = task_of task.now in
         Carries (ProgramActions.do_program t (reading_of reading t.text) (mind_of run.old.process))
@@ -179,7 +179,7 @@ fn do_program<D: Effects>(
         &mut run.outside,
         &mut run.journal,
     )?;
-    do_ready(alloc, task, reading, &ready, run)
+    do_ready(alloc, run, task, reading, &ready)
 }
 
 // The commands that are run before the text is read.
@@ -195,10 +195,10 @@ fn text_commands(alloc: Global, text: &[u8], reading: Reading) -> Result<Vec<Blo
 // Expands the text of the lock file, and then that of the task.
 fn do_ready<D: Effects>(
     alloc: Global,
+    run: &mut Run<D>,
     task: &Task<'_>,
     reading: Reading,
     ready: &Ready,
-    run: &mut Run<D>,
 ) -> Result<Option<End>, Memory>
     requires locks { length ready.now.lock_outputs.items ≡ length (ProgramActions.lock_commands (task_of task.now)) }
     requires each { length ready.now.outputs.items ≡ length (reading_of reading task.now.text.now).commands }
@@ -225,7 +225,7 @@ fn do_ready<D: Effects>(
                 ready.outputs.as_slice(),
                 &run.process,
             )?;
-            do_line(alloc, task, word, line, run)
+            do_line(alloc, run, task, word, line)
         }
     }
 }
@@ -251,9 +251,9 @@ fn read_text(
 /// The mail goes to standard output.
 pub fn write_out<D: Effects>(
     alloc: Global,
+    run: &mut Run<D>,
     flags: Flags,
     lock: &Option<Blob>,
-    run: &mut Run<D>,
 ) -> Result<Option<End>, Memory>
     ensures carries { Carries (ProgramActions.write_out flags lock.now (mind_of run.old.process))
         (λ end. turn_of end (mind_of run.new.process)) result
@@ -276,15 +276,15 @@ pub fn write_out<D: Effects>(
         &mut run.outside,
         &mut run.journal,
     )?;
-    write_ready(alloc, &task, &ready, run)
+    write_ready(alloc, run, &task, &ready)
 }
 
 // Expands the text of the lock file, and then writes.
 fn write_ready<D: Effects>(
     alloc: Global,
+    run: &mut Run<D>,
     task: &Task<'_>,
     ready: &Ready,
-    run: &mut Run<D>,
 ) -> Result<Option<End>, Memory>
     requires locks { length ready.now.lock_outputs.items ≡ length (ProgramActions.lock_commands (task_of task.now)) }
     ensures carries { Carries
@@ -304,7 +304,7 @@ fn write_ready<D: Effects>(
         ),
         LockText::Word(word) => {
             let errand = write_errand(alloc, task.flags, &run.process)?;
-            do_named(alloc, task, word, errand, run)
+            do_named(alloc, run, task, word, errand)
         }
     }
 }

@@ -30,8 +30,8 @@ pub struct FolderCopy {
 /// Files the piece in the folder as a file of its own. After want of memory after the filing, that is noted.
 pub fn file_in_folder<D: Effects>(
     alloc: Global,
-    copy: FolderCopy,
     run: &mut Run<D>,
+    copy: FolderCopy,
 ) -> Result<Filed, Memory>
     requires room { length run.old.process.locks.names + 2 ≤ run.old.journal.room }
     requires shown { copy.shown ≡ copy.folder }

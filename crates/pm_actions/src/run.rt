@@ -13,8 +13,6 @@ pub struct Run<D: Effects> {
     pub process: Process,
     pub journal: Journal,
     pub outside: D,
-    ghost keeps: { Keeps [] journal.entries process.locks.names } by {
-        Keeps-prop [] journal.entries process.locks.names
-    },
+    ghost keeps: { Keeps [] journal.entries process.locks.names } by { Keeps-prop _ _ _ },
     ghost room: { length process.locks.names ≤ journal.room },
 }

@@ -103,9 +103,9 @@ pub fn push_stuck(
 /// Says each line, and answers with this end.
 pub fn say_each<D: Effects>(
     alloc: Global,
+    run: &mut Run<D>,
     mut lines: VecDeque<Blob>,
     end: Option<End>,
-    run: &mut Run<D>,
 ) -> Result<Option<End>, Memory>
     ensures carries { let p = mind_of run.old.process in
         Carries (Delivering.say_each p lines.items (turn_of end p))

@@ -78,10 +78,10 @@ pub enum LockFile {
 /// Hands the mail to the program of a line that was read so.
 pub fn do_line<D: Effects>(
     alloc: Global,
+    run: &mut Run<D>,
     task: &Task<'_>,
     word: Option<Blob>,
     line: ProgramLine,
-    run: &mut Run<D>,
 ) -> Result<Option<End>, Memory>
     ensures carries { let t = task_of task.now in let p = mind_of run.old.process in
         Carries (ProgramActions.do_line t word (work_of t.purpose t.flags (fed_piece t.flags p)) line p)
@@ -92,10 +92,10 @@ pub fn do_line<D: Effects>(
     match line {
         ProgramLine::Runs(command) => {
             let errand = errand_for(alloc, task, command, &run.process)?;
-            do_named(alloc, task, word, errand, run)
+            do_named(alloc, run, task, word, errand)
         }
-        ProgramLine::NoWords => refuse(alloc, task.text, run),
-        ProgramLine::Unusable => refuse_line(alloc, task, word, run),
+        ProgramLine::NoWords => refuse(alloc, run, task.text),
+        ProgramLine::Unusable => refuse_line(alloc, run, task, word),
         ProgramLine::TooLong(length) => skip_value(
             alloc,
             length,
@@ -109,9 +109,9 @@ pub fn do_line<D: Effects>(
 // A word of the line is unusable: this is told of the lock file's name where that can't be a file's either.
 fn refuse_line<D: Effects>(
     alloc: Global,
+    run: &mut Run<D>,
     task: &Task<'_>,
     word: Option<Blob>,
-    run: &mut Run<D>,
 ) -> Result<Option<End>, Memory>
     ensures carries { let p = mind_of run.old.process in
         Carries (refuse_name (unusable_text (task_of task.now) word) p)
@@ -125,7 +125,7 @@ fn refuse_line<D: Effects>(
     } else {
         blamed_text(task.lock, task.text)
     };
-    refuse(alloc, text, run)
+    refuse(alloc, run, text)
 }
 
 // Whether the lock file's name, where one is asked for, can be a file's.
@@ -142,10 +142,10 @@ fn is_lock_word(alloc: Global, word: Option<Blob>) -> Result<bool, Memory>
 /// The errand is done, if the lock file can be taken.
 pub fn do_named<D: Effects>(
     alloc: Global,
+    run: &mut Run<D>,
     task: &Task<'_>,
     word: Option<Blob>,
     errand: Errand,
-    run: &mut Run<D>,
 ) -> Result<Option<End>, Memory>
     ensures carries { (work : Mind → Plan Tried) → IsWork task.now.flags errand run.old.process.vars work
         → Carries (ProgramActions.do_named (task_of task.now) word work (mind_of run.old.process))
@@ -155,11 +155,11 @@ pub fn do_named<D: Effects>(
         → OnErr result (Undelivered task.now.flags run.old.journal run.new.journal) }
 {
     match lock_file(alloc, word, &run.process)? {
-        LockFile::Free(lock) => do_free(alloc, task, lock, errand, run),
+        LockFile::Free(lock) => do_free(alloc, run, task, lock, errand),
         LockFile::Refused => {
             let_go(errand);
             let text = blamed_text(task.lock, task.text);
-            refuse(alloc, text, run)
+            refuse(alloc, run, text)
         }
     }
 }
@@ -190,10 +190,10 @@ fn free_file(alloc: Global, name: Option<Name>, process: &Process) -> Result<Loc
 // The errand is done under a lock file that isn't held yet.
 fn do_free<D: Effects>(
     alloc: Global,
+    run: &mut Run<D>,
     task: &Task<'_>,
     lock: Option<Name>,
     errand: Errand,
-    run: &mut Run<D>,
 ) -> Result<Option<End>, Memory>
     requires free { IsFreeLock lock run.old.process.locks.names }
     ensures carries { (work : Mind → Plan Tried) → IsWork task.now.flags errand run.old.process.vars work
@@ -204,12 +204,12 @@ fn do_free<D: Effects>(
     ensures sure { (work : Mind → Plan Tried) → IsWork task.now.flags errand run.old.process.vars work
         → OnErr result (Undelivered task.now.flags run.old.journal run.new.journal) }
 {
-    tell_first(alloc, task, run)?;
-    try_and_say(alloc, task, lock, errand, run)
+    tell_first(alloc, run, task)?;
+    try_and_say(alloc, run, task, lock, errand)
 }
 
 // Tells that there is no automatic lock file, where one is asked for.
-fn tell_first<D: Effects>(alloc: Global, task: &Task<'_>, run: &mut Run<D>) -> Result<(), Memory>
+fn tell_first<D: Effects>(alloc: Global, run: &mut Run<D>, task: &Task<'_>) -> Result<(), Memory>
     ensures told { (next : Plan Turn) → IfOk result (λ _. LeadsTo
         (told_first (task_of task.now) (mind_of run.old.process) next) next
         run.old.journal run.new.journal (D.told run.old.outside) (D.told run.new.outside)) }
@@ -234,10 +234,10 @@ fn tell_first<D: Effects>(alloc: Global, task: &Task<'_>, run: &mut Run<D>) -> R
 // Does the errand, and tells what came of it.
 fn try_and_say<D: Effects>(
     alloc: Global,
+    run: &mut Run<D>,
     task: &Task<'_>,
     lock: Option<Name>,
     errand: Errand,
-    run: &mut Run<D>,
 ) -> Result<Option<End>, Memory>
     requires free { IsFreeLock lock run.old.process.locks.names }
     ensures carries { (work : Mind → Plan Tried) → IsWork task.now.flags errand run.old.process.vars work
@@ -247,11 +247,11 @@ fn try_and_say<D: Effects>(
     ensures sure { (work : Mind → Plan Tried) → IsWork task.now.flags errand run.old.process.vars work
         → OnErr result (Undelivered task.now.flags run.old.journal run.new.journal) }
 {
-    let trial = try_under(alloc, lock, errand, task.flags, run)?;
+    let trial = try_under(alloc, run, lock, errand, task.flags)?;
     settle(&trial, &mut run.process);
     let end = end_of(is_final(task), &trial);
     let mut lines = trial_lines(alloc, task.flags, task.text, &trial)?;
     let delivered = is_delivery(task) && is_fine_trial(&trial);
     push_copy(alloc, delivered, task.flags, &run.process, &mut lines)?;
-    say_each(alloc, lines, end, run)
+    say_each(alloc, run, lines, end)
 }

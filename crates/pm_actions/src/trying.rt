@@ -33,10 +33,10 @@ struct LockRequest {
 /// Does the errand under the lock of this name.
 pub fn try_under<D: Effects>(
     alloc: Global,
+    run: &mut Run<D>,
     lock: Option<Name>,
     errand: Errand,
     flags: Flags,
-    run: &mut Run<D>,
 ) -> Result<Trial, Memory>
     requires free { IsFreeLock lock run.old.process.locks.names }
     ensures carries { (work : Mind → Plan Tried) → IsWork flags errand run.old.process.vars work
@@ -46,13 +46,13 @@ pub fn try_under<D: Effects>(
     ensures sure { OnErr result (is_for_good errand ≡ true → run.new.journal.entries ≡ run.old.journal.entries) }
 {
     match lock {
-        None => try_free(alloc, errand, flags, run),
+        None => try_free(alloc, run, errand, flags),
         Some(name) => match lock_request(alloc, name, &mut run.process.locks, &mut run.journal) {
             Err(Memory) => {
                 let_go(errand);
                 Err(Memory)
             }
-            Ok(request) => try_locked(alloc, request, errand, flags, run),
+            Ok(request) => try_locked(alloc, run, request, errand, flags),
         },
     }
 }
@@ -60,9 +60,9 @@ pub fn try_under<D: Effects>(
 // The entry of an abstract has room too.
 fn try_free<D: Effects>(
     alloc: Global,
+    run: &mut Run<D>,
     errand: Errand,
     flags: Flags,
-    run: &mut Run<D>,
 ) -> Result<Trial, Memory>
     ensures carries { (work : Mind → Plan Tried) → IsWork flags errand run.old.process.vars work
         → Carries (ProgramActions.try_under None work (mind_of run.old.process))
@@ -71,7 +71,7 @@ fn try_free<D: Effects>(
     ensures sure { OnErr result (is_for_good errand ≡ true → run.new.journal.entries ≡ run.old.journal.entries) }
 {
     run.journal.reserve(run.process.locks.len() + 2)?;
-    let outcome = carry(alloc, errand, flags, run)?;
+    let outcome = carry(alloc, run, errand, flags)?;
     Ok(Trial::Unlocked(outcome))
 }
 
@@ -102,10 +102,10 @@ fn lock_request(
 // After want of memory in the errand the lock is still held.
 fn try_locked<D: Effects>(
     alloc: Global,
+    run: &mut Run<D>,
     request: LockRequest,
     errand: Errand,
     flags: Flags,
-    run: &mut Run<D>,
 ) -> Result<Trial, Memory>
     requires noted { request.noted ≡ request.name }
     requires kept { request.kept ≡ request.name }
@@ -129,7 +129,7 @@ fn try_locked<D: Effects>(
         &mut run.journal,
     ) {
         LockEnd::Held { forced, .. } => {
-            let outcome = carry(alloc, errand, flags, run)?;
+            let outcome = carry(alloc, run, errand, flags)?;
             let removed = give(
                 &mut run.process.locks,
                 &name,

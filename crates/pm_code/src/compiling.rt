@@ -123,7 +123,7 @@ fn end_block(
     requires { enter < length steps.old.items }
     ensures { OnOk result (flats_of steps.new.items
         ≡ slice_set (flats_of steps.old.items) enter (Enters (top_of recipe.now) (length steps.old.items))
-            ++ Leaves enter ∷ []) }
+        ++ Leaves enter ∷ []) }
 {
     let head = recipe.copy_head(alloc, Action::Block(Statements::new(alloc)))?;
     let end = steps.len();

@@ -78,7 +78,7 @@ impl Tree {
     fn lengthen(&mut self, name: &str, bytes: &[u8]) -> Result<(), Memory>
         ensures ok { OnOk result (world_in self.new
             ≡ world_with (world_in self.old) name.now
-                (longer (node_at self.old name.now) (world_in self.old).moment bytes.now)) }
+            (longer (node_at self.old name.now) (world_in self.old).moment bytes.now)) }
         ensures child { child_at self.new ≡ child_at self.old }
     {
         match self.nodes.get(name) {
@@ -95,7 +95,7 @@ impl Tree {
     fn make_file(&mut self, name: &str, bytes: &[u8]) -> Result<(), Memory>
         ensures ok { OnOk result (world_in self.new
             ≡ world_with (world_in self.old) name.now
-                (made_there (node_at self.old name.now) (world_in self.old).moment bytes.now)) }
+            (made_there (node_at self.old name.now) (world_in self.old).moment bytes.now)) }
         ensures child { child_at self.new ≡ child_at self.old }
     {
         match self.nodes.get(name) {

@@ -23,6 +23,7 @@ use crate::assigning::assign_value;
 use crate::first_values::{begin, home, login};
 use crate::opening::{Opened, Rule, open_first};
 use crate::turned::Turned;
+use pm_actions::Run;
 use pm_bytes::{Blob, Environ, Memory, Name, Names, Pair};
 use pm_journal::{Effects, HeldLocks, Journal, ask_moment};
 use pm_meaning::{CommandLine, Process};
@@ -59,64 +60,45 @@ pub fn arrive<D: Effects>(
 /// The words of the command line set variables, and its rcfiles are opened in order, up to one that is read.
 pub fn begin_rcfiles<D: Effects>(
     alloc: Global,
+    run: &mut Run<D>,
     line: &CommandLine,
     env: &Environ,
-    process: &mut Process,
-    outside: &mut D,
-    journal: &mut Journal,
 ) -> Result<Opened, Memory>
-    requires keeping { Keeping journal.old process.old.locks.names }
     ensures opens { let home = home_behind line.now.values (home_folder env.now) in IfOk result (λ opened. OpensFrom
-        (Setting line.now.values line.now home (mind_of process.old)) opened (mind_of process.new)
-        journal.old journal.new (D.told outside.old) (D.told outside.new)) }
+        (Setting line.now.values line.now home (mind_of run.old.process)) opened (mind_of run.new.process)
+        run.old.journal run.new.journal (D.told run.old.outside) (D.told run.new.outside)) }
     ensures memory { let home = home_behind line.now.values (home_folder env.now) in
-        OnErr result (RunsOut {X = Event} step MayRunOut (Setting line.now.values line.now home (mind_of process.old))
-        journal.old journal.new (D.told outside.old) (D.told outside.new)) }
-    ensures keeping { Keeping journal.new process.new.locks.names }
+        OnErr result (RunsOut {X = Event} step MayRunOut
+        (Setting line.now.values line.now home (mind_of run.old.process))
+        run.old.journal run.new.journal (D.told run.old.outside) (D.told run.new.outside)) }
 {
     let values = line.values.as_slice();
-    set_words(alloc, values, process, outside, journal)?;
+    set_words(alloc, run, values)?;
     let rule = Rule {
         is_implied: is_without(&line.rcfiles),
         keeps_folder: sets_folder(values),
     };
     let names = rcfiles_of(alloc, line, home_by(values, home(env)))?;
-    open_first(alloc, rule, names, process, outside, journal)
+    open_first(alloc, run, rule, names)
 }
 
 // The words that set variables, one after the other.
-fn set_words<D: Effects>(
-    alloc: Global,
-    values: &[Pair],
-    process: &mut Process,
-    outside: &mut D,
-    journal: &mut Journal,
-) -> Result<(), Memory>
-    requires keeping { Keeping journal.old process.old.locks.names }
-    ensures walks { (line : Words) (home : List ℕ) → Walks (Setting values.now line home (mind_of process.old))
-        (λ _. Setting [] line home (mind_of process.new)) result
-        journal.old journal.new (D.told outside.old) (D.told outside.new) }
-    ensures keeping { Keeping journal.new process.new.locks.names }
+fn set_words<D: Effects>(alloc: Global, run: &mut Run<D>, values: &[Pair]) -> Result<(), Memory>
+    ensures walks { (line : Words) (home : List ℕ) → Walks (Setting values.now line home (mind_of run.old.process))
+        (λ _. Setting [] line home (mind_of run.new.process)) result
+        run.old.journal run.new.journal (D.told run.old.outside) (D.told run.new.outside) }
 {
     for value in values {
-        set_by_word(alloc, value, process, outside, journal)?;
+        set_by_word(alloc, run, value)?;
     }
     Ok(())
 }
 
 // A word that sets a variable names no other rcfile and no other host.
-fn set_by_word<D: Effects>(
-    alloc: Global,
-    word: &Pair,
-    process: &mut Process,
-    outside: &mut D,
-    journal: &mut Journal,
-) -> Result<Turned, Memory>
-    requires keeping { Keeping journal.old process.old.locks.names }
-    ensures carries { Carries (word_set word.now (mind_of process.old))
-        (λ turned. turn_in turned (mind_of process.new)) result
-        journal.old journal.new (D.told outside.old) (D.told outside.new) }
-    ensures keeping { Keeping journal.new process.new.locks.names }
+fn set_by_word<D: Effects>(alloc: Global, run: &mut Run<D>, word: &Pair) -> Result<Turned, Memory>
+    ensures carries { Carries (word_set word.now (mind_of run.old.process))
+        (λ turned. turn_in turned (mind_of run.new.process)) result
+        run.old.journal run.new.journal (D.told run.old.outside) (D.told run.new.outside) }
 {
     let name = word.name.as_str().as_bytes();
     if names_rcfile(name) {
@@ -124,10 +106,10 @@ fn set_by_word<D: Effects>(
     }
     let value = Blob::from_slice(alloc, word.value.as_str().as_bytes())?;
     if is_host(name) {
-        process.vars.set(name, value)?;
+        run.process.vars.set(name, value)?;
         return Ok(Turned::Goes);
     }
-    assign_value(alloc, name, value, process, outside, journal)
+    assign_value(alloc, run, name, value)
 }
 
 // Whether the variable is INCLUDERC or SWITCHRC.

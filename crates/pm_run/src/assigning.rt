@@ -1,7 +1,6 @@
 //! Assignments and unsettings, and what each has for an effect (procmailrc(5), "Environment").
 ghost use Rattle.std.specs.Prelude.{◌≡◌, bytes_eq, codes, length};
 ghost use Rattle.pm_journal.specs.Executed.{Carries};
-ghost use Rattle.pm_journal.specs.Held.{Keeping};
 ghost use Rattle.pm_journal.specs.Plan.{and_then, ask};
 ghost use Rattle.pm_journal.specs.declared.acts.Act.TheVariants.{Probe};
 ghost use Rattle.pm_meaning.specs.Assigning.{probed, change_folder, change_host as host_changed};
@@ -18,10 +17,10 @@ ghost use Rattle.pm_run.specs.Turned.{turn_in};
 
 use crate::global_lock::{change_lock, drop_lock};
 use crate::turned::{Turned, turned_by};
-use pm_actions::refuse;
+use pm_actions::{Run, refuse};
 use pm_bytes::{Blob, Memory, Name, full, read_count};
 use pm_host::Looked;
-use pm_journal::{Effects, Journal, couldnt_chdir, host_mismatched, probe, unusable_name};
+use pm_journal::{Effects, couldnt_chdir, host_mismatched, probe, unusable_name};
 use pm_meaning::{
     End, Expansion, Process, expand_text, file_name, first_word, outputs_of, skip_value, tell,
 };
@@ -31,124 +30,110 @@ use std::alloc::Global;
 /// Expands the text and gives it to the variable, with the effect that this has.
 pub fn assign_text<D: Effects>(
     alloc: Global,
+    run: &mut Run<D>,
     name: &[u8],
     text: &[u8],
-    process: &mut Process,
-    outside: &mut D,
-    journal: &mut Journal,
 ) -> Result<Turned, Memory>
-    requires keeping { Keeping journal.old process.old.locks.names }
-    ensures carries { Carries (assign name.now text.now (mind_of process.old))
-        (λ turned. turn_in turned (mind_of process.new)) result
-        journal.old journal.new (D.told outside.old) (D.told outside.new) }
-    ensures keeping { Keeping journal.new process.new.locks.names }
+    ensures carries { Carries (assign name.now text.now (mind_of run.old.process))
+        (λ turned. turn_in turned (mind_of run.new.process)) result
+        run.old.journal run.new.journal (D.told run.old.outside) (D.told run.new.outside) }
 {
-    let outputs = outputs_of(alloc, text, Mode::One, process, outside, journal)?;
-    assign_expanded(
+    let outputs = outputs_of(
         alloc,
-        name,
         text,
-        outputs.as_slice(),
-        process,
-        outside,
-        journal,
-    )
+        Mode::One,
+        &mut run.process,
+        &mut run.outside,
+        &mut run.journal,
+    )?;
+    assign_expanded(alloc, run, name, text, outputs.as_slice())
 }
 
 // Expands the text with the outputs of its commands, and gives it to the variable.
 fn assign_expanded<D: Effects>(
     alloc: Global,
+    run: &mut Run<D>,
     name: &[u8],
     text: &[u8],
     outputs: &[Blob],
-    process: &mut Process,
-    outside: &mut D,
-    journal: &mut Journal,
 ) -> Result<Turned, Memory>
     requires each { length outputs.now ≡ length (commands_in One text.now) }
-    requires keeping { Keeping journal.old process.old.locks.names }
-    ensures carries { Carries (assign_with name.now text.now outputs.now (mind_of process.old))
-        (λ turned. turn_in turned (mind_of process.new)) result
-        journal.old journal.new (D.told outside.old) (D.told outside.new) }
-    ensures keeping { Keeping journal.new process.new.locks.names }
+    ensures carries { Carries (assign_with name.now text.now outputs.now (mind_of run.old.process))
+        (λ turned. turn_in turned (mind_of run.new.process)) result
+        run.old.journal run.new.journal (D.told run.old.outside) (D.told run.new.outside) }
 {
-    match expand_text(alloc, text, Mode::One, &process.vars, outputs)? {
+    match expand_text(alloc, text, Mode::One, &run.process.vars, outputs)? {
         Expansion::Words(words) => {
             let value = first_word(alloc, words);
-            assign_value(alloc, name, value, process, outside, journal)
+            assign_value(alloc, run, name, value)
         }
         Expansion::TooLong(length) => turned_by(skip_value(
-            alloc, length, process, outside, journal,
+            alloc,
+            length,
+            &mut run.process,
+            &mut run.outside,
+            &mut run.journal,
         )),
     }
 }
 
 pub fn assign_value<D: Effects>(
     alloc: Global,
+    run: &mut Run<D>,
     name: &[u8],
     value: Blob,
-    process: &mut Process,
-    outside: &mut D,
-    journal: &mut Journal,
 ) -> Result<Turned, Memory>
-    requires keeping { Keeping journal.old process.old.locks.names }
-    ensures carries { Carries (assigned name.now value (mind_of process.old))
-        (λ turned. turn_in turned (mind_of process.new)) result
-        journal.old journal.new (D.told outside.old) (D.told outside.new) }
-    ensures keeping { Keeping journal.new process.new.locks.names }
+    ensures carries { Carries (assigned name.now value (mind_of run.old.process))
+        (λ turned. turn_in turned (mind_of run.new.process)) result
+        run.old.journal run.new.journal (D.told run.old.outside) (D.told run.new.outside) }
 {
     let copy = value.copy(alloc)?;
-    process.vars.set(name, value)?;
+    run.process.vars.set(name, value)?;
     if is_maildir(name) {
-        turned_by(move_to_folder(alloc, copy.as_slice(), process, outside, journal))
+        turned_by(move_to_folder(alloc, run, copy.as_slice()))
     } else if is_lockfile(name) {
-        turned_by(change_lock(alloc, copy.as_slice(), process, outside, journal))
+        turned_by(change_lock(alloc, run, copy.as_slice()))
     } else {
-        change_other(alloc, name, copy.as_slice(), process, outside, journal)
+        change_other(alloc, run, name, copy.as_slice())
     }
 }
 
 // The value may be a line to log, or say how many arguments are dropped.
 fn change_other<D: Effects>(
     alloc: Global,
+    run: &mut Run<D>,
     name: &[u8],
     value: &[u8],
-    process: &mut Process,
-    outside: &mut D,
-    journal: &mut Journal,
 ) -> Result<Turned, Memory>
-    requires keeping { Keeping journal.old process.old.locks.names }
-    ensures carries { Carries (other_changed name.now value.now (mind_of process.old))
-        (λ turned. turn_in turned (mind_of process.new)) result
-        journal.old journal.new (D.told outside.old) (D.told outside.new) }
-    ensures keeping { Keeping journal.new process.new.locks.names }
+    ensures carries { Carries (other_changed name.now value.now (mind_of run.old.process))
+        (λ turned. turn_in turned (mind_of run.new.process)) result
+        run.old.journal run.new.journal (D.told run.old.outside) (D.told run.new.outside) }
 {
     if is_log(name) {
-        return log_value(alloc, value, process, outside, journal);
+        return log_value(alloc, run, value);
     }
     if is_shift(name) {
-        shift_arguments(value, process);
+        shift_arguments(value, &mut run.process);
         return Ok(Turned::Goes);
     }
-    change_rcfile(alloc, name, value, process, outside, journal)
+    change_rcfile(alloc, run, name, value)
 }
 
 // LOG got this value.
-fn log_value<D: Effects>(
-    alloc: Global,
-    value: &[u8],
-    process: &Process,
-    outside: &mut D,
-    journal: &mut Journal,
-) -> Result<Turned, Memory>
-    requires keeping { Keeping journal.old process.now.locks.names }
-    ensures carries { let p = mind_of process.now in
-        Carries (say_then p value.now (GoesOn p)) (λ turned. turn_in turned p) result
-        journal.old journal.new (D.told outside.old) (D.told outside.new) }
-    ensures keeping { Keeping journal.new process.now.locks.names }
+fn log_value<D: Effects>(alloc: Global, run: &mut Run<D>, value: &[u8]) -> Result<Turned, Memory>
+    ensures carries { let p = mind_of run.old.process in
+        Carries (say_then p value.now (GoesOn p)) (λ turned. turn_in turned (mind_of run.new.process)) result
+        run.old.journal run.new.journal (D.told run.old.outside) (D.told run.new.outside) }
+    ensures same { run.new.process ≡ run.old.process }
 {
     let line = Blob::from_slice(alloc, value)?;
-    tell(alloc, process, line, outside, journal)?;
+    tell(
+        alloc,
+        &run.process,
+        line,
+        &mut run.outside,
+        &mut run.journal,
+    )?;
     Ok(Turned::Goes)
 }
 
@@ -179,95 +164,85 @@ fn is_shift(name: &[u8]) -> bool
 // The value may name another rcfile, that of INCLUDERC or SWITCHRC, or another host.
 fn change_rcfile<D: Effects>(
     alloc: Global,
+    run: &mut Run<D>,
     name: &[u8],
     value: &[u8],
-    process: &Process,
-    outside: &mut D,
-    journal: &mut Journal,
 ) -> Result<Turned, Memory>
-    requires keeping { Keeping journal.old process.now.locks.names }
-    ensures carries { Carries (rcfile_changed name.now value.now (mind_of process.now))
-        (λ turned. turn_in turned (mind_of process.now)) result
-        journal.old journal.new (D.told outside.old) (D.told outside.new) }
-    ensures keeping { Keeping journal.new process.now.locks.names }
+    ensures carries { Carries (rcfile_changed name.now value.now (mind_of run.old.process))
+        (λ turned. turn_in turned (mind_of run.new.process)) result
+        run.old.journal run.new.journal (D.told run.old.outside) (D.told run.new.outside) }
+    ensures same { run.new.process ≡ run.old.process }
 {
     if is_includerc(name) {
-        return include_rcfile(alloc, value, process, outside, journal);
+        return include_rcfile(alloc, run, value);
     }
     if is_switchrc(name) {
-        return switch_rcfile(alloc, value, process, outside, journal);
+        return switch_rcfile(alloc, run, value);
     }
     if is_host(name) {
-        return change_host(alloc, value, process, outside, journal);
+        return change_host(alloc, run, value);
     }
     Ok(Turned::Goes)
 }
 
 // HOST got this value.
-fn change_host<D: Effects>(
-    alloc: Global,
-    value: &[u8],
-    process: &Process,
-    outside: &mut D,
-    journal: &mut Journal,
-) -> Result<Turned, Memory>
-    requires keeping { Keeping journal.old process.now.locks.names }
-    ensures carries { Carries (host_changed value.now (mind_of process.now))
-        (λ turned. turn_in turned (mind_of process.now)) result
-        journal.old journal.new (D.told outside.old) (D.told outside.new) }
-    ensures keeping { Keeping journal.new process.now.locks.names }
+fn change_host<D: Effects>(alloc: Global, run: &mut Run<D>, value: &[u8]) -> Result<Turned, Memory>
+    ensures carries { Carries (host_changed value.now (mind_of run.old.process))
+        (λ turned. turn_in turned (mind_of run.new.process)) result
+        run.old.journal run.new.journal (D.told run.old.outside) (D.told run.new.outside) }
+    ensures same { run.new.process ≡ run.old.process }
 {
-    if is_own_name(value, process) {
+    if is_own_name(value, &run.process) {
         return Ok(Turned::Goes);
     }
     let line = host_mismatched(alloc, value)?;
-    tell(alloc, process, line, outside, journal)?;
+    tell(
+        alloc,
+        &run.process,
+        line,
+        &mut run.outside,
+        &mut run.journal,
+    )?;
     Ok(Turned::Halts(End::HostOff))
 }
 
 // INCLUDERC got this value.
 fn include_rcfile<D: Effects>(
     alloc: Global,
+    run: &mut Run<D>,
     value: &[u8],
-    process: &Process,
-    outside: &mut D,
-    journal: &mut Journal,
 ) -> Result<Turned, Memory>
-    requires keeping { Keeping journal.old process.now.locks.names }
-    ensures carries { Carries (rcfile_included value.now (mind_of process.now))
-        (λ turned. turn_in turned (mind_of process.now)) result
-        journal.old journal.new (D.told outside.old) (D.told outside.new) }
-    ensures keeping { Keeping journal.new process.now.locks.names }
+    ensures carries { Carries (rcfile_included value.now (mind_of run.old.process))
+        (λ turned. turn_in turned (mind_of run.new.process)) result
+        run.old.journal run.new.journal (D.told run.old.outside) (D.told run.new.outside) }
+    ensures same { run.new.process ≡ run.old.process }
 {
     if value.is_empty() {
         return Ok(Turned::Goes);
     }
     match file_name(alloc, value)? {
-        Some(name) => Ok(Turned::Includes(full(alloc, &process.base, &name)?)),
-        None => turned_by(refuse(alloc, value, process, outside, journal)),
+        Some(name) => Ok(Turned::Includes(full(alloc, &run.process.base, &name)?)),
+        None => turned_by(refuse(alloc, run, value)),
     }
 }
 
 // SWITCHRC got this value.
 fn switch_rcfile<D: Effects>(
     alloc: Global,
+    run: &mut Run<D>,
     value: &[u8],
-    process: &Process,
-    outside: &mut D,
-    journal: &mut Journal,
 ) -> Result<Turned, Memory>
-    requires keeping { Keeping journal.old process.now.locks.names }
-    ensures carries { Carries (rcfile_switched value.now (mind_of process.now))
-        (λ turned. turn_in turned (mind_of process.now)) result
-        journal.old journal.new (D.told outside.old) (D.told outside.new) }
-    ensures keeping { Keeping journal.new process.now.locks.names }
+    ensures carries { Carries (rcfile_switched value.now (mind_of run.old.process))
+        (λ turned. turn_in turned (mind_of run.new.process)) result
+        run.old.journal run.new.journal (D.told run.old.outside) (D.told run.new.outside) }
+    ensures same { run.new.process ≡ run.old.process }
 {
     if value.is_empty() {
         return Ok(Turned::EndsFile);
     }
     match file_name(alloc, value)? {
-        Some(name) => Ok(Turned::Switches(full(alloc, &process.base, &name)?)),
-        None => turned_by(refuse(alloc, value, process, outside, journal)),
+        Some(name) => Ok(Turned::Switches(full(alloc, &run.process.base, &name)?)),
+        None => turned_by(refuse(alloc, run, value)),
     }
 }
 
@@ -288,25 +263,27 @@ fn is_maildir(name: &[u8]) -> bool
 // Names are seen from this folder from now on, if it is there.
 fn move_to_folder<D: Effects>(
     alloc: Global,
+    run: &mut Run<D>,
     value: &[u8],
-    process: &mut Process,
-    outside: &mut D,
-    journal: &mut Journal,
 ) -> Result<Option<End>, Memory>
-    requires keeping { Keeping journal.old process.old.locks.names }
-    ensures carries { Carries (change_folder value.now (mind_of process.old))
-        (λ end. turn_of end (mind_of process.new)) result
-        journal.old journal.new (D.told outside.old) (D.told outside.new) }
-    ensures keeping { Keeping journal.new process.new.locks.names }
+    ensures carries { Carries (change_folder value.now (mind_of run.old.process))
+        (λ end. turn_of end (mind_of run.new.process)) result
+        run.old.journal run.new.journal (D.told run.old.outside) (D.told run.new.outside) }
 {
     match file_name(alloc, value)? {
         Some(name) => {
-            let name = full(alloc, &process.base, &name)?;
-            probe_folder(alloc, name, process, outside, journal)
+            let name = full(alloc, &run.process.base, &name)?;
+            probe_folder(alloc, run, name)
         }
         None => {
             let line = unusable_name(alloc, value)?;
-            tell(alloc, process, line, outside, journal)?;
+            tell(
+                alloc,
+                &run.process,
+                line,
+                &mut run.outside,
+                &mut run.journal,
+            )?;
             Ok(None)
         }
     }
@@ -314,26 +291,28 @@ fn move_to_folder<D: Effects>(
 
 fn probe_folder<D: Effects>(
     alloc: Global,
+    run: &mut Run<D>,
     name: Name,
-    process: &mut Process,
-    outside: &mut D,
-    journal: &mut Journal,
 ) -> Result<Option<End>, Memory>
-    requires keeping { Keeping journal.old process.old.locks.names }
-    ensures carries { Carries (and_then (ask (Probe name)) (probed name (mind_of process.old)))
-        (λ end. turn_of end (mind_of process.new)) result
-        journal.old journal.new (D.told outside.old) (D.told outside.new) }
-    ensures keeping { Keeping journal.new process.new.locks.names }
+    ensures carries { Carries (and_then (ask (Probe name)) (probed name (mind_of run.old.process)))
+        (λ end. turn_of end (mind_of run.new.process)) result
+        run.old.journal run.new.journal (D.told run.old.outside) (D.told run.new.outside) }
 {
     let folder = name.copy(alloc)?;
-    match probe(&process.locks, name, outside, journal)? {
+    match probe(&run.process.locks, name, &mut run.outside, &mut run.journal)? {
         Looked::Folder => {
-            process.base = folder;
+            run.process.base = folder;
             Ok(None)
         }
         _ => {
             let line = couldnt_chdir(alloc, &folder)?;
-            tell(alloc, process, line, outside, journal)?;
+            tell(
+                alloc,
+                &run.process,
+                line,
+                &mut run.outside,
+                &mut run.journal,
+            )?;
             Ok(None)
         }
     }
@@ -342,23 +321,19 @@ fn probe_folder<D: Effects>(
 /// Takes the variable away. With LOCKFILE goes its lock, and without SWITCHRC the current rcfile is over.
 pub fn unset_variable<D: Effects>(
     alloc: Global,
+    run: &mut Run<D>,
     name: &[u8],
-    process: &mut Process,
-    outside: &mut D,
-    journal: &mut Journal,
 ) -> Result<Turned, Memory>
-    requires keeping { Keeping journal.old process.old.locks.names }
-    ensures carries { Carries (unset name.now (mind_of process.old))
-        (λ turned. turn_in turned (mind_of process.new)) result
-        journal.old journal.new (D.told outside.old) (D.told outside.new) }
-    ensures keeping { Keeping journal.new process.new.locks.names }
+    ensures carries { Carries (unset name.now (mind_of run.old.process))
+        (λ turned. turn_in turned (mind_of run.new.process)) result
+        run.old.journal run.new.journal (D.told run.old.outside) (D.told run.new.outside) }
 {
-    process.vars.unset(name);
+    run.process.vars.unset(name);
     if is_switchrc(name) {
         return Ok(Turned::EndsFile);
     }
     if is_lockfile(name) {
-        turned_by(drop_lock(alloc, process, outside, journal))
+        turned_by(drop_lock(alloc, run))
     } else {
         Ok(Turned::Goes)
     }

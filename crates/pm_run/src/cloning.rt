@@ -2,7 +2,6 @@
 ghost use Rattle.std.specs.Prelude.{◌≡◌, ◌≤◌, IfOk, List, drop};
 ghost use Rattle.pm_code.specs.Ahead.{others, lists_of};
 ghost use Rattle.pm_journal.specs.Executed.{Carries};
-ghost use Rattle.pm_journal.specs.Held.{Keeping};
 ghost use Rattle.pm_journal.specs.Walking.{Go};
 ghost use Rattle.pm_meaning.specs.Minds.{mind_of};
 ghost use Rattle.pm_meaning.specs.Running.{Item, Running, Cloning, Refusing, step};
@@ -15,9 +14,10 @@ ghost use Rattle.pm_run.specs.Stretches.{Proceeds};
 use crate::copies::copy_for_block;
 use crate::frames::RcFrame;
 use crate::queue::Queue;
+use pm_actions::Run;
 use pm_bytes::Memory;
-use pm_journal::{Effects, Journal, too_many_clones};
-use pm_meaning::{Process, succeed, tell};
+use pm_journal::{Effects, too_many_clones};
+use pm_meaning::{succeed, tell};
 use std::alloc::Global;
 
 /// The most copies that a run makes.
@@ -27,48 +27,44 @@ const MOST_COPIES: u64 = 16;
 /// which is told. The process goes on after the block.
 pub fn make_clone<D: Effects>(
     alloc: Global,
+    run: &mut Run<D>,
     place: usize,
     frame: &RcFrame,
-    process: &mut Process,
     queue: &mut Queue,
-    outside: &mut D,
-    journal: &mut Journal,
 ) -> Result<(), Memory>
     requires behind { (blocks : List OpenBlock) (rest : List Item) →
         weave (others (lists_of (drop place (steps_of frame.now)))) blocks rest
         ≡ weave (lists_of (drop frame.now.place (steps_of frame.now))) blocks rest }
-    requires keeping { Keeping journal.old process.old.locks.names }
     ensures proceeds { Proceeds queue.old queue.new
-        (Cloning (block_at place frame.now) (items_of frame.now) (mind_of process.old))
-        (λ _. Running (items_of frame.now) (mind_of process.new)) result
-        journal.old journal.new (D.told outside.old) (D.told outside.new) }
+        (Cloning (block_at place frame.now) (items_of frame.now) (mind_of run.old.process))
+        (λ _. Running (items_of frame.now) (mind_of run.new.process)) result
+        run.old.journal run.new.journal (D.told run.old.outside) (D.told run.new.outside) }
     ensures few { copies_left queue.new ≤ copies_left queue.old }
-    ensures count { process.new.openings ≡ process.old.openings }
-    ensures keeping { Keeping journal.new process.new.locks.names }
+    ensures count { run.new.process.openings ≡ run.old.process.openings }
 {
     if queue.made >= MOST_COPIES {
-        return refuse_clone(alloc, process, outside, journal);
+        return refuse_clone(alloc, run);
     }
-    let copy = copy_for_block(alloc, place, frame, process)?;
+    let copy = copy_for_block(alloc, place, frame, &run.process)?;
     queue.copies.push_back(copy)?;
     queue.made += 1;
-    process.chain = succeed(&process.chain);
+    run.process.chain = succeed(&run.process.chain);
     Ok(())
 }
 
 // No copy is made: the recipe has failed.
-fn refuse_clone<D: Effects>(
-    alloc: Global,
-    process: &Process,
-    outside: &mut D,
-    journal: &mut Journal,
-) -> Result<(), Memory>
-    requires keeping { Keeping journal.old process.now.locks.names }
-    ensures carries { (items : List Item) → Carries (step (Refusing items (mind_of process.now)))
-        (λ _. Go (Running items (mind_of process.now))) result
-        journal.old journal.new (D.told outside.old) (D.told outside.new) }
-    ensures keeping { Keeping journal.new process.now.locks.names }
+fn refuse_clone<D: Effects>(alloc: Global, run: &mut Run<D>) -> Result<(), Memory>
+    ensures carries { (items : List Item) → Carries (step (Refusing items (mind_of run.old.process)))
+        (λ _. Go (Running items (mind_of run.new.process))) result
+        run.old.journal run.new.journal (D.told run.old.outside) (D.told run.new.outside) }
+    ensures same { run.new.process ≡ run.old.process }
 {
     let line = too_many_clones(alloc)?;
-    tell(alloc, process, line, outside, journal)
+    tell(
+        alloc,
+        &run.process,
+        line,
+        &mut run.outside,
+        &mut run.journal,
+    )
 }

@@ -2,7 +2,6 @@
 //! name of its log file too. So no memory is wanted for it once the mail is delivered.
 ghost use Rattle.std.specs.Prelude.{◌≡◌, ◌≤◌, ◌-◌, true, [], codes, IfOk, vec_capacity, vec_len};
 ghost use Rattle.pm_journal.specs.Executed.{Carries};
-ghost use Rattle.pm_journal.specs.Held.{Keeping};
 ghost use Rattle.pm_meaning.specs.Abstracts.{abstract_of as abstract_in};
 ghost use Rattle.pm_meaning.specs.Locks.{value_or};
 ghost use Rattle.pm_meaning.specs.Logging.{log, logged};
@@ -11,9 +10,9 @@ ghost use Rattle.pm_run.specs.Drafts.{IsDrafted, is_draft_for};
 
 use crate::draft::Draft;
 use crate::falling_off::value;
-use pm_actions::{logs_last, mail_part, push_folder};
+use pm_actions::{Run, logs_last, mail_part, push_folder};
 use pm_bytes::{Blob, Memory};
-use pm_journal::{Effects, Journal};
+use pm_journal::Effects;
 use pm_meaning::{Process, log_name, tell_in};
 use std::alloc::Global;
 
@@ -62,19 +61,19 @@ pub fn is_for(draft: &Draft, process: &Process) -> bool
 }
 
 /// Finishes the draft, which is for this process, and logs it as the abstract of the last delivery.
-pub fn tell_draft<D: Effects>(
-    draft: Draft,
-    process: &Process,
-    outside: &mut D,
-    journal: &mut Journal,
-) -> Result<(), Memory>
-    requires suits { is_draft_for draft (mind_of process.now) ≡ true }
-    requires keeping { Keeping journal.old process.now.locks.names }
-    ensures carries { let p = mind_of process.now in Carries (log (abstract_in p) p) (λ _. logged) result
-        journal.old journal.new (D.told outside.old) (D.told outside.new) }
-    ensures keeping { Keeping journal.new process.now.locks.names }
+pub fn tell_draft<D: Effects>(run: &mut Run<D>, draft: Draft) -> Result<(), Memory>
+    requires suits { is_draft_for draft (mind_of run.old.process) ≡ true }
+    ensures carries { let p = mind_of run.old.process in Carries (log (abstract_in p) p) (λ _. logged) result
+        run.old.journal run.new.journal (D.told run.old.outside) (D.told run.new.outside) }
+    ensures same { run.new.process ≡ run.old.process }
 {
     let Draft { mut text, file, .. } = draft;
-    push_folder(&process.stored, &mut text)?;
-    tell_in(file, process, Blob::from_vec(text), outside, journal)
+    push_folder(&run.process.stored, &mut text)?;
+    tell_in(
+        file,
+        &run.process,
+        Blob::from_vec(text),
+        &mut run.outside,
+        &mut run.journal,
+    )
 }

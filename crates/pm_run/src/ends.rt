@@ -2,7 +2,6 @@
 //! (procmailrc(5), "Environment").
 ghost use Rattle.std.specs.Prelude.{◌≡◌, true, [], ◌&&◌, codes, decimal, IfOk, OnErr};
 ghost use Rattle.pm_journal.specs.Executed.{Carries};
-ghost use Rattle.pm_journal.specs.Held.{Keeping};
 ghost use Rattle.pm_vars.specs.Variables.{value_of};
 ghost use Rattle.pm_journal.specs.LogText.{unusable_name_line, value_too_long_line};
 ghost use Rattle.pm_meaning.specs.Abstracts.{abstract_of as abstract_in, logs_last as last_is_logged};
@@ -27,10 +26,10 @@ use crate::drafting::{is_for, tell_draft};
 use crate::falling_off::value;
 use crate::global_lock::give_lock;
 use itoa::Buffer;
-use pm_actions::{abstract_of, logs_last};
+use pm_actions::{Run, abstract_of, logs_last};
 use pm_bytes::{Blob, Memory, read_count};
 use pm_host::Command;
-use pm_journal::{Effects, Journal, run, unusable_name, value_too_long};
+use pm_journal::{Effects, unusable_name, value_too_long};
 use pm_meaning::{
     End, Ending, Process, ProgramLine, Status, code_of, note_code, read_line, status_of, tell,
     tell_run,
@@ -41,65 +40,62 @@ use std::alloc::Global;
 /// and LOCKFILE's lock is given back.
 pub fn close<D: Effects>(
     alloc: Global,
+    run: &mut Run<D>,
     end: End,
     draft: Option<Draft>,
-    process: &mut Process,
-    outside: &mut D,
-    journal: &mut Journal,
 ) -> Result<Ending, Memory>
-    requires keeping { Keeping journal.old process.old.locks.names }
-    ensures walks { Walks (Over end (mind_of process.old)) (λ ending. Closing ending (mind_of process.new)) result
-        journal.old journal.new (D.told outside.old) (D.told outside.new) }
-    ensures keeping { Keeping journal.new process.new.locks.names }
+    ensures walks { Walks (Over end (mind_of run.old.process))
+        (λ ending. Closing ending (mind_of run.new.process)) result
+        run.old.journal run.new.journal (D.told run.old.outside) (D.told run.new.outside) }
 {
-    tell_delivery(alloc, end, draft, process, outside, journal)?;
-    let code = trap(alloc, end, process, outside, journal)?;
-    let status = exit_status(end, code, process);
-    give_lock(alloc, process, outside, journal)?;
+    tell_delivery(alloc, run, end, draft)?;
+    let code = trap(alloc, run, end)?;
+    let status = exit_status(end, code, &run.process);
+    give_lock(alloc, run)?;
     Ok(Ending { end, status })
 }
 
 // Logs the abstract of the delivery that ended the process, where LOGABSTRACT wants it.
 fn tell_delivery<D: Effects>(
     alloc: Global,
+    run: &mut Run<D>,
     end: End,
     draft: Option<Draft>,
-    process: &Process,
-    outside: &mut D,
-    journal: &mut Journal,
 ) -> Result<(), Memory>
-    requires keeping { Keeping journal.old process.now.locks.names }
-    ensures carries { Carries (delivery_told end (mind_of process.now)) (λ _. logged) result
-        journal.old journal.new (D.told outside.old) (D.told outside.new) }
-    ensures told { OnErr result ((is_delivered end && last_is_logged (mind_of process.now)) ≡ true) }
-    ensures keeping { Keeping journal.new process.now.locks.names }
+    ensures carries { Carries (delivery_told end (mind_of run.old.process)) (λ _. logged) result
+        run.old.journal run.new.journal (D.told run.old.outside) (D.told run.new.outside) }
+    ensures told { OnErr result ((is_delivered end && last_is_logged (mind_of run.old.process)) ≡ true) }
+    ensures same { run.new.process ≡ run.old.process }
 {
-    if !is_told(end, process) {
+    if !is_told(end, &run.process) {
         return Ok(());
     }
-    tell_abstract(alloc, draft, process, outside, journal)
+    tell_abstract(alloc, run, draft)
 }
 
 // A draft that is for this process is finished.
 fn tell_abstract<D: Effects>(
     alloc: Global,
+    run: &mut Run<D>,
     draft: Option<Draft>,
-    process: &Process,
-    outside: &mut D,
-    journal: &mut Journal,
 ) -> Result<(), Memory>
-    requires keeping { Keeping journal.old process.now.locks.names }
-    ensures carries { let p = mind_of process.now in Carries (log (abstract_in p) p) (λ _. logged) result
-        journal.old journal.new (D.told outside.old) (D.told outside.new) }
-    ensures keeping { Keeping journal.new process.now.locks.names }
+    ensures carries { let p = mind_of run.old.process in Carries (log (abstract_in p) p) (λ _. logged) result
+        run.old.journal run.new.journal (D.told run.old.outside) (D.told run.new.outside) }
+    ensures same { run.new.process ≡ run.old.process }
 {
     if let Some(draft) = draft {
-        if is_for(&draft, process) {
-            return tell_draft(draft, process, outside, journal);
+        if is_for(&draft, &run.process) {
+            return tell_draft(run, draft);
         }
     }
-    let text = abstract_of(alloc, process)?;
-    tell(alloc, process, text, outside, journal)
+    let text = abstract_of(alloc, &run.process)?;
+    tell(
+        alloc,
+        &run.process,
+        text,
+        &mut run.outside,
+        &mut run.journal,
+    )
 }
 
 // Whether the abstract is logged.
@@ -113,25 +109,18 @@ fn is_told(end: End, process: &Process) -> bool
 }
 
 // Runs TRAP's program at the end of the first process, and answers its exit code: 127 where it didn't run to its end.
-fn trap<D: Effects>(
-    alloc: Global,
-    end: End,
-    process: &mut Process,
-    outside: &mut D,
-    journal: &mut Journal,
-) -> Result<u8, Memory>
-    requires keeping { Keeping journal.old process.old.locks.names }
-    ensures carries { Carries (trap_run end (mind_of process.old)) (λ code. trapped_with code (mind_of process.new))
-        result journal.old journal.new (D.told outside.old) (D.told outside.new) }
-    ensures set { OnErr result (trapped_at end (mind_of process.old) ≡ true) }
-    ensures keeping { Keeping journal.new process.new.locks.names }
+fn trap<D: Effects>(alloc: Global, run: &mut Run<D>, end: End) -> Result<u8, Memory>
+    ensures carries { Carries (trap_run end (mind_of run.old.process))
+        (λ code. trapped_with code (mind_of run.new.process)) result
+        run.old.journal run.new.journal (D.told run.old.outside) (D.told run.new.outside) }
+    ensures set { OnErr result (trapped_at end (mind_of run.old.process) ≡ true) }
 {
-    if !is_trapped(end, process) {
+    if !is_trapped(end, &run.process) {
         return Ok(127);
     }
-    let text = value_copy(alloc, process)?;
-    set_exit_status(alloc, end, process)?;
-    trap_line(alloc, text.as_slice(), process, outside, journal)
+    let text = value_copy(alloc, &run.process)?;
+    set_exit_status(alloc, end, &mut run.process)?;
+    trap_line(alloc, run, text.as_slice())
 }
 
 // Whether TRAP's program runs.
@@ -186,114 +175,109 @@ fn is_code_set(process: &Process) -> bool
 }
 
 // The program line of TRAP is read after its commands, and its program runs.
-fn trap_line<D: Effects>(
-    alloc: Global,
-    text: &[u8],
-    process: &mut Process,
-    outside: &mut D,
-    journal: &mut Journal,
-) -> Result<u8, Memory>
-    requires keeping { Keeping journal.old process.old.locks.names }
-    ensures carries { Carries (line_run text.now (mind_of process.old))
-        (λ code. trapped_with code (mind_of process.new)) result
-        journal.old journal.new (D.told outside.old) (D.told outside.new) }
-    ensures keeping { Keeping journal.new process.new.locks.names }
+fn trap_line<D: Effects>(alloc: Global, run: &mut Run<D>, text: &[u8]) -> Result<u8, Memory>
+    ensures carries { Carries (line_run text.now (mind_of run.old.process))
+        (λ code. trapped_with code (mind_of run.new.process)) result
+        run.old.journal run.new.journal (D.told run.old.outside) (D.told run.new.outside) }
 {
-    let line = read_line(alloc, text, process, outside, journal)?;
-    trap_by(alloc, line, text, process, outside, journal)
+    let line = read_line(
+        alloc,
+        text,
+        &mut run.process,
+        &mut run.outside,
+        &mut run.journal,
+    )?;
+    trap_by(alloc, run, line, text)
 }
 
 // The program by its line; one that can't be run is told.
 fn trap_by<D: Effects>(
     alloc: Global,
+    run: &mut Run<D>,
     line: ProgramLine,
     text: &[u8],
-    process: &mut Process,
-    outside: &mut D,
-    journal: &mut Journal,
 ) -> Result<u8, Memory>
-    requires keeping { Keeping journal.old process.old.locks.names }
-    ensures carries { Carries (program_run line text.now (mind_of process.old))
-        (λ code. trapped_with code (mind_of process.new)) result
-        journal.old journal.new (D.told outside.old) (D.told outside.new) }
-    ensures keeping { Keeping journal.new process.new.locks.names }
+    ensures carries { Carries (program_run line text.now (mind_of run.old.process))
+        (λ code. trapped_with code (mind_of run.new.process)) result
+        run.old.journal run.new.journal (D.told run.old.outside) (D.told run.new.outside) }
 {
     match line {
-        ProgramLine::Runs(command) => run_trap(alloc, command, text, process, outside, journal),
-        ProgramLine::NoWords => tell_unusable(alloc, text, process, outside, journal),
-        ProgramLine::Unusable => tell_unusable(alloc, text, process, outside, journal),
-        ProgramLine::TooLong(length) => tell_long(alloc, length, process, outside, journal),
+        ProgramLine::Runs(command) => run_trap(alloc, run, command, text),
+        ProgramLine::NoWords => tell_unusable(alloc, run, text),
+        ProgramLine::Unusable => tell_unusable(alloc, run, text),
+        ProgramLine::TooLong(length) => tell_long(alloc, run, length),
     }
 }
 
 // The program gets the whole mail.
 fn run_trap<D: Effects>(
     alloc: Global,
+    run: &mut Run<D>,
     command: Command,
     text: &[u8],
-    process: &mut Process,
-    outside: &mut D,
-    journal: &mut Journal,
 ) -> Result<u8, Memory>
-    requires keeping { Keeping journal.old process.old.locks.names }
-    ensures carries { Carries (command_run command text.now (mind_of process.old))
-        (λ code. trapped_with code (mind_of process.new)) result
-        journal.old journal.new (D.told outside.old) (D.told outside.new) }
-    ensures keeping { Keeping journal.new process.new.locks.names }
+    ensures carries { Carries (command_run command text.now (mind_of run.old.process))
+        (λ code. trapped_with code (mind_of run.new.process)) result
+        run.old.journal run.new.journal (D.told run.old.outside) (D.told run.new.outside) }
 {
-    let input = process.message.whole(alloc)?;
-    let end = run(
+    let input = run.process.message.whole(alloc)?;
+    let end = pm_journal::run(
         alloc,
-        &process.locks,
+        &run.process.locks,
         command,
         input,
         false,
-        outside,
-        journal,
+        &mut run.outside,
+        &mut run.journal,
     )?;
-    note_code(end, process);
-    tell_run(alloc, end, text, process, outside, journal)?;
+    note_code(end, &mut run.process);
+    tell_run(
+        alloc,
+        end,
+        text,
+        &run.process,
+        &mut run.outside,
+        &mut run.journal,
+    )?;
     Ok(code_of(end))
 }
 
 // A program line that can't be run is told.
-fn tell_unusable<D: Effects>(
-    alloc: Global,
-    text: &[u8],
-    process: &Process,
-    outside: &mut D,
-    journal: &mut Journal,
-) -> Result<u8, Memory>
-    requires keeping { Keeping journal.old process.now.locks.names }
-    ensures carries { let p = mind_of process.now in
-        Carries (say_then p (unusable_name_line text.now) (trapped_with 127 p)) (λ code. trapped_with code p) result
-        journal.old journal.new (D.told outside.old) (D.told outside.new) }
-    ensures keeping { Keeping journal.new process.now.locks.names }
+fn tell_unusable<D: Effects>(alloc: Global, run: &mut Run<D>, text: &[u8]) -> Result<u8, Memory>
+    ensures carries { let p = mind_of run.old.process in
+        Carries (say_then p (unusable_name_line text.now) (trapped_with 127 p))
+        (λ code. trapped_with code (mind_of run.new.process)) result
+        run.old.journal run.new.journal (D.told run.old.outside) (D.told run.new.outside) }
+    ensures same { run.new.process ≡ run.old.process }
 {
     let line = unusable_name(alloc, text)?;
-    tell(alloc, process, line, outside, journal)?;
+    tell(
+        alloc,
+        &run.process,
+        line,
+        &mut run.outside,
+        &mut run.journal,
+    )?;
     Ok(127)
 }
 
 // A program line that expands to too many bytes is told.
-fn tell_long<D: Effects>(
-    alloc: Global,
-    length: u64,
-    process: &mut Process,
-    outside: &mut D,
-    journal: &mut Journal,
-) -> Result<u8, Memory>
-    requires keeping { Keeping journal.old process.old.locks.names }
-    ensures carries { let p = mind_of process.old in
+fn tell_long<D: Effects>(alloc: Global, run: &mut Run<D>, length: u64) -> Result<u8, Memory>
+    ensures carries { let p = mind_of run.old.process in
         Carries (say_then p (value_too_long_line length) (trapped_with 127 (overflowed p)))
-        (λ code. trapped_with code (mind_of process.new)) result
-        journal.old journal.new (D.told outside.old) (D.told outside.new) }
-    ensures keeping { Keeping journal.new process.new.locks.names }
+        (λ code. trapped_with code (mind_of run.new.process)) result
+        run.old.journal run.new.journal (D.told run.old.outside) (D.told run.new.outside) }
 {
     let line = value_too_long(alloc, length)?;
     let mark = Blob::from_slice(alloc, b"yes")?;
-    tell(alloc, process, line, outside, journal)?;
-    process.vars.set(b"PROCMAIL_OVERFLOW", mark)?;
+    tell(
+        alloc,
+        &run.process,
+        line,
+        &mut run.outside,
+        &mut run.journal,
+    )?;
+    run.process.vars.set(b"PROCMAIL_OVERFLOW", mark)?;
     Ok(127)
 }
 

@@ -1,7 +1,6 @@
 //! A process that no statement ended delivers to its default mailbox (procmail(1), "DESCRIPTION").
 ghost use Rattle.std.specs.Prelude.{◌≡◌, ◌++◌, IfOk, OnOk, OnErr, []};
 ghost use Rattle.pm_journal.specs.Executed.{Carries};
-ghost use Rattle.pm_journal.specs.Held.{Keeping};
 ghost use Rattle.pm_journal.specs.Walking.{Go};
 ghost use Rattle.pm_actions.specs.Undelivered.{Undelivered};
 ghost use Rattle.pm_meaning.specs.Delivering.{deliver_default as to_default, no_flags};
@@ -15,10 +14,10 @@ ghost use Rattle.pm_run.specs.Stretches.{Walks};
 
 use crate::draft::Draft;
 use crate::drafting::draft_for;
-use pm_actions::deliver_default;
+use pm_actions::{Run, deliver_default};
 use pm_bytes::{Blob, Memory};
-use pm_journal::{Effects, Journal, no_delivery};
-use pm_meaning::{End, Process, tell};
+use pm_journal::{Effects, no_delivery};
+use pm_meaning::{End, tell};
 use pm_vars::Vars;
 use std::alloc::Global;
 use std::collections::VecDeque;
@@ -26,18 +25,14 @@ use std::collections::VecDeque;
 /// Tries DEFAULT, and then ORGMAIL where it is another mailbox. The draft is that of the delivery's abstract.
 pub fn fall_off<D: Effects>(
     alloc: Global,
-    process: &mut Process,
+    run: &mut Run<D>,
     draft: &mut Option<Draft>,
-    outside: &mut D,
-    journal: &mut Journal,
 ) -> Result<End, Memory>
-    requires keeping { Keeping journal.old process.old.locks.names }
-    ensures walks { Walks (Running [] (mind_of process.old)) (λ end. Over end (mind_of process.new)) result
-        journal.old journal.new (D.told outside.old) (D.told outside.new) }
-    ensures keeping { Keeping journal.new process.new.locks.names }
+    ensures walks { Walks (Running [] (mind_of run.old.process)) (λ end. Over end (mind_of run.new.process)) result
+        run.old.journal run.new.journal (D.told run.old.outside) (D.told run.new.outside) }
 {
-    let mailboxes = default_mailboxes(alloc, &process.vars)?;
-    try_each(alloc, mailboxes, process, draft, outside, journal)
+    let mailboxes = default_mailboxes(alloc, &run.process.vars)?;
+    try_each(alloc, run, mailboxes, draft)
 }
 
 // DEFAULT and ORGMAIL, unless they are unset, empty or the same.
@@ -81,61 +76,53 @@ fn push_other(
 // Delivers to the first of these mailboxes that takes the mail.
 fn try_each<D: Effects>(
     alloc: Global,
+    run: &mut Run<D>,
     mut mailboxes: VecDeque<Blob>,
-    process: &mut Process,
     draft: &mut Option<Draft>,
-    outside: &mut D,
-    journal: &mut Journal,
 ) -> Result<End, Memory>
-    requires keeping { Keeping journal.old process.old.locks.names }
-    ensures walks { Walks (FallingOff mailboxes.items (mind_of process.old))
-        (λ end. Over end (mind_of process.new)) result
-        journal.old journal.new (D.told outside.old) (D.told outside.new) }
-    ensures keeping { Keeping journal.new process.new.locks.names }
+    ensures walks { Walks (FallingOff mailboxes.items (mind_of run.old.process))
+        (λ end. Over end (mind_of run.new.process)) result
+        run.old.journal run.new.journal (D.told run.old.outside) (D.told run.new.outside) }
 {
     while let Some(mailbox) = mailboxes.pop_front() {
-        if let Some(end) = try_mailbox(alloc, &mailbox, process, draft, outside, journal)? {
+        if let Some(end) = try_mailbox(alloc, run, &mailbox, draft)? {
             return Ok(end);
         }
     }
-    lose(alloc, process, outside, journal)
+    lose(alloc, run)
 }
 
 // Delivers to the mailbox, once the draft of its abstract is there.
 fn try_mailbox<D: Effects>(
     alloc: Global,
+    run: &mut Run<D>,
     mailbox: &Blob,
-    process: &mut Process,
     draft: &mut Option<Draft>,
-    outside: &mut D,
-    journal: &mut Journal,
 ) -> Result<Option<End>, Memory>
-    requires keeping { Keeping journal.old process.old.locks.names }
-    ensures carries { Carries (to_default mailbox.now (mind_of process.old))
-        (λ end. turn_of end (mind_of process.new)) result
-        journal.old journal.new (D.told outside.old) (D.told outside.new) }
-    ensures sure { OnErr result (Undelivered no_flags journal.old journal.new) }
-    ensures drafted { IfOk result (λ _. IsDrafted draft.new (mind_of process.old)) }
-    ensures keeping { Keeping journal.new process.new.locks.names }
+    ensures carries { Carries (to_default mailbox.now (mind_of run.old.process))
+        (λ end. turn_of end (mind_of run.new.process)) result
+        run.old.journal run.new.journal (D.told run.old.outside) (D.told run.new.outside) }
+    ensures sure { OnErr result (Undelivered no_flags run.old.journal run.new.journal) }
+    ensures drafted { IfOk result (λ _. IsDrafted draft.new (mind_of run.old.process)) }
 {
-    *draft = draft_for(alloc, process)?;
-    deliver_default(alloc, mailbox, process, outside, journal)
+    *draft = draft_for(alloc, &run.process)?;
+    deliver_default(alloc, run, mailbox)
 }
 
 // No mailbox took the mail.
-fn lose<D: Effects>(
-    alloc: Global,
-    process: &Process,
-    outside: &mut D,
-    journal: &mut Journal,
-) -> Result<End, Memory>
-    requires keeping { Keeping journal.old process.now.locks.names }
-    ensures carries { Carries (step (FallingOff [] (mind_of process.now)))
-        (λ end. Go (Over end (mind_of process.now))) result
-        journal.old journal.new (D.told outside.old) (D.told outside.new) }
-    ensures keeping { Keeping journal.new process.now.locks.names }
+fn lose<D: Effects>(alloc: Global, run: &mut Run<D>) -> Result<End, Memory>
+    ensures carries { Carries (step (FallingOff [] (mind_of run.old.process)))
+        (λ end. Go (Over end (mind_of run.new.process))) result
+        run.old.journal run.new.journal (D.told run.old.outside) (D.told run.new.outside) }
+    ensures same { run.new.process ≡ run.old.process }
 {
     let line = no_delivery(alloc)?;
-    tell(alloc, process, line, outside, journal)?;
+    tell(
+        alloc,
+        &run.process,
+        line,
+        &mut run.outside,
+        &mut run.journal,
+    )?;
     Ok(End::FellOff)
 }

@@ -2,7 +2,7 @@
 //! lockfile").
 ghost use Rattle.std.specs.Prelude.{◌≡◌, false, length, nat_lt, Some, if◌then◌else◌};
 ghost use Rattle.pm_journal.specs.Executed.{Carries};
-ghost use Rattle.pm_journal.specs.Held.{Keeping, holds_name};
+ghost use Rattle.pm_journal.specs.Held.{holds_name};
 ghost use Rattle.pm_journal.specs.Locking.{lock_act};
 ghost use Rattle.pm_journal.specs.LogText.{couldnt_lock_line, forcing_lock_line};
 ghost use Rattle.pm_journal.specs.Plan.{Ends, and_then, ask};
@@ -20,9 +20,9 @@ ghost use Rattle.pm_meaning.specs.Turning.{turn_of};
 ghost use Rattle.pm_run.specs.Walk.{gate_turn};
 
 use crate::judging::{Come, come_to};
-use pm_actions::{lock_rule, refuse};
+use pm_actions::{Run, lock_rule, refuse};
 use pm_bytes::{Blob, Memory, Name, full};
-use pm_journal::{Effects, Journal, LockEnd, couldnt_lock, forcing_lock, no_lock, take};
+use pm_journal::{Effects, LockEnd, couldnt_lock, forcing_lock, no_lock, take};
 use pm_meaning::{
     End, Expansion, Process, expand_text, file_name, first_word, outputs_of, skip_value, tell,
 };
@@ -43,20 +43,16 @@ pub enum Gate {
 /// Comes to a recipe with a block.
 pub fn pass_gate<D: Effects>(
     alloc: Global,
+    run: &mut Run<D>,
     recipe: &Recipe,
-    process: &mut Process,
-    outside: &mut D,
-    journal: &mut Journal,
 ) -> Result<Gate, Memory>
-    requires keeping { Keeping journal.old process.old.locks.names }
     ensures carries { let top = top_of recipe.now in
-        Carries (judge_first top (λ p. block_entered top p) (mind_of process.old))
-        (λ gate. gate_turn gate (mind_of process.new)) result
-        journal.old journal.new (D.told outside.old) (D.told outside.new) }
-    ensures keeping { Keeping journal.new process.new.locks.names }
+        Carries (judge_first top (λ p. block_entered top p) (mind_of run.old.process))
+        (λ gate. gate_turn gate (mind_of run.new.process)) result
+        run.old.journal run.new.journal (D.told run.old.outside) (D.told run.new.outside) }
 {
-    match come_to(alloc, recipe, process, outside, journal)? {
-        Come::Acts => enter_block(alloc, recipe, process, outside, journal),
+    match come_to(alloc, run, recipe)? {
+        Come::Acts => enter_block(alloc, run, recipe),
         Come::Ended(end) => Ok(gate_by(end)),
     }
 }
@@ -72,74 +68,73 @@ fn gate_by(end: Option<End>) -> Gate
 }
 
 // The block of a recipe that is executed. One for a copy of the process has no lock.
-fn enter_block<D: Effects>(
-    alloc: Global,
-    recipe: &Recipe,
-    process: &mut Process,
-    outside: &mut D,
-    journal: &mut Journal,
-) -> Result<Gate, Memory>
-    requires keeping { Keeping journal.old process.old.locks.names }
-    ensures carries { Carries (block_entered (top_of recipe.now) (mind_of process.old))
-        (λ gate. gate_turn gate (mind_of process.new)) result
-        journal.old journal.new (D.told outside.old) (D.told outside.new) }
-    ensures keeping { Keeping journal.new process.new.locks.names }
+fn enter_block<D: Effects>(alloc: Global, run: &mut Run<D>, recipe: &Recipe) -> Result<Gate, Memory>
+    ensures carries { Carries (block_entered (top_of recipe.now) (mind_of run.old.process))
+        (λ gate. gate_turn gate (mind_of run.new.process)) result
+        run.old.journal run.new.journal (D.told run.old.outside) (D.told run.new.outside) }
 {
     if recipe.flags.copy {
         return Ok(Gate::Clones);
     }
     match &recipe.lock {
         None => Ok(Gate::Enters(None)),
-        Some(text) => enter_under(alloc, text.as_slice(), process, outside, journal),
+        Some(text) => enter_under(alloc, run, text.as_slice()),
     }
 }
 
 // The block is entered under the lock of this text. A block has no automatic lock, which is told.
-fn enter_under<D: Effects>(
-    alloc: Global,
-    text: &[u8],
-    process: &mut Process,
-    outside: &mut D,
-    journal: &mut Journal,
-) -> Result<Gate, Memory>
-    requires keeping { Keeping journal.old process.old.locks.names }
-    ensures carries { Carries (entered_under text.now (mind_of process.old))
-        (λ gate. gate_turn gate (mind_of process.new)) result
-        journal.old journal.new (D.told outside.old) (D.told outside.new) }
-    ensures keeping { Keeping journal.new process.new.locks.names }
+fn enter_under<D: Effects>(alloc: Global, run: &mut Run<D>, text: &[u8]) -> Result<Gate, Memory>
+    ensures carries { Carries (entered_under text.now (mind_of run.old.process))
+        (λ gate. gate_turn gate (mind_of run.new.process)) result
+        run.old.journal run.new.journal (D.told run.old.outside) (D.told run.new.outside) }
 {
     if text.is_empty() {
         let line = no_lock(alloc, b"{")?;
-        tell(alloc, process, line, outside, journal)?;
+        tell(
+            alloc,
+            &run.process,
+            line,
+            &mut run.outside,
+            &mut run.journal,
+        )?;
         return Ok(Gate::Enters(None));
     }
-    let outputs = outputs_of(alloc, text, Mode::One, process, outside, journal)?;
-    enter_expanded(alloc, text, outputs.as_slice(), process, outside, journal)
+    let outputs = outputs_of(
+        alloc,
+        text,
+        Mode::One,
+        &mut run.process,
+        &mut run.outside,
+        &mut run.journal,
+    )?;
+    enter_expanded(alloc, run, text, outputs.as_slice())
 }
 
 // Expands the text of the lock with the outputs of its commands, and enters the block under it.
 fn enter_expanded<D: Effects>(
     alloc: Global,
+    run: &mut Run<D>,
     text: &[u8],
     outputs: &[Blob],
-    process: &mut Process,
-    outside: &mut D,
-    journal: &mut Journal,
 ) -> Result<Gate, Memory>
     requires each { length outputs.now ≡ length (commands_in One text.now) }
-    requires keeping { Keeping journal.old process.old.locks.names }
-    ensures carries { Carries (entered_with text.now outputs.now (mind_of process.old))
-        (λ gate. gate_turn gate (mind_of process.new)) result
-        journal.old journal.new (D.told outside.old) (D.told outside.new) }
-    ensures keeping { Keeping journal.new process.new.locks.names }
+    ensures carries { Carries (entered_with text.now outputs.now (mind_of run.old.process))
+        (λ gate. gate_turn gate (mind_of run.new.process)) result
+        run.old.journal run.new.journal (D.told run.old.outside) (D.told run.new.outside) }
 {
-    match expand_text(alloc, text, Mode::One, &process.vars, outputs)? {
+    match expand_text(alloc, text, Mode::One, &run.process.vars, outputs)? {
         Expansion::Words(words) => {
             let value = first_word(alloc, words);
-            lock_block(alloc, text, value.as_slice(), process, outside, journal)
+            lock_block(alloc, run, text, value.as_slice())
         }
         Expansion::TooLong(length) => {
-            Ok(gate_by(skip_value(alloc, length, process, outside, journal)?))
+            Ok(gate_by(skip_value(
+                alloc,
+                length,
+                &mut run.process,
+                &mut run.outside,
+                &mut run.journal,
+            )?))
         }
     }
 }
@@ -147,99 +142,96 @@ fn enter_expanded<D: Effects>(
 // The lock of this value is asked for, unless it can't be a file's name or is held already.
 fn lock_block<D: Effects>(
     alloc: Global,
+    run: &mut Run<D>,
     text: &[u8],
     value: &[u8],
-    process: &mut Process,
-    outside: &mut D,
-    journal: &mut Journal,
 ) -> Result<Gate, Memory>
-    requires keeping { Keeping journal.old process.old.locks.names }
-    ensures carries { Carries (block_locked text.now value.now (mind_of process.old))
-        (λ gate. gate_turn gate (mind_of process.new)) result
-        journal.old journal.new (D.told outside.old) (D.told outside.new) }
-    ensures keeping { Keeping journal.new process.new.locks.names }
+    ensures carries { Carries (block_locked text.now value.now (mind_of run.old.process))
+        (λ gate. gate_turn gate (mind_of run.new.process)) result
+        run.old.journal run.new.journal (D.told run.old.outside) (D.told run.new.outside) }
 {
     match file_name(alloc, value)? {
-        None => Ok(gate_by(refuse(alloc, text, process, outside, journal)?)),
+        None => Ok(gate_by(refuse(alloc, run, text)?)),
         Some(name) => {
-            let lock = full(alloc, &process.base, &name)?;
-            if process.locks.holds(&lock) {
-                return Ok(gate_by(refuse(alloc, text, process, outside, journal)?));
+            let lock = full(alloc, &run.process.base, &name)?;
+            if run.process.locks.holds(&lock) {
+                return Ok(gate_by(refuse(alloc, run, text)?));
             }
-            ask_lock(alloc, lock, process, outside, journal)
+            ask_lock(alloc, run, lock)
         }
     }
 }
 
-fn ask_lock<D: Effects>(
-    alloc: Global,
-    name: Name,
-    process: &mut Process,
-    outside: &mut D,
-    journal: &mut Journal,
-) -> Result<Gate, Memory>
-    requires free { holds_name process.old.locks.names name ≡ false }
-    requires keeping { Keeping journal.old process.old.locks.names }
-    ensures carries { let p = mind_of process.old in
+fn ask_lock<D: Effects>(alloc: Global, run: &mut Run<D>, name: Name) -> Result<Gate, Memory>
+    requires free { holds_name run.old.process.locks.names name ≡ false }
+    ensures carries { let p = mind_of run.old.process in
         Carries (and_then (ask (lock_act name (rule_of p.vars))) (got_block_lock name p))
-        (λ gate. gate_turn gate (mind_of process.new)) result
-        journal.old journal.new (D.told outside.old) (D.told outside.new) }
-    ensures keeping { Keeping journal.new process.new.locks.names }
+        (λ gate. gate_turn gate (mind_of run.new.process)) result
+        run.old.journal run.new.journal (D.told run.old.outside) (D.told run.new.outside) }
 {
-    let rule = lock_rule(&process.vars);
+    let rule = lock_rule(&run.process.vars);
     let noted = name.copy(alloc)?;
     let kept = name.copy(alloc)?;
     let shown = name.copy(alloc)?;
-    process.locks.reserve()?;
-    journal.reserve(process.locks.len() + 2)?;
-    match take(&mut process.locks, noted, kept, rule, outside, journal) {
-        LockEnd::Held { forced, .. } => {
-            tell_forced(alloc, forced, &shown, name, process, outside, journal)
-        }
-        _ => tell_not_got(alloc, &shown, process, outside, journal),
+    run.process.locks.reserve()?;
+    run.journal.reserve(run.process.locks.len() + 2)?;
+    match take(
+        &mut run.process.locks,
+        noted,
+        kept,
+        rule,
+        &mut run.outside,
+        &mut run.journal,
+    ) {
+        LockEnd::Held { forced, .. } => tell_forced(alloc, run, forced, &shown, name),
+        _ => tell_not_got(alloc, run, &shown),
     }
 }
 
 // A lock file that was removed by force is told, and the block is entered.
 fn tell_forced<D: Effects>(
     alloc: Global,
+    run: &mut Run<D>,
     forced: u32,
     shown: &Name,
     name: Name,
-    process: &Process,
-    outside: &mut D,
-    journal: &mut Journal,
 ) -> Result<Gate, Memory>
-    requires keeping { Keeping journal.old process.now.locks.names }
-    ensures carries { let p = mind_of process.now in
+    ensures carries { let p = mind_of run.old.process in
         Carries (if nat_lt 0 forced then say_then p (forcing_lock_line shown.now) (Enters (Some name) p)
-        else Ends (Enters (Some name) p)) (λ gate. gate_turn gate p) result
-        journal.old journal.new (D.told outside.old) (D.told outside.new) }
-    ensures keeping { Keeping journal.new process.now.locks.names }
+        else Ends (Enters (Some name) p))
+        (λ gate. gate_turn gate (mind_of run.new.process)) result
+        run.old.journal run.new.journal (D.told run.old.outside) (D.told run.new.outside) }
+    ensures same { run.new.process ≡ run.old.process }
 {
     if forced == 0 {
         return Ok(Gate::Enters(Some(name)));
     }
     let line = forcing_lock(alloc, shown)?;
-    tell(alloc, process, line, outside, journal)?;
+    tell(
+        alloc,
+        &run.process,
+        line,
+        &mut run.outside,
+        &mut run.journal,
+    )?;
     Ok(Gate::Enters(Some(name)))
 }
 
 // A lock that wasn't got is told, and the block isn't entered.
-fn tell_not_got<D: Effects>(
-    alloc: Global,
-    name: &Name,
-    process: &Process,
-    outside: &mut D,
-    journal: &mut Journal,
-) -> Result<Gate, Memory>
-    requires keeping { Keeping journal.old process.now.locks.names }
-    ensures carries { let p = mind_of process.now in
-        Carries (say_then p (couldnt_lock_line name.now) (GoesOn p)) (λ gate. gate_turn gate p) result
-        journal.old journal.new (D.told outside.old) (D.told outside.new) }
-    ensures keeping { Keeping journal.new process.now.locks.names }
+fn tell_not_got<D: Effects>(alloc: Global, run: &mut Run<D>, name: &Name) -> Result<Gate, Memory>
+    ensures carries { let p = mind_of run.old.process in
+        Carries (say_then p (couldnt_lock_line name.now) (GoesOn p))
+        (λ gate. gate_turn gate (mind_of run.new.process)) result
+        run.old.journal run.new.journal (D.told run.old.outside) (D.told run.new.outside) }
+    ensures same { run.new.process ≡ run.old.process }
 {
     let line = couldnt_lock(alloc, name)?;
-    tell(alloc, process, line, outside, journal)?;
+    tell(
+        alloc,
+        &run.process,
+        line,
+        &mut run.outside,
+        &mut run.journal,
+    )?;
     Ok(Gate::Passes)
 }

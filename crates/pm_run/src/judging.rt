@@ -2,7 +2,6 @@
 //! (procmailrc(5), "Recipe format").
 ghost use Rattle.std.specs.Prelude.{◌≡◌, IfOk, OnErr};
 ghost use Rattle.pm_journal.specs.Executed.{Carries, OutOfMemory};
-ghost use Rattle.pm_journal.specs.Held.{Keeping};
 ghost use Rattle.pm_journal.specs.Plan.{Plan};
 ghost use Rattle.pm_recipe.specs.View.{act_of};
 ghost use Rattle.pm_meaning.specs.Acting.{act_on};
@@ -19,10 +18,10 @@ ghost use Rattle.pm_run.specs.RunningOut.{LeavesUndelivered, OfNew};
 
 use crate::draft::Draft;
 use crate::drafting::draft_for;
-use pm_actions::perform;
+use pm_actions::{Run, perform};
 use pm_bytes::Memory;
 use pm_conds::conditions_hold;
-use pm_journal::{Effects, Journal};
+use pm_journal::Effects;
 use pm_meaning::{End, Process, admits, after};
 use pm_recipe::{Flags, Recipe};
 use std::alloc::Global;
@@ -35,32 +34,32 @@ pub enum Come {
 }
 
 /// Comes to a recipe: its conditions are judged where its flags admit it.
-pub fn come_to<D: Effects>(
-    alloc: Global,
-    recipe: &Recipe,
-    process: &mut Process,
-    outside: &mut D,
-    journal: &mut Journal,
-) -> Result<Come, Memory>
-    requires keeping { Keeping journal.old process.old.locks.names }
-    ensures comes { IfOk result (λ come. ComesTo come (top_of recipe.now) (mind_of process.old) (mind_of process.new)
-        journal.old journal.new (D.told outside.old) (D.told outside.new)) }
+pub fn come_to<D: Effects>(alloc: Global, run: &mut Run<D>, recipe: &Recipe) -> Result<Come, Memory>
+    ensures comes { IfOk result (λ come. ComesTo come (top_of recipe.now)
+        (mind_of run.old.process) (mind_of run.new.process)
+        run.old.journal run.new.journal (D.told run.old.outside) (D.told run.new.outside)) }
     ensures memory { OnErr result ((acts : Mind → Plan Turn) →
-        OutOfMemory (judge_first (top_of recipe.now) acts (mind_of process.old))
-        journal.old journal.new (D.told outside.old) (D.told outside.new)) }
-    ensures keeping { Keeping journal.new process.new.locks.names }
+        OutOfMemory (judge_first (top_of recipe.now) acts (mind_of run.old.process))
+        run.old.journal run.new.journal (D.told run.old.outside) (D.told run.new.outside)) }
 {
     let flags = recipe.flags;
-    if !admits(&flags, &process.chain) {
-        pass(&flags, process);
+    if !admits(&flags, &run.process.chain) {
+        pass(&flags, &mut run.process);
         return Ok(Come::Ended(None));
     }
     let conditions = recipe.conditions.as_slice();
-    if conditions_hold(alloc, conditions, flags, process, outside, journal)? {
-        execute(&flags, process);
+    if conditions_hold(
+        alloc,
+        conditions,
+        flags,
+        &mut run.process,
+        &mut run.outside,
+        &mut run.journal,
+    )? {
+        execute(&flags, &mut run.process);
         return Ok(Come::Acts);
     }
-    pass(&flags, process);
+    pass(&flags, &mut run.process);
     Ok(Come::Ended(None))
 }
 
@@ -83,23 +82,19 @@ fn execute(flags: &Flags, process: &mut Process)
 /// Comes to a recipe without a block, and does its action where it is executed.
 pub fn run_recipe<D: Effects>(
     alloc: Global,
+    run: &mut Run<D>,
     recipe: &Recipe,
-    process: &mut Process,
     draft: &mut Option<Draft>,
-    outside: &mut D,
-    journal: &mut Journal,
 ) -> Result<Option<End>, Memory>
-    requires keeping { Keeping journal.old process.old.locks.names }
     ensures carries { let top = top_of recipe.now in
-        Carries (judge_first top (λ p. act_on top (act_of recipe.now.action) p) (mind_of process.old))
-        (λ end. turn_of end (mind_of process.new)) result
-        journal.old journal.new (D.told outside.old) (D.told outside.new) }
-    ensures sure { OnErr result (OfNew (LeavesUndelivered (top_of recipe.now) (mind_of process.old))
-        journal.old journal.new) }
-    ensures keeping { Keeping journal.new process.new.locks.names }
+        Carries (judge_first top (λ p. act_on top (act_of recipe.now.action) p) (mind_of run.old.process))
+        (λ end. turn_of end (mind_of run.new.process)) result
+        run.old.journal run.new.journal (D.told run.old.outside) (D.told run.new.outside) }
+    ensures sure { OnErr result (OfNew (LeavesUndelivered (top_of recipe.now) (mind_of run.old.process))
+        run.old.journal run.new.journal) }
 {
-    match come_to(alloc, recipe, process, outside, journal)? {
-        Come::Acts => act(alloc, recipe, process, draft, outside, journal),
+    match come_to(alloc, run, recipe)? {
+        Come::Acts => act(alloc, run, recipe, draft),
         Come::Ended(end) => Ok(end),
     }
 }
@@ -107,21 +102,17 @@ pub fn run_recipe<D: Effects>(
 // Does the action, and before it the draft of its abstract.
 fn act<D: Effects>(
     alloc: Global,
+    run: &mut Run<D>,
     recipe: &Recipe,
-    process: &mut Process,
     draft: &mut Option<Draft>,
-    outside: &mut D,
-    journal: &mut Journal,
 ) -> Result<Option<End>, Memory>
-    requires keeping { Keeping journal.old process.old.locks.names }
     ensures carries { Carries
-        (act_on (top_of recipe.now) (act_of recipe.now.action) (mind_of process.old))
-        (λ end. turn_of end (mind_of process.new)) result
-        journal.old journal.new (D.told outside.old) (D.told outside.new) }
-    ensures sure { OnErr result (Undelivered recipe.now.flags journal.old journal.new) }
-    ensures drafted { IfOk result (λ _. IsDrafted draft.new (mind_of process.old)) }
-    ensures keeping { Keeping journal.new process.new.locks.names }
+        (act_on (top_of recipe.now) (act_of recipe.now.action) (mind_of run.old.process))
+        (λ end. turn_of end (mind_of run.new.process)) result
+        run.old.journal run.new.journal (D.told run.old.outside) (D.told run.new.outside) }
+    ensures sure { OnErr result (Undelivered recipe.now.flags run.old.journal run.new.journal) }
+    ensures drafted { IfOk result (λ _. IsDrafted draft.new (mind_of run.old.process)) }
 {
-    *draft = draft_for(alloc, process)?;
-    perform(alloc, recipe, process, outside, journal)
+    *draft = draft_for(alloc, &run.process)?;
+    perform(alloc, run, recipe)
 }

@@ -1,7 +1,7 @@
 //! Blocks that are left, and their locks.
 ghost use Rattle.std.specs.Prelude.{◌≡◌, ◌<◌, ◌≤◌, true, false, [], List, IfOk, OnErr};
 ghost use Rattle.pm_journal.specs.Executed.{Carries};
-ghost use Rattle.pm_journal.specs.Held.{Keeping, holds_name};
+ghost use Rattle.pm_journal.specs.Held.{holds_name};
 ghost use Rattle.pm_journal.specs.Plan.{and_then, ask};
 ghost use Rattle.pm_journal.specs.declared.acts.Act.TheVariants.{Unlock};
 ghost use Rattle.pm_meaning.specs.Blocks.{without_lock, give_block_lock as block_lock_given, give_maybe as maybe_given};
@@ -13,35 +13,31 @@ ghost use Rattle.pm_run.specs.RunningOut.{HinderedSince};
 ghost use Rattle.pm_run.specs.Stretches.{Walks};
 
 use crate::frames::{Open, RcFrame, Waiting};
-use pm_actions::is_stuck;
+use pm_actions::{Run, is_stuck};
 use pm_bytes::{Memory, Name};
-use pm_journal::{Effects, Journal, couldnt_unlock, give};
-use pm_meaning::{End, Process, tell};
+use pm_journal::{Effects, couldnt_unlock, give};
+use pm_meaning::{End, tell};
 use std::alloc::Global;
 use std::collections::VecDeque;
 
 /// Leaves all blocks of a process that ends so, the innermost first.
 pub fn leave_blocks<D: Effects>(
     alloc: Global,
+    run: &mut Run<D>,
     frame: &mut RcFrame,
     end: End,
-    process: &mut Process,
-    outside: &mut D,
-    journal: &mut Journal,
 ) -> Result<(), Memory>
-    requires keeping { Keeping journal.old process.old.locks.names }
-    ensures walks { Walks (Leaving (all_locks frame.old) end (mind_of process.old))
-        (λ _. left_by end (mind_of process.new)) result
-        journal.old journal.new (D.told outside.old) (D.told outside.new) }
-    ensures keeping { Keeping journal.new process.new.locks.names }
-    ensures count { process.new.openings ≡ process.old.openings }
+    ensures walks { Walks (Leaving (all_locks frame.old) end (mind_of run.old.process))
+        (λ _. left_by end (mind_of run.new.process)) result
+        run.old.journal run.new.journal (D.told run.old.outside) (D.told run.new.outside) }
+    ensures count { run.new.process.openings ≡ run.old.process.openings }
     ensures left { left_in frame.new ≤ left_in frame.old }
 {
     loop {
         match frame.blocks.pop_front() {
             Some(open) => {
                 let Open { lock, .. } = open;
-                give_maybe(alloc, &lock, process, outside, journal)?;
+                give_maybe(alloc, run, &lock)?;
             }
             None => {
                 if !come_out(frame) {
@@ -73,22 +69,19 @@ fn come_out(frame: &mut RcFrame) -> bool
 /// Leaves the blocks of an rcfile, the innermost first.
 pub fn leave_file<D: Effects>(
     alloc: Global,
+    run: &mut Run<D>,
     blocks: &mut VecDeque<Open>,
-    process: &mut Process,
-    outside: &mut D,
-    journal: &mut Journal,
 ) -> Result<(), Memory>
-    requires keeping { Keeping journal.old process.old.locks.names }
-    ensures walks { (items : List Item) → Walks (LeavingFile (block_locks blocks.old.items) items (mind_of process.old))
-        (λ _. Running items (mind_of process.new)) result
-        journal.old journal.new (D.told outside.old) (D.told outside.new) }
-    ensures keeping { Keeping journal.new process.new.locks.names }
+    ensures walks { (items : List Item) →
+        Walks (LeavingFile (block_locks blocks.old.items) items (mind_of run.old.process))
+        (λ _. Running items (mind_of run.new.process)) result
+        run.old.journal run.new.journal (D.told run.old.outside) (D.told run.new.outside) }
     ensures empty { IfOk result (λ _. blocks.new.items ≡ []) }
-    ensures count { process.new.openings ≡ process.old.openings }
+    ensures count { run.new.process.openings ≡ run.old.process.openings }
 {
     while let Some(open) = blocks.pop_front() {
         let Open { lock, .. } = open;
-        match give_maybe(alloc, &lock, process, outside, journal) {
+        match give_maybe(alloc, run, &lock) {
             Err(Memory) => return Err(Memory),
             Ok(()) => {}
         }
@@ -99,65 +92,58 @@ pub fn leave_file<D: Effects>(
 /// Gives the lock of a block back, where it has one.
 pub fn give_maybe<D: Effects>(
     alloc: Global,
+    run: &mut Run<D>,
     lock: &Option<Name>,
-    process: &mut Process,
-    outside: &mut D,
-    journal: &mut Journal,
 ) -> Result<(), Memory>
-    requires keeping { Keeping journal.old process.old.locks.names }
-    ensures carries { Carries (maybe_given lock.now (mind_of process.old)) (λ _. mind_of process.new) result
-        journal.old journal.new (D.told outside.old) (D.told outside.new) }
-    ensures stuck { OnErr result (HinderedSince journal.old journal.new) }
-    ensures keeping { Keeping journal.new process.new.locks.names }
-    ensures count { process.new.openings ≡ process.old.openings }
+    ensures carries { Carries (maybe_given lock.now (mind_of run.old.process))
+        (λ _. mind_of run.new.process) result
+        run.old.journal run.new.journal (D.told run.old.outside) (D.told run.new.outside) }
+    ensures stuck { OnErr result (HinderedSince run.old.journal run.new.journal) }
+    ensures count { run.new.process.openings ≡ run.old.process.openings }
 {
     match lock {
         None => Ok(()),
-        Some(name) => give_block_lock(alloc, name, process, outside, journal),
+        Some(name) => give_block_lock(alloc, run, name),
     }
 }
 
-fn give_block_lock<D: Effects>(
-    alloc: Global,
-    name: &Name,
-    process: &mut Process,
-    outside: &mut D,
-    journal: &mut Journal,
-) -> Result<(), Memory>
-    requires keeping { Keeping journal.old process.old.locks.names }
-    ensures carries { Carries (block_lock_given name.now (mind_of process.old)) (λ _. mind_of process.new) result
-        journal.old journal.new (D.told outside.old) (D.told outside.new) }
-    ensures stuck { OnErr result (HinderedSince journal.old journal.new) }
-    ensures keeping { Keeping journal.new process.new.locks.names }
-    ensures count { process.new.openings ≡ process.old.openings }
+fn give_block_lock<D: Effects>(alloc: Global, run: &mut Run<D>, name: &Name) -> Result<(), Memory>
+    ensures carries { Carries (block_lock_given name.now (mind_of run.old.process))
+        (λ _. mind_of run.new.process) result
+        run.old.journal run.new.journal (D.told run.old.outside) (D.told run.new.outside) }
+    ensures stuck { OnErr result (HinderedSince run.old.journal run.new.journal) }
+    ensures count { run.new.process.openings ≡ run.old.process.openings }
 {
-    if !process.locks.holds(name) {
+    if !run.process.locks.holds(name) {
         return Ok(());
     }
-    give_held(alloc, name, process, outside, journal)
+    give_held(alloc, run, name)
 }
 
-fn give_held<D: Effects>(
-    alloc: Global,
-    name: &Name,
-    process: &mut Process,
-    outside: &mut D,
-    journal: &mut Journal,
-) -> Result<(), Memory>
-    requires held { holds_name process.old.locks.names name.now ≡ true }
-    requires keeping { Keeping journal.old process.old.locks.names }
-    ensures carries { let p = mind_of process.old in
+fn give_held<D: Effects>(alloc: Global, run: &mut Run<D>, name: &Name) -> Result<(), Memory>
+    requires held { holds_name run.old.process.locks.names name.now ≡ true }
+    ensures carries { let p = mind_of run.old.process in
         Carries (and_then (ask (Unlock name.now)) (after_giving name.now (without_lock name.now p)))
-        (λ _. mind_of process.new) result
-        journal.old journal.new (D.told outside.old) (D.told outside.new) }
-    ensures stuck { OnErr result (HinderedSince journal.old journal.new) }
-    ensures keeping { Keeping journal.new process.new.locks.names }
-    ensures count { process.new.openings ≡ process.old.openings }
+        (λ _. mind_of run.new.process) result
+        run.old.journal run.new.journal (D.told run.old.outside) (D.told run.new.outside) }
+    ensures stuck { OnErr result (HinderedSince run.old.journal run.new.journal) }
+    ensures count { run.new.process.openings ≡ run.old.process.openings }
 {
-    let removed = give(&mut process.locks, name, outside, journal);
+    let removed = give(
+        &mut run.process.locks,
+        name,
+        &mut run.outside,
+        &mut run.journal,
+    );
     if is_stuck(removed) {
         let line = couldnt_unlock(alloc, name)?;
-        tell(alloc, process, line, outside, journal)?;
+        tell(
+            alloc,
+            &run.process,
+            line,
+            &mut run.outside,
+            &mut run.journal,
+        )?;
     }
     Ok(())
 }

@@ -1,7 +1,6 @@
 //! The rcfiles of the command line (procmail(1), "ARGUMENTS"): the first that can be read is run.
 ghost use Rattle.std.specs.Prelude.{◌≡◌, ◌<◌, ◌≤◌, ◌+◌, ◌&&◌, true, ◌∷◌, [], ℕ, List, length, IfOk, OnErr};
 ghost use Rattle.pm_journal.specs.Executed.{OutOfMemory};
-ghost use Rattle.pm_journal.specs.Held.{Keeping};
 ghost use Rattle.pm_journal.specs.Plan.{and_then, ask};
 ghost use Rattle.pm_journal.specs.declared.acts.Act.TheVariants.{ReadFile};
 ghost use Rattle.pm_recipe.specs.Listed.{rc_of};
@@ -20,9 +19,10 @@ ghost use Rattle.pm_run.specs.Opening.{OpensFrom, OpensOne, ReadsOne, PassesOver
 
 use crate::frames::RcFrame;
 use crate::rcfiles::read_statements;
+use pm_actions::Run;
 use pm_bytes::{Blob, Memory, Name};
 use pm_code::{Code, compile};
-use pm_journal::{Effects, Journal, couldnt_read, read, too_many_rcfiles};
+use pm_journal::{Effects, couldnt_read, read, too_many_rcfiles};
 use pm_meaning::{End, Process, new_chain, tell};
 use pm_recipe::Rc;
 use std::alloc::Global;
@@ -65,30 +65,27 @@ pub enum Tried {
 /// Opens these rcfiles in order, up to one that is read. The others are left for a process that isn't on its host.
 pub fn open_first<D: Effects>(
     alloc: Global,
+    run: &mut Run<D>,
     rule: Rule,
     mut names: VecDeque<Name>,
-    process: &mut Process,
-    outside: &mut D,
-    journal: &mut Journal,
 ) -> Result<Opened, Memory>
-    requires keeping { Keeping journal.old process.old.locks.names }
     ensures opens { IfOk result (λ opened. OpensFrom
-        (Opening (rule_of_opening rule) names.items (mind_of process.old)) opened (mind_of process.new)
-        journal.old journal.new (D.told outside.old) (D.told outside.new)) }
-    ensures counted { IfOk result (λ opened. is_read opened ≡ true → process.old.openings < process.new.openings) }
-    ensures most { IfOk result (λ opened. is_read opened ≡ true → process.new.openings ≤ 256) }
+        (Opening (rule_of_opening rule) names.items (mind_of run.old.process)) opened (mind_of run.new.process)
+        run.old.journal run.new.journal (D.told run.old.outside) (D.told run.new.outside)) }
+    ensures counted { IfOk result (λ opened.
+        is_read opened ≡ true → run.old.process.openings < run.new.process.openings) }
+    ensures most { IfOk result (λ opened. is_read opened ≡ true → run.new.process.openings ≤ 256) }
     ensures memory { OnErr result (RunsOut {X = Event} step MayRunOut
-        (Opening (rule_of_opening rule) names.items (mind_of process.old))
-        journal.old journal.new (D.told outside.old) (D.told outside.new)) }
-    ensures keeping { Keeping journal.new process.new.locks.names }
+        (Opening (rule_of_opening rule) names.items (mind_of run.old.process))
+        run.old.journal run.new.journal (D.told run.old.outside) (D.told run.new.outside)) }
 {
     while let Some(name) = names.pop_front() {
-        match open_one(alloc, rule, name, process, outside, journal) {
+        match open_one(alloc, run, rule, name) {
             Err(Memory) => return Err(Memory),
             Ok(tried) => match tried {
                 Tried::Content(code) => {
-                    process.later = names;
-                    process.chain = new_chain();
+                    run.process.later = names;
+                    run.process.chain = new_chain();
                     return Ok(Opened::Read(code));
                 }
                 Tried::Ends => return Ok(Opened::Ended(End::NoRc)),
@@ -96,7 +93,7 @@ pub fn open_first<D: Effects>(
             },
         }
     }
-    if process.rcfile.as_str().is_empty() {
+    if run.process.rcfile.as_str().is_empty() {
         Ok(Opened::Nothing)
     } else {
         Ok(Opened::Ended(End::HostOff))
@@ -106,58 +103,62 @@ pub fn open_first<D: Effects>(
 // Opens an rcfile, unless the run has opened 256, which is told.
 fn open_one<D: Effects>(
     alloc: Global,
+    run: &mut Run<D>,
     rule: Rule,
     name: Name,
-    process: &mut Process,
-    outside: &mut D,
-    journal: &mut Journal,
 ) -> Result<Tried, Memory>
-    requires keeping { Keeping journal.old process.old.locks.names }
     ensures opens { IfOk result (λ tried. OpensOne (rule_of_opening rule) name tried
-        (mind_of process.old) (mind_of process.new)
-        journal.old journal.new (D.told outside.old) (D.told outside.new)) }
+        (mind_of run.old.process) (mind_of run.new.process)
+        run.old.journal run.new.journal (D.told run.old.outside) (D.told run.new.outside)) }
     ensures memory { OnErr result ((names : List (List ℕ)) →
-        OutOfMemory (open_next (rule_of_opening rule) (name ∷ names) (mind_of process.old))
-        journal.old journal.new (D.told outside.old) (D.told outside.new)) }
-    ensures keeping { Keeping journal.new process.new.locks.names }
+        OutOfMemory (open_next (rule_of_opening rule) (name ∷ names) (mind_of run.old.process))
+        run.old.journal run.new.journal (D.told run.old.outside) (D.told run.new.outside)) }
 {
-    if process.openings >= 256 {
+    if run.process.openings >= 256 {
         let line = too_many_rcfiles(alloc, &name)?;
-        tell(alloc, process, line, outside, journal)?;
+        tell(
+            alloc,
+            &run.process,
+            line,
+            &mut run.outside,
+            &mut run.journal,
+        )?;
         return Ok(Tried::Passed);
     }
-    process.openings += 1;
-    read_one(alloc, rule, name, process, outside, journal)
+    run.process.openings += 1;
+    read_one(alloc, run, rule, name)
 }
 
 // Reads an rcfile that is one of 256.
 fn read_one<D: Effects>(
     alloc: Global,
+    run: &mut Run<D>,
     rule: Rule,
     name: Name,
-    process: &mut Process,
-    outside: &mut D,
-    journal: &mut Journal,
 ) -> Result<Tried, Memory>
-    requires keeping { Keeping journal.old process.old.locks.names }
     ensures reads { IfOk result (λ tried. ReadsOne (rule_of_opening rule) name tried
-        (mind_of process.old) (mind_of process.new)
-        journal.old journal.new (D.told outside.old) (D.told outside.new)) }
-    ensures memory { let p = mind_of process.old in OnErr result ((names : List (List ℕ)) →
+        (mind_of run.old.process) (mind_of run.new.process)
+        run.old.journal run.new.journal (D.told run.old.outside) (D.told run.new.outside)) }
+    ensures memory { let p = mind_of run.old.process in OnErr result ((names : List (List ℕ)) →
         OutOfMemory (and_then (ask (ReadFile name)) (after_read (rule_of_opening rule) name names p))
-        journal.old journal.new (D.told outside.old) (D.told outside.new)) }
-    ensures keeping { Keeping journal.new process.new.locks.names }
+        run.old.journal run.new.journal (D.told run.old.outside) (D.told run.new.outside)) }
 {
     let noted = name.copy(alloc)?;
-    match read(alloc, &process.locks, noted, outside, journal)? {
+    match read(
+        alloc,
+        &run.process.locks,
+        noted,
+        &mut run.outside,
+        &mut run.journal,
+    )? {
         Some(rc) => {
             let code = code_of(alloc, rc.as_slice())?;
-            enter(alloc, rule, &name, process)?;
+            enter(alloc, rule, &name, &mut run.process)?;
             Ok(Tried::Content(code))
         }
         None => {
-            let missing = journal.last_missing();
-            pass_over(alloc, rule, &name, missing, process, outside, journal)
+            let missing = run.journal.last_missing();
+            pass_over(alloc, run, rule, &name, missing)
         }
     }
 }
@@ -193,29 +194,32 @@ fn enter(alloc: Global, rule: Rule, name: &Name, process: &mut Process) -> Resul
 // user's own.
 fn pass_over<D: Effects>(
     alloc: Global,
+    run: &mut Run<D>,
     rule: Rule,
     name: &Name,
     missing: bool,
-    process: &Process,
-    outside: &mut D,
-    journal: &mut Journal,
 ) -> Result<Tried, Memory>
-    requires keeping { Keeping journal.old process.now.locks.names }
-    ensures passes { let p = mind_of process.now in IfOk result (λ tried. PassesOver (rule_of_opening rule)
-        name.now missing tried p journal.old journal.new (D.told outside.old) (D.told outside.new)) }
+    ensures passes { let p = mind_of run.old.process in IfOk result (λ tried. PassesOver (rule_of_opening rule)
+        name.now missing tried p run.old.journal run.new.journal (D.told run.old.outside) (D.told run.new.outside)) }
     ensures memory { OnErr result ((names : List (List ℕ)) →
-        OutOfMemory (passed_over (rule_of_opening rule) name.now names missing (mind_of process.now))
-        journal.old journal.new (D.told outside.old) (D.told outside.new)) }
-    ensures keeping { Keeping journal.new process.now.locks.names }
+        OutOfMemory (passed_over (rule_of_opening rule) name.now names missing (mind_of run.old.process))
+        run.old.journal run.new.journal (D.told run.old.outside) (D.told run.new.outside)) }
+    ensures same { run.new.process ≡ run.old.process }
 {
-    if process.filter {
+    if run.process.filter {
         return Ok(Tried::Ends);
     }
     if may_miss(rule, missing) {
         return Ok(Tried::Passed);
     }
     let line = couldnt_read(alloc, name)?;
-    tell(alloc, process, line, outside, journal)?;
+    tell(
+        alloc,
+        &run.process,
+        line,
+        &mut run.outside,
+        &mut run.journal,
+    )?;
     Ok(Tried::Passed)
 }
 
@@ -230,25 +234,21 @@ fn may_miss(rule: Rule, missing: bool) -> bool
 /// host, once their blocks were left; without one the process is over.
 pub fn open_later<D: Effects>(
     alloc: Global,
+    run: &mut Run<D>,
     frame: &mut RcFrame,
-    process: &mut Process,
-    outside: &mut D,
-    journal: &mut Journal,
 ) -> Result<Halted, Memory>
-    requires keeping { Keeping journal.old process.old.locks.names }
-    ensures walks { Walks (left_by HostOff (mind_of process.old))
-        (λ way. halted way frame.new (mind_of process.new)) result
-        journal.old journal.new (D.told outside.old) (D.told outside.new) }
-    ensures keeping { Keeping journal.new process.new.locks.names }
+    ensures walks { Walks (left_by HostOff (mind_of run.old.process))
+        (λ way. halted way frame.new (mind_of run.new.process)) result
+        run.old.journal run.new.journal (D.told run.old.outside) (D.told run.new.outside) }
     ensures falls { IfOk result (λ way. way ≡ Resumes →
-        left_over process.new.openings frame.new + 1 ≤ left_over process.old.openings frame.old) }
+        left_over run.new.process.openings frame.new + 1 ≤ left_over run.old.process.openings frame.old) }
 {
-    let names = mem::replace(&mut process.later, VecDeque::new(alloc));
+    let names = mem::replace(&mut run.process.later, VecDeque::new(alloc));
     let rule = Rule {
         is_implied: false,
         keeps_folder: true,
     };
-    match open_first(alloc, rule, names, process, outside, journal) {
+    match open_first(alloc, run, rule, names) {
         Err(Memory) => Err(Memory),
         Ok(opened) => match opened {
             Opened::Read(code) => {

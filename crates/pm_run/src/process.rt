@@ -19,16 +19,34 @@ use crate::frames::RcFrame;
 use crate::opening::{Opened, begin_frame};
 use crate::queue::{Copy, Queue};
 use crate::walk::run_frame;
+use core::mem::replace_with;
+use pm_actions::Run;
 use pm_bytes::{Blob, Environ, Memory};
 use pm_journal::{Effects, Journal, give_all};
 use pm_meaning::{CommandLine, Ending, Process};
 use std::alloc::Global;
+use std::mem;
 
 /// How many times a run has filed mail in a folder, or tried to, and how many rcfiles it has opened, or tried to.
 #[derive(Clone, Copy)]
 pub struct Counts {
     pub placed: u64,
     pub openings: u64,
+}
+
+/// What a whole run is given besides what does its acts.
+pub struct Start<'a> {
+    pub alloc: Global,
+    pub line: CommandLine,
+    pub env: &'a Environ,
+    pub bytes: Blob,
+    pub journal: Journal,
+}
+
+/// How the first process of a run ended, and the journal of all.
+pub struct Ran {
+    pub ended: Result<Ending, Memory>,
+    pub journal: Journal,
 }
 
 /// Runs the process that delivers this mail, and then the copies of it that were made for blocks, one after the other.
@@ -49,22 +67,77 @@ pub fn run_processes<D: Effects>(
         journal.old journal.new (D.told outside.old) (D.told outside.new)) }
     ensures keeping { Keeping journal.new [] }
 {
-    let mut process = arrive(alloc, &line, env, bytes, outside, journal)?;
-    let mut queue = Queue::new(alloc);
-    let ended = run_first(
+    let begun = mem::replace(journal, Journal::new(alloc));
+    let start = Start {
         alloc,
-        &line,
+        line,
         env,
-        &mut process,
-        &mut queue,
-        outside,
+        bytes,
+        journal: begun,
+    };
+    let Ran {
+        ended,
+        journal: noted,
+    } = replace_with(outside, start, run_all);
+    *journal = noted;
+    ended
+}
+
+// The processes, while what does their acts is theirs.
+fn run_all<D: Effects>(mut outside: D, start: Start<'_>) -> (D, Ran)
+    requires keeping { Keeping start.journal [] }
+    ensures ok { IfOk result.1.ended (λ ending.
+        Completes advance (run_of start.entry.line start.entry.env.now start.entry.bytes) ending
+        start.entry.journal result.1.journal (D.told outside) (D.told result.0)) }
+    ensures memory { OnErr result.1.ended
+        (GaveUp (run_of start.entry.line start.entry.env.now start.entry.bytes)
+        start.entry.journal result.1.journal (D.told outside) (D.told result.0)) }
+    ensures keeping { Keeping result.1.journal [] }
+{
+    let Start {
+        alloc,
+        line,
+        env,
+        bytes,
+        mut journal,
+    } = start;
+    let process = match arrive(alloc, &line, env, bytes, &mut outside, &mut journal) {
+        Ok(process) => process,
+        Err(Memory) => return (
+            outside,
+            Ran {
+                ended: Err(Memory),
+                journal,
+            },
+        ),
+    };
+    let mut run = Run {
+        process,
         journal,
-    );
-    give_all(&mut process.locks, outside, journal);
-    let first = ended?;
-    let counts = counts_of(&process);
-    drop(process);
-    run_copies(alloc, first, counts, queue, outside, journal)
+        outside,
+    };
+    let mut queue = Queue::new(alloc);
+    let ended = run_first(alloc, &mut run, &line, env, &mut queue);
+    let Run {
+        mut process,
+        mut journal,
+        mut outside,
+    } = run;
+    give_all(&mut process.locks, &mut outside, &mut journal);
+    match ended {
+        Ok(first) => {
+            let counts = counts_of(&process);
+            drop(process);
+            run_copies(alloc, first, counts, queue, outside, journal)
+        }
+        Err(Memory) => (
+            outside,
+            Ran {
+                ended: Err(Memory),
+                journal,
+            },
+        ),
+    }
 }
 
 fn counts_of(process: &Process) -> Counts
@@ -80,68 +153,54 @@ fn counts_of(process: &Process) -> Counts
 // The first process, from the words of the command line to its end.
 fn run_first<D: Effects>(
     alloc: Global,
+    run: &mut Run<D>,
     line: &CommandLine,
     env: &Environ,
-    process: &mut Process,
     queue: &mut Queue,
-    outside: &mut D,
-    journal: &mut Journal,
 ) -> Result<Ending, Memory>
-    requires keeping { Keeping journal.old process.old.locks.names }
     ensures proceeds { let home = home_by line.now.values (home_folder env.now) in
-        Proceeds queue.old queue.new (Setting line.now.values line.now home (mind_of process.old))
-        (λ ending. Closing ending (mind_of process.new)) result
-        journal.old journal.new (D.told outside.old) (D.told outside.new) }
+        Proceeds queue.old queue.new (Setting line.now.values line.now home (mind_of run.old.process))
+        (λ ending. Closing ending (mind_of run.new.process)) result
+        run.old.journal run.new.journal (D.told run.old.outside) (D.told run.new.outside) }
     ensures few { copies_left queue.new ≤ copies_left queue.old }
-    ensures keeping { Keeping journal.new process.new.locks.names }
 {
-    match begin_rcfiles(alloc, line, env, process, outside, journal)? {
+    match begin_rcfiles(alloc, run, line, env)? {
         Opened::Read(code) => {
             let mut frame = begin_frame(alloc, code);
-            run_to_end(alloc, &mut frame, process, queue, outside, journal)
+            run_to_end(alloc, run, &mut frame, queue)
         }
-        Opened::Ended(end) => close(alloc, end, None, process, outside, journal),
-        Opened::Nothing => close_without(alloc, process, outside, journal),
+        Opened::Ended(end) => close(alloc, run, end, None),
+        Opened::Nothing => close_without(alloc, run),
     }
 }
 
 // A process of which nothing is left to do, from its default mailboxes to its end.
-fn close_without<D: Effects>(
-    alloc: Global,
-    process: &mut Process,
-    outside: &mut D,
-    journal: &mut Journal,
-) -> Result<Ending, Memory>
-    requires keeping { Keeping journal.old process.old.locks.names }
-    ensures walks { Walks (Running [] (mind_of process.old)) (λ ending. Closing ending (mind_of process.new)) result
-        journal.old journal.new (D.told outside.old) (D.told outside.new) }
-    ensures keeping { Keeping journal.new process.new.locks.names }
+fn close_without<D: Effects>(alloc: Global, run: &mut Run<D>) -> Result<Ending, Memory>
+    ensures walks { Walks (Running [] (mind_of run.old.process))
+        (λ ending. Closing ending (mind_of run.new.process)) result
+        run.old.journal run.new.journal (D.told run.old.outside) (D.told run.new.outside) }
 {
     let mut draft = None;
-    let end = fall_off(alloc, process, &mut draft, outside, journal)?;
-    close(alloc, end, draft, process, outside, journal)
+    let end = fall_off(alloc, run, &mut draft)?;
+    close(alloc, run, end, draft)
 }
 
 // A process, from what is left of its rcfiles to its end.
 fn run_to_end<D: Effects>(
     alloc: Global,
+    run: &mut Run<D>,
     frame: &mut RcFrame,
-    process: &mut Process,
     queue: &mut Queue,
-    outside: &mut D,
-    journal: &mut Journal,
 ) -> Result<Ending, Memory>
-    requires keeping { Keeping journal.old process.old.locks.names }
-    ensures proceeds { Proceeds queue.old queue.new (Running (items_of frame.old) (mind_of process.old))
-        (λ ending. Closing ending (mind_of process.new)) result
-        journal.old journal.new (D.told outside.old) (D.told outside.new) }
+    ensures proceeds { Proceeds queue.old queue.new (Running (items_of frame.old) (mind_of run.old.process))
+        (λ ending. Closing ending (mind_of run.new.process)) result
+        run.old.journal run.new.journal (D.told run.old.outside) (D.told run.new.outside) }
     ensures few { copies_left queue.new ≤ copies_left queue.old }
-    ensures keeping { Keeping journal.new process.new.locks.names }
 {
     let mut draft = None;
-    match run_frame(alloc, frame, process, queue, &mut draft, outside, journal)? {
-        Some(end) => close(alloc, end, draft, process, outside, journal),
-        None => close_without(alloc, process, outside, journal),
+    match run_frame(alloc, run, frame, queue, &mut draft)? {
+        Some(end) => close(alloc, run, end, draft),
+        None => close_without(alloc, run),
     }
 }
 
@@ -151,15 +210,15 @@ fn run_copies<D: Effects>(
     first: Ending,
     counts: Counts,
     mut queue: Queue,
-    outside: &mut D,
-    journal: &mut Journal,
-) -> Result<Ending, Memory>
-    requires keeping { Keeping journal.old [] }
-    ensures ok { IfOk result (λ ending. GoesOn (next_in queue first counts) (Stop ending)
-        journal.old journal.new (D.told outside.old) (D.told outside.new)) }
-    ensures memory { OnErr result (GivesUp (next_in queue first counts)
-        journal.old journal.new (D.told outside.old) (D.told outside.new)) }
-    ensures keeping { Keeping journal.new [] }
+    mut outside: D,
+    mut journal: Journal,
+) -> (D, Ran)
+    requires keeping { Keeping journal [] }
+    ensures ok { IfOk result.1.ended (λ ending. GoesOn (next_in queue first counts) (Stop ending)
+        journal result.1.journal (D.told outside) (D.told result.0)) }
+    ensures memory { OnErr result.1.ended (GivesUp (next_in queue first counts)
+        journal result.1.journal (D.told outside) (D.told result.0)) }
+    ensures keeping { Keeping result.1.journal [] }
 {
     let mut counted = counts;
     while let Some(copy) = queue.next() {
@@ -169,17 +228,39 @@ fn run_copies<D: Effects>(
         } = copy;
         process.placed = counted.placed;
         process.openings = counted.openings;
-        let ended = run_to_end(
-            alloc,
-            &mut frame,
-            &mut process,
-            &mut queue,
-            outside,
+        let mut run = Run {
+            process,
             journal,
-        );
-        give_all(&mut process.locks, outside, journal);
-        ended?;
-        counted = counts_of(&process);
+            outside,
+        };
+        let ended = run_to_end(alloc, &mut run, &mut frame, &mut queue);
+        let Run {
+            process: mut over,
+            journal: noted,
+            outside: lent,
+        } = run;
+        journal = noted;
+        outside = lent;
+        give_all(&mut over.locks, &mut outside, &mut journal);
+        match ended {
+            Ok(_) => {}
+            Err(Memory) => {
+                return (
+                    outside,
+                    Ran {
+                        ended: Err(Memory),
+                        journal,
+                    },
+                );
+            }
+        }
+        counted = counts_of(&over);
     }
-    Ok(first)
+    (
+        outside,
+        Ran {
+            ended: Ok(first),
+            journal,
+        },
+    )
 }

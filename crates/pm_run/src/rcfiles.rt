@@ -1,7 +1,6 @@
 //! Other rcfiles than the first: INCLUDERC and SWITCHRC (procmailrc(5), "Environment").
 ghost use Rattle.std.specs.Prelude.{◌≡◌, ◌≤◌, List, length, None, IfOk, OnErr};
 ghost use Rattle.pm_journal.specs.Executed.{Carries, OutOfMemory};
-ghost use Rattle.pm_journal.specs.Held.{Keeping};
 ghost use Rattle.pm_journal.specs.LogText.{couldnt_read_line, too_many_rcfiles_line};
 ghost use Rattle.pm_journal.specs.Plan.{and_then, ask};
 ghost use Rattle.pm_journal.specs.Walking.{Next};
@@ -20,9 +19,10 @@ ghost use Rattle.pm_run.specs.Stretches.{Walks};
 
 use crate::frames::{RcFrame, Waiting};
 use crate::leaving::leave_file;
+use pm_actions::Run;
 use pm_bytes::{Memory, Name};
 use pm_code::{Code, compile};
-use pm_journal::{Effects, Journal, couldnt_read, read, too_many_rcfiles};
+use pm_journal::{Effects, couldnt_read, read, too_many_rcfiles};
 use pm_meaning::{Process, new_chain, tell};
 use pm_recipe::{Rc, RcRefused, Statements, one_rc, read_rc};
 use std::alloc::Global;
@@ -32,25 +32,21 @@ use std::mem;
 /// Opens the rcfile, whose statements come before what is left of the current one.
 pub fn include<D: Effects>(
     alloc: Global,
+    run: &mut Run<D>,
     name: Name,
     frame: &mut RcFrame,
-    process: &mut Process,
-    outside: &mut D,
-    journal: &mut Journal,
 ) -> Result<(), Memory>
-    requires keeping { Keeping journal.old process.old.locks.names }
-    ensures walks { Walks (Including name (items_of frame.old) (mind_of process.old))
-        (λ _. Running (items_of frame.new) (mind_of process.new)) result
-        journal.old journal.new (D.told outside.old) (D.told outside.new) }
-    ensures keeping { Keeping journal.new process.new.locks.names }
+    ensures walks { Walks (Including name (items_of frame.old) (mind_of run.old.process))
+        (λ _. Running (items_of frame.new) (mind_of run.new.process)) result
+        run.old.journal run.new.journal (D.told run.old.outside) (D.told run.new.outside) }
     ensures falls { IfOk result (λ _.
-        left_over process.new.openings frame.new ≤ left_over process.old.openings frame.old) }
+        left_over run.new.process.openings frame.new ≤ left_over run.old.process.openings frame.old) }
 {
-    match open_code(alloc, &name, process, outside, journal) {
+    match open_code(alloc, run, &name) {
         Err(Memory) => Err(Memory),
         Ok(opened) => match opened {
             None => Ok(()),
-            Some(code) => go_into(alloc, name, code, frame, process),
+            Some(code) => go_into(alloc, name, code, frame, &mut run.process),
         },
     }
 }
@@ -85,25 +81,21 @@ fn go_into(
 /// Opens the rcfile, which takes the place of the current one. Where it isn't read, that one goes on.
 pub fn switch<D: Effects>(
     alloc: Global,
+    run: &mut Run<D>,
     name: Name,
     frame: &mut RcFrame,
-    process: &mut Process,
-    outside: &mut D,
-    journal: &mut Journal,
 ) -> Result<(), Memory>
-    requires keeping { Keeping journal.old process.old.locks.names }
-    ensures walks { Walks (Switching name (items_of frame.old) (mind_of process.old))
-        (λ _. Running (items_of frame.new) (mind_of process.new)) result
-        journal.old journal.new (D.told outside.old) (D.told outside.new) }
-    ensures keeping { Keeping journal.new process.new.locks.names }
+    ensures walks { Walks (Switching name (items_of frame.old) (mind_of run.old.process))
+        (λ _. Running (items_of frame.new) (mind_of run.new.process)) result
+        run.old.journal run.new.journal (D.told run.old.outside) (D.told run.new.outside) }
     ensures falls { IfOk result (λ _.
-        left_over process.new.openings frame.new ≤ left_over process.old.openings frame.old) }
+        left_over run.new.process.openings frame.new ≤ left_over run.old.process.openings frame.old) }
 {
-    match open_code(alloc, &name, process, outside, journal) {
+    match open_code(alloc, run, &name) {
         Err(Memory) => Err(Memory),
         Ok(opened) => match opened {
             None => Ok(()),
-            Some(code) => take_place(alloc, name, code, frame, process, outside, journal),
+            Some(code) => take_place(alloc, run, name, code, frame),
         },
     }
 }
@@ -111,28 +103,25 @@ pub fn switch<D: Effects>(
 // The blocks of the current rcfile are left, and the one of this code stands in its place.
 fn take_place<D: Effects>(
     alloc: Global,
+    run: &mut Run<D>,
     name: Name,
     code: Code,
     frame: &mut RcFrame,
-    process: &mut Process,
-    outside: &mut D,
-    journal: &mut Journal,
 ) -> Result<(), Memory>
-    requires keeping { Keeping journal.old process.old.locks.names }
     ensures walks { (items : List Item) → Walks (LeavingFile (block_locks frame.old.blocks.items) items
-        (begun_block (with_rcfile name (mind_of process.old)))) (λ _. Running items (mind_of process.new)) result
-        journal.old journal.new (D.told outside.old) (D.told outside.new) }
-    ensures keeping { Keeping journal.new process.new.locks.names }
+        (begun_block (with_rcfile name (mind_of run.old.process))))
+        (λ _. Running items (mind_of run.new.process)) result
+        run.old.journal run.new.journal (D.told run.old.outside) (D.told run.new.outside) }
     ensures takes { IfOk result (λ _. TakesPlace code frame.old frame.new) }
-    ensures count { process.new.openings ≡ process.old.openings }
+    ensures count { run.new.process.openings ≡ run.old.process.openings }
 {
-    match process.vars.set_rcfile(&name) {
+    match run.process.vars.set_rcfile(&name) {
         Err(Memory) => return Err(Memory),
         Ok(()) => {}
     }
-    process.rcfile = name;
-    process.chain = new_chain();
-    match leave_file(alloc, &mut frame.blocks, process, outside, journal) {
+    run.process.rcfile = name;
+    run.process.chain = new_chain();
+    match leave_file(alloc, run, &mut frame.blocks) {
         Err(Memory) => Err(Memory),
         Ok(()) => {
             frame.code = code;
@@ -145,21 +134,17 @@ fn take_place<D: Effects>(
 /// Leaves the blocks of the current rcfile, of which nothing is left.
 pub fn end_file<D: Effects>(
     alloc: Global,
+    run: &mut Run<D>,
     frame: &mut RcFrame,
-    process: &mut Process,
-    outside: &mut D,
-    journal: &mut Journal,
 ) -> Result<(), Memory>
-    requires keeping { Keeping journal.old process.old.locks.names }
     ensures walks { Walks (LeavingFile (block_locks frame.old.blocks.items) (outer_items frame.old.outer.items)
-        (mind_of process.old)) (λ _. Running (items_of frame.new) (mind_of process.new)) result
-        journal.old journal.new (D.told outside.old) (D.told outside.new) }
-    ensures keeping { Keeping journal.new process.new.locks.names }
+        (mind_of run.old.process)) (λ _. Running (items_of frame.new) (mind_of run.new.process)) result
+        run.old.journal run.new.journal (D.told run.old.outside) (D.told run.new.outside) }
     ensures falls { IfOk result (λ _.
-        left_over process.new.openings frame.new ≤ left_over process.old.openings frame.old) }
+        left_over run.new.process.openings frame.new ≤ left_over run.old.process.openings frame.old) }
 {
     frame.place = frame.code.steps.len();
-    match leave_file(alloc, &mut frame.blocks, process, outside, journal) {
+    match leave_file(alloc, run, &mut frame.blocks) {
         Err(Memory) => Err(Memory),
         Ok(()) => Ok(()),
     }
@@ -168,50 +153,49 @@ pub fn end_file<D: Effects>(
 // Opens an rcfile, unless the run has opened 256. That, and that it wasn't read, is told.
 fn open_code<D: Effects>(
     alloc: Global,
+    run: &mut Run<D>,
     name: &Name,
-    process: &mut Process,
-    outside: &mut D,
-    journal: &mut Journal,
 ) -> Result<Option<Code>, Memory>
-    requires keeping { Keeping journal.old process.old.locks.names }
-    ensures opens { IfOk result (λ code. Opens name.now code (mind_of process.old) (mind_of process.new)
-        journal.old journal.new (D.told outside.old) (D.told outside.new)) }
+    ensures opens { IfOk result (λ code. Opens name.now code (mind_of run.old.process) (mind_of run.new.process)
+        run.old.journal run.new.journal (D.told run.old.outside) (D.told run.new.outside)) }
     ensures memory { OnErr result ((rest : List Item) (go : Reading) →
-        OutOfMemory (open_rcfile name.now rest (mind_of process.old) go)
-        journal.old journal.new (D.told outside.old) (D.told outside.new)) }
-    ensures keeping { Keeping journal.new process.new.locks.names }
+        OutOfMemory (open_rcfile name.now rest (mind_of run.old.process) go)
+        run.old.journal run.new.journal (D.told run.old.outside) (D.told run.new.outside)) }
 {
-    if process.openings >= 256 {
-        return tell_many(alloc, name, process, outside, journal);
+    if run.process.openings >= 256 {
+        return tell_many(alloc, run, name);
     }
-    process.openings += 1;
-    read_code(alloc, name, process, outside, journal)
+    run.process.openings += 1;
+    read_code(alloc, run, name)
 }
 
 // Reads an rcfile. That it wasn't read is told.
 fn read_code<D: Effects>(
     alloc: Global,
+    run: &mut Run<D>,
     name: &Name,
-    process: &Process,
-    outside: &mut D,
-    journal: &mut Journal,
 ) -> Result<Option<Code>, Memory>
-    requires keeping { Keeping journal.old process.now.locks.names }
-    ensures reads { IfOk result (λ code. ReadsCode name.now code (mind_of process.now)
-        journal.old journal.new (D.told outside.old) (D.told outside.new)) }
-    ensures memory { let p = mind_of process.now in OnErr result ((rest : List Item) (go : Reading) →
+    ensures reads { IfOk result (λ code. ReadsCode name.now code (mind_of run.old.process)
+        run.old.journal run.new.journal (D.told run.old.outside) (D.told run.new.outside)) }
+    ensures memory { let p = mind_of run.old.process in OnErr result ((rest : List Item) (go : Reading) →
         OutOfMemory (and_then (ask (ReadFile name.now)) (with_statements name.now rest p go))
-        journal.old journal.new (D.told outside.old) (D.told outside.new)) }
-    ensures keeping { Keeping journal.new process.now.locks.names }
+        run.old.journal run.new.journal (D.told run.old.outside) (D.told run.new.outside)) }
+    ensures same { run.new.process ≡ run.old.process }
 {
     let noted = match name.copy(alloc) {
         Err(Memory) => return Err(Memory),
         Ok(noted) => noted,
     };
-    match read(alloc, &process.locks, noted, outside, journal) {
+    match read(
+        alloc,
+        &run.process.locks,
+        noted,
+        &mut run.outside,
+        &mut run.journal,
+    ) {
         Err(Memory) => Err(Memory),
         Ok(content) => match content {
-            None => tell_unread(alloc, name, process, outside, journal),
+            None => tell_unread(alloc, run, name),
             Some(rc) => some_code(alloc, rc.as_slice()),
         },
     }
@@ -245,21 +229,24 @@ pub fn read_statements(alloc: Global, rc: &[u8]) -> Result<Statements, Memory>
 // The run has opened as many rcfiles as it may.
 fn tell_many<D: Effects>(
     alloc: Global,
+    run: &mut Run<D>,
     name: &Name,
-    process: &Process,
-    outside: &mut D,
-    journal: &mut Journal,
 ) -> Result<Option<Code>, Memory>
-    requires keeping { Keeping journal.old process.now.locks.names }
     ensures carries { (next : Next State Event) →
-        Carries (say_then (mind_of process.now) (too_many_rcfiles_line name.now) next) (λ _. next) result
-        journal.old journal.new (D.told outside.old) (D.told outside.new) }
+        Carries (say_then (mind_of run.old.process) (too_many_rcfiles_line name.now) next) (λ _. next) result
+        run.old.journal run.new.journal (D.told run.old.outside) (D.told run.new.outside) }
     ensures none { IfOk result (λ code. code ≡ None) }
-    ensures keeping { Keeping journal.new process.now.locks.names }
+    ensures same { run.new.process ≡ run.old.process }
 {
     match too_many_rcfiles(alloc, name) {
         Err(Memory) => Err(Memory),
-        Ok(line) => match tell(alloc, process, line, outside, journal) {
+        Ok(line) => match tell(
+            alloc,
+            &run.process,
+            line,
+            &mut run.outside,
+            &mut run.journal,
+        ) {
             Err(Memory) => Err(Memory),
             Ok(()) => Ok(None),
         },
@@ -269,21 +256,24 @@ fn tell_many<D: Effects>(
 // The rcfile wasn't read.
 fn tell_unread<D: Effects>(
     alloc: Global,
+    run: &mut Run<D>,
     name: &Name,
-    process: &Process,
-    outside: &mut D,
-    journal: &mut Journal,
 ) -> Result<Option<Code>, Memory>
-    requires keeping { Keeping journal.old process.now.locks.names }
     ensures carries { (next : Next State Event) →
-        Carries (say_then (mind_of process.now) (couldnt_read_line name.now) next) (λ _. next) result
-        journal.old journal.new (D.told outside.old) (D.told outside.new) }
+        Carries (say_then (mind_of run.old.process) (couldnt_read_line name.now) next) (λ _. next) result
+        run.old.journal run.new.journal (D.told run.old.outside) (D.told run.new.outside) }
     ensures none { IfOk result (λ code. code ≡ None) }
-    ensures keeping { Keeping journal.new process.now.locks.names }
+    ensures same { run.new.process ≡ run.old.process }
 {
     match couldnt_read(alloc, name) {
         Err(Memory) => Err(Memory),
-        Ok(line) => match tell(alloc, process, line, outside, journal) {
+        Ok(line) => match tell(
+            alloc,
+            &run.process,
+            line,
+            &mut run.outside,
+            &mut run.journal,
+        ) {
             Err(Memory) => Err(Memory),
             Ok(()) => Ok(None),
         },

@@ -1,7 +1,6 @@
 //! The items of an rcfile, one after the other.
 ghost use Rattle.std.specs.Prelude.{◌≡◌, ◌<◌, ◌≤◌, ◌+◌, [], length, drop, IfOk, MatchOption};
 ghost use Rattle.pm_code.specs.Flat.{flats_of};
-ghost use Rattle.pm_journal.specs.Held.{Keeping};
 ghost use Rattle.pm_meaning.specs.Minds.{mind_of};
 ghost use Rattle.pm_meaning.specs.Running.{Running, Leaving};
 ghost use Rattle.pm_run.specs.Ends.{stands_at, halted, copies_left};
@@ -20,9 +19,10 @@ use crate::queue::Queue;
 use crate::rcfiles::{end_file, include, switch};
 use crate::statements::run_statement;
 use crate::turned::Turned;
+use pm_actions::Run;
 use pm_bytes::{Memory, Name};
 use pm_code::Step;
-use pm_journal::{Effects, Journal};
+use pm_journal::Effects;
 use pm_meaning::{End, Process, new_chain, succeed};
 use std::alloc::Global;
 
@@ -44,33 +44,29 @@ pub enum Stepped {
 /// The draft is that of the last action's abstract.
 pub fn run_frame<D: Effects>(
     alloc: Global,
+    run: &mut Run<D>,
     frame: &mut RcFrame,
-    process: &mut Process,
     queue: &mut Queue,
     draft: &mut Option<Draft>,
-    outside: &mut D,
-    journal: &mut Journal,
 ) -> Result<Option<End>, Memory>
-    requires keeping { Keeping journal.old process.old.locks.names }
-    ensures proceeds { Proceeds queue.old queue.new (Running (items_of frame.old) (mind_of process.old))
-        (λ end. stands_at end (mind_of process.new)) result
-        journal.old journal.new (D.told outside.old) (D.told outside.new) }
+    ensures proceeds { Proceeds queue.old queue.new (Running (items_of frame.old) (mind_of run.old.process))
+        (λ end. stands_at end (mind_of run.new.process)) result
+        run.old.journal run.new.journal (D.told run.old.outside) (D.told run.new.outside) }
     ensures few { copies_left queue.new ≤ copies_left queue.old }
-    ensures keeping { Keeping journal.new process.new.locks.names }
 {
     loop {
-        match step_frame(alloc, frame, process, draft, outside, journal)? {
+        match step_frame(alloc, run, frame, draft)? {
             Stepped::Went => {}
             Stepped::Over => return Ok(None),
-            Stepped::Halts(end) => match halt(alloc, end, frame, process, outside, journal)? {
+            Stepped::Halts(end) => match halt(alloc, run, end, frame)? {
                 Halted::Over(end) => return Ok(end),
                 Halted::Resumes => {}
             },
-            Stepped::Includes(name) => include(alloc, name, frame, process, outside, journal)?,
-            Stepped::Switches(name) => switch(alloc, name, frame, process, outside, journal)?,
-            Stepped::EndsFile => end_file(alloc, frame, process, outside, journal)?,
+            Stepped::Includes(name) => include(alloc, run, name, frame)?,
+            Stepped::Switches(name) => switch(alloc, run, name, frame)?,
+            Stepped::EndsFile => end_file(alloc, run, frame)?,
             Stepped::Clones(place) => {
-                make_clone(alloc, place, frame, process, queue, outside, journal)?;
+                make_clone(alloc, run, place, frame, queue)?;
             }
         }
     }
@@ -80,23 +76,19 @@ pub fn run_frame<D: Effects>(
 // place of the others, where one can be read.
 fn halt<D: Effects>(
     alloc: Global,
+    run: &mut Run<D>,
     end: End,
     frame: &mut RcFrame,
-    process: &mut Process,
-    outside: &mut D,
-    journal: &mut Journal,
 ) -> Result<Halted, Memory>
-    requires keeping { Keeping journal.old process.old.locks.names }
-    ensures walks { Walks (Leaving (all_locks frame.old) end (mind_of process.old))
-        (λ way. halted way frame.new (mind_of process.new)) result
-        journal.old journal.new (D.told outside.old) (D.told outside.new) }
-    ensures keeping { Keeping journal.new process.new.locks.names }
+    ensures walks { Walks (Leaving (all_locks frame.old) end (mind_of run.old.process))
+        (λ way. halted way frame.new (mind_of run.new.process)) result
+        run.old.journal run.new.journal (D.told run.old.outside) (D.told run.new.outside) }
     ensures falls { IfOk result (λ way. way ≡ Resumes →
-        left_over process.new.openings frame.new + 1 ≤ left_over process.old.openings frame.old) }
+        left_over run.new.process.openings frame.new + 1 ≤ left_over run.old.process.openings frame.old) }
 {
-    leave_blocks(alloc, frame, end, process, outside, journal)?;
+    leave_blocks(alloc, run, frame, end)?;
     match end {
-        End::HostOff => open_later(alloc, frame, process, outside, journal),
+        End::HostOff => open_later(alloc, run, frame),
         _ => Ok(Halted::Over(Some(end))),
     }
 }
@@ -104,46 +96,42 @@ fn halt<D: Effects>(
 // Does the first item. What a statement does leaves the count of openings as it was.
 fn step_frame<D: Effects>(
     alloc: Global,
+    run: &mut Run<D>,
     frame: &mut RcFrame,
-    process: &mut Process,
     draft: &mut Option<Draft>,
-    outside: &mut D,
-    journal: &mut Journal,
 ) -> Result<Stepped, Memory>
-    requires keeping { Keeping journal.old process.old.locks.names }
-    ensures walks { Walks (Running (items_of frame.old) (mind_of process.old))
-        (λ stepped. stands stepped frame.new (mind_of process.new)) result
-        journal.old journal.new (D.told outside.old) (D.told outside.new) }
-    ensures keeping { Keeping journal.new process.new.locks.names }
-    ensures falls { IfOk result (λ stepped. left_over process.new.openings frame.new + less_by stepped
-        ≤ left_over process.old.openings frame.old) }
+    ensures walks { Walks (Running (items_of frame.old) (mind_of run.old.process))
+        (λ stepped. stands stepped frame.new (mind_of run.new.process)) result
+        run.old.journal run.new.journal (D.told run.old.outside) (D.told run.new.outside) }
+    ensures falls { IfOk result (λ stepped. left_over run.new.process.openings frame.new + less_by stepped
+        ≤ left_over run.old.process.openings frame.old) }
     ensures behind { IfOk result (λ stepped. IsBehind stepped frame.new) }
 {
-    let opened = process.openings;
+    let opened = run.process.openings;
     match step_at(&frame.code.steps, frame.place) {
         None => {
             let place = frame.place;
-            end_innermost(alloc, frame, place, process, outside, journal)
+            end_innermost(alloc, run, frame, place)
         }
         Some(step) => match step {
             Step::Leave { .. } => {
                 let next = frame.place + 1;
-                end_innermost(alloc, frame, next, process, outside, journal)
+                end_innermost(alloc, run, frame, next)
             }
             Step::Enter { recipe, end } => {
                 let behind = *end + 1;
-                match pass_gate(alloc, recipe, process, outside, journal) {
+                match pass_gate(alloc, run, recipe) {
                     Err(Memory) => Err(Memory),
                     Ok(gate) => {
-                        process.openings = opened;
-                        enter_block(frame, behind, gate, process)
+                        run.process.openings = opened;
+                        enter_block(frame, behind, gate, &mut run.process)
                     }
                 }
             }
-            _ => match run_statement(alloc, step, process, draft, outside, journal) {
+            _ => match run_statement(alloc, run, step, draft) {
                 Err(Memory) => Err(Memory),
                 Ok(turned) => {
-                    process.openings = opened;
+                    run.process.openings = opened;
                     frame.place += 1;
                     Ok(stepped_by(turned))
                 }
@@ -202,29 +190,25 @@ fn enter_block(
 // Ends the innermost block; without one the rcfile is over, and the one that waits first goes on.
 fn end_innermost<D: Effects>(
     alloc: Global,
+    run: &mut Run<D>,
     frame: &mut RcFrame,
     next: usize,
-    process: &mut Process,
-    outside: &mut D,
-    journal: &mut Journal,
 ) -> Result<Stepped, Memory>
     requires ends { EndsAt (steps_of frame.old) frame.old.place next }
-    requires keeping { Keeping journal.old process.old.locks.names }
-    ensures walks { Walks (Running (items_of frame.old) (mind_of process.old))
-        (λ stepped. stands stepped frame.new (mind_of process.new)) result
-        journal.old journal.new (D.told outside.old) (D.told outside.new) }
-    ensures keeping { Keeping journal.new process.new.locks.names }
-    ensures falls { IfOk result (λ stepped. left_over process.new.openings frame.new + less_by stepped
-        ≤ left_over process.old.openings frame.old) }
+    ensures walks { Walks (Running (items_of frame.old) (mind_of run.old.process))
+        (λ stepped. stands stepped frame.new (mind_of run.new.process)) result
+        run.old.journal run.new.journal (D.told run.old.outside) (D.told run.new.outside) }
+    ensures falls { IfOk result (λ stepped. left_over run.new.process.openings frame.new + less_by stepped
+        ≤ left_over run.old.process.openings frame.old) }
     ensures behind { IfOk result (λ stepped. IsBehind stepped frame.new) }
 {
     match frame.blocks.pop_front() {
-        None => come_back(frame, process),
+        None => come_back(frame, &mut run.process),
         Some(open) => {
             let Open { saved, lock } = open;
-            give_maybe(alloc, &lock, process, outside, journal)?;
+            give_maybe(alloc, run, &lock)?;
             frame.place = next;
-            process.chain = succeed(&saved);
+            run.process.chain = succeed(&saved);
             Ok(Stepped::Went)
         }
     }

@@ -8,6 +8,5 @@ use Rattle.pm_run.proofs.arriving.set_words.Given as goal
 
 abbrev pub invariant-loop-value : goal.invariant-loop-value
 invariant-loop-value g l = record {
-  reaches : (line : CommandLine) (home : List ℕ) → Reaches {X = Event} step (Setting l.fn.values line home (mind_of l.fn.process)) (Setting (drop l.value-index l.values) line home (mind_of l.process)) l.fn.journal l.journal (g.D.Asks.told l.fn.outside) (g.D.Asks.told l.outside);
-  keeping : Keeping l.journal l.process.locks.names;
+  reaches : (line : CommandLine) (home : List ℕ) → Reaches {X = Event} step (Setting l.fn.values line home (mind_of l.fn.run.process)) (Setting (drop l.value-index l.values) line home (mind_of l.run.process)) l.fn.run.journal l.run.journal (g.D.Asks.told l.fn.run.outside) (g.D.Asks.told l.run.outside);
 }

@@ -11,9 +11,9 @@ pub returns-in_err-push_folder-clause-carries : goal.returns-in_err-push_folder-
 returns-in_err-push_folder-clause-carries g c = (search rules, on_err _ _ (out_anywhere _ _ _ _ refl))
 
 pub tell_in-requires-clause-named : goal.tell_in-requires-clause-named
-tell_in-requires-clause-named g c = file_is c.args.draft (mind_of c.args.process.now) c.requires.suits
+tell_in-requires-clause-named g c = file_is c.args.draft (mind_of c.args.run.now.process) c.requires.suits
 
 pub returns-clause-carries : goal.returns-clause-carries
 returns-clause-carries g c =
-    let p = mind_of c.args.process.now in
+    let p = mind_of c.args.run.now.process in
     carried _ (log (abstract_of p) p) _ _ _ _ _ _ (ap (λ t. log t p) (finished c.args.draft p c.requires.suits c.from_vec.result (c.from_vec.ensures ∙ c.in_ok-push_folder.ensures))) c.tell_in.ensures.carries

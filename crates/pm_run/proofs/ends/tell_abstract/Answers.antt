@@ -11,5 +11,5 @@ returns-in_err-text-clause-carries g c = (search rules, on_err _ _ (out_anywhere
 
 pub returns-clause-carries : goal.returns-clause-carries
 returns-clause-carries g c =
-    let p = mind_of c.args.process.now in
+    let p = mind_of c.args.run.now.process in
     carried _ (log (abstract_of p) p) _ _ _ _ _ _ (ap (λ t. log t p) c.in_ok-text.ensures) c.tell.ensures.carries

@@ -8,7 +8,7 @@ use Rattle.pm_run.proofs.ends.trap.Goals as goal
 
 pub returns-then-not-is_trapped-clause-carries : goal.returns-then-not-is_trapped-clause-carries
 returns-then-not-is_trapped-clause-carries g c =
-    (not_trapped c.args.end (mind_of c.args.process.now) _ _ (sym c.is_trapped.ensures ∙ c.if-not-is_trapped.true), tt)
+    (not_trapped c.args.end (mind_of c.args.run.now.process) _ _ (sym c.is_trapped.ensures ∙ c.if-not-is_trapped.true), tt)
 
 pub returns-in_err-text-clause-carries : goal.returns-in_err-text-clause-carries
 returns-in_err-text-clause-carries g c = (search rules, on_err _ _ (out_anywhere _ _ _ _ refl))
@@ -18,7 +18,7 @@ returns-in_err-set_exit_status-clause-carries g c = (search rules, on_err _ _ (o
 
 pub returns-clause-carries : goal.returns-clause-carries
 returns-clause-carries g c =
-    let p = mind_of c.args.process.now in
+    let p = mind_of c.args.run.now.process in
     let q = mind_of c.set_exit_status.new.process in
     carried _ (trap c.args.end p) _ _ _ _ _ _ (trap_runs c.args.end c.as_slice.result.now p q (sym c.is_trapped.ensures ∙ c.if-not-is_trapped.false) (c.as_slice.ensures ∙ c.in_ok-text.ensures) c.in_ok-set_exit_status.ensures.ok) c.trap_line.ensures.carries
 

@@ -6,14 +6,18 @@ use Rattle.pm_meaning.proofs.Sequences.{then_carries}
 use Rattle.pm_run.proofs.EndLemmas.{by_read}
 use Rattle.pm_run.proofs.ends.trap_line.Goals as goal
 
-pub returns-in_err-line-clause-carries : goal.returns-in_err-line-clause-carries
-returns-in_err-line-clause-carries g c =
-    let p = mind_of c.args.process.now in
-    let text = c.args.text.now in
-    (search rules, on_err _ _ (out_front (read_line text p) (by_read text) _ _ _ _ c.in_err-line.ensures.carries.1))
+pub returns-in_err-line : goal.returns-in_err-line
+returns-in_err-line g c = record {
+  carries = (
+      let p = mind_of c.args.run.now.process in
+      let text = c.args.text.now in
+      (search rules, on_err _ _ (out_front (read_line text p) (by_read text) _ _ _ _ c.in_err-line.ensures.carries.1)));
+}
 
-pub returns-clause-carries : goal.returns-clause-carries
-returns-clause-carries g c =
-    let p = mind_of c.args.process.now in
-    let text = c.args.text.now in
-    then_carries (read_line text p) (by_read text) (read_with c.in_ok-line.line (mind_of c.read_line.new.process)) _ _ _ _ _ _ _ _ c.in_ok-line.ensures.carries.0 c.trap_by.ensures.carries
+pub returns : goal.returns
+returns g c = record {
+  carries = (
+      let p = mind_of c.args.run.now.process in
+      let text = c.args.text.now in
+      then_carries (read_line text p) (by_read text) (read_with c.in_ok-line.line (mind_of c.read_line.new.process)) _ _ _ _ _ _ _ _ c.in_ok-line.ensures.carries.0 c.trap_by.ensures.carries);
+}

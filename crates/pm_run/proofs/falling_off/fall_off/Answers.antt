@@ -9,17 +9,21 @@ use Rattle.pm_run.proofs.RunOutLemmas.{ran_out_at_once, ran_out_after}
 use Rattle.pm_run.proofs.FallLemmas.{falls}
 use Rattle.pm_run.proofs.falling_off.fall_off.Goals as goal
 
-pub returns-in_err-mailboxes-clause-walks : goal.returns-in_err-mailboxes-clause-walks
-returns-in_err-mailboxes-clause-walks g c =
-    let start = Running [] (mind_of c.args.process.now) in
-    (search rules, on_err _ _ (ran_out_at_once step MayRunOut start _ _ _ _ (out_anywhere (step start) _ _ _ refl) (λ more e. tt)))
+pub returns-in_err-mailboxes : goal.returns-in_err-mailboxes
+returns-in_err-mailboxes g c = record {
+  walks = (
+      let start = Running [] (mind_of c.args.run.now.process) in
+      (search rules, on_err _ _ (ran_out_at_once step MayRunOut start _ _ _ _ (out_anywhere (step start) _ _ _ refl) (λ more e. tt))));
+}
 
-pub returns-clause-walks : goal.returns-clause-walks
-returns-clause-walks g c =
-    let p = mind_of c.args.process.now in
-    let start = Running [] p in
-    let left = FallingOff c.in_ok-mailboxes.mailboxes.items p in
-    let fell = falls p c.in_ok-mailboxes.mailboxes.items c.args.journal.now (g.D.Asks.told c.args.outside.now) c.in_ok-mailboxes.ensures in (
-      ok_map _ _ _ (λ end h. reaches_after step start left (Over end (mind_of c.try_each.new.process)) c.args.journal.now c.args.journal.now c.try_each.new.journal _ _ _ fell h) c.try_each.ensures.walks.0,
-      err_map _ _ _ (λ h. ran_out_after step MayRunOut start left c.args.journal.now c.args.journal.now c.try_each.new.journal _ _ _ fell h) c.try_each.ensures.walks.1,
-    )
+pub returns : goal.returns
+returns g c = record {
+  walks = (
+      let p = mind_of c.args.run.now.process in
+      let start = Running [] p in
+      let left = FallingOff c.in_ok-mailboxes.mailboxes.items p in
+      let fell = falls p c.in_ok-mailboxes.mailboxes.items c.args.run.now.journal (g.D.Asks.told c.args.run.now.outside) c.in_ok-mailboxes.ensures in (
+        ok_map _ _ _ (λ end h. reaches_after step start left (Over end (mind_of c.try_each.new.run.process)) c.args.run.now.journal c.args.run.now.journal c.try_each.new.run.journal _ _ _ fell h) c.try_each.ensures.walks.0,
+        err_map _ _ _ (λ h. ran_out_after step MayRunOut start left c.args.run.now.journal c.args.run.now.journal c.try_each.new.run.journal _ _ _ fell h) c.try_each.ensures.walks.1,
+      ));
+}

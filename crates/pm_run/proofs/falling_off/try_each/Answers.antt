@@ -10,43 +10,47 @@ use Rattle.pm_run.proofs.FallLemmas.{mailbox_on, mailbox_ends, mailbox_wants, no
 use Rattle.pm_run.proofs.falling_off.try_each.Goals as goal
 
 pub loop-mailbox-init : goal.loop-mailbox-init
-loop-mailbox-init g c = record { reaches = reaches_itself step _ _ _; keeping = c.requires.keeping }
+loop-mailbox-init g c = record { reaches = reaches_itself step _ _ _ }
 
-pub returns-in_err-end-clause-walks : goal.returns-in_err-end-clause-walks
-returns-in_err-end-clause-walks g c =
-    let start = FallingOff c.args.mailboxes.items (mind_of c.args.process.now) in
-    (search rules, on_err _ _ (mailbox_wants start c.loop-mailbox.mailboxes.items c.pop_front.new.self.items c.in-Some.mailbox (mind_of c.loop-mailbox.process) c.args.journal.now c.loop-mailbox.journal c.try_mailbox.new.journal _ _ _ c.in-Some.ensures.items c.loop-mailbox.invariant.reaches c.in_err-end.ensures.carries.1 (delivered_none no_flags _ _ c.in_err-end.ensures.sure)))
+pub returns-in_err-end : goal.returns-in_err-end
+returns-in_err-end g c = record {
+  walks = (
+      let start = FallingOff c.args.mailboxes.items (mind_of c.args.run.now.process) in
+      (search rules, on_err _ _ (mailbox_wants start c.loop-mailbox.mailboxes.items c.pop_front.new.self.items c.in-Some.mailbox (mind_of c.loop-mailbox.run.process) c.args.run.now.journal c.loop-mailbox.run.journal c.try_mailbox.new.run.journal _ _ _ c.in-Some.ensures.items c.loop-mailbox.invariant.reaches c.in_err-end.ensures.carries.1 (delivered_none no_flags _ _ c.in_err-end.ensures.sure))));
+}
 
-pub returns-in-Some-2-clause-walks : goal.returns-in-Some-2-clause-walks
-returns-in-Some-2-clause-walks g c =
-    let start = FallingOff c.args.mailboxes.items (mind_of c.args.process.now) in
-    let ended = rw c.in-Some-2.is at c.in_ok-end.ensures.carries.0 in
-    (mailbox_ends start c.loop-mailbox.mailboxes.items c.pop_front.new.self.items c.in-Some.mailbox (mind_of c.loop-mailbox.process) (mind_of c.try_mailbox.new.process) c.in-Some-2.end c.args.journal.now c.loop-mailbox.journal c.try_mailbox.new.journal _ _ _ c.in-Some.ensures.items c.loop-mailbox.invariant.reaches ended, tt)
+pub returns-in-Some-2 : goal.returns-in-Some-2
+returns-in-Some-2 g c = record {
+  walks = (
+      let start = FallingOff c.args.mailboxes.items (mind_of c.args.run.now.process) in
+      let ended = rw c.in-Some-2.is at c.in_ok-end.ensures.carries.0 in
+      (mailbox_ends start c.loop-mailbox.mailboxes.items c.pop_front.new.self.items c.in-Some.mailbox (mind_of c.loop-mailbox.run.process) (mind_of c.try_mailbox.new.run.process) c.in-Some-2.end c.args.run.now.journal c.loop-mailbox.run.journal c.try_mailbox.new.run.journal _ _ _ c.in-Some.ensures.items c.loop-mailbox.invariant.reaches ended, tt));
+}
 
 -- twice, since a mailbox that is dropped may have other owners
 pub loop-mailbox-preserved : goal.loop-mailbox-preserved
 loop-mailbox-preserved g c =
-    let start = FallingOff c.args.mailboxes.items (mind_of c.args.process.now) in
+    let start = FallingOff c.args.mailboxes.items (mind_of c.args.run.now.process) in
     let tried = rw c.in_default-2.is at c.in_ok-end.ensures.carries.0 in
     record {
-      reaches = mailbox_on start c.loop-mailbox.mailboxes.items c.pop_front.new.self.items c.in-Some.mailbox (mind_of c.loop-mailbox.process) (mind_of c.try_mailbox.new.process) c.args.journal.now c.loop-mailbox.journal c.try_mailbox.new.journal _ _ _ c.in-Some.ensures.items c.loop-mailbox.invariant.reaches tried;
-      keeping = c.try_mailbox.ensures.keeping;
+      reaches = mailbox_on start c.loop-mailbox.mailboxes.items c.pop_front.new.self.items c.in-Some.mailbox (mind_of c.loop-mailbox.run.process) (mind_of c.try_mailbox.new.run.process) c.args.run.now.journal c.loop-mailbox.run.journal c.try_mailbox.new.run.journal _ _ _ c.in-Some.ensures.items c.loop-mailbox.invariant.reaches tried;
     }
 
 pub loop-mailbox-preserved-in_default-2 : goal.loop-mailbox-preserved-in_default-2
 loop-mailbox-preserved-in_default-2 g c =
-    let start = FallingOff c.args.mailboxes.items (mind_of c.args.process.now) in
+    let start = FallingOff c.args.mailboxes.items (mind_of c.args.run.now.process) in
     let tried = rw c.in_default-2.is at c.in_ok-end.ensures.carries.0 in
     record {
-      reaches = mailbox_on start c.loop-mailbox.mailboxes.items c.pop_front.new.self.items c.in-Some.mailbox (mind_of c.loop-mailbox.process) (mind_of c.try_mailbox.new.process) c.args.journal.now c.loop-mailbox.journal c.try_mailbox.new.journal _ _ _ c.in-Some.ensures.items c.loop-mailbox.invariant.reaches tried;
-      keeping = c.try_mailbox.ensures.keeping;
+      reaches = mailbox_on start c.loop-mailbox.mailboxes.items c.pop_front.new.self.items c.in-Some.mailbox (mind_of c.loop-mailbox.run.process) (mind_of c.try_mailbox.new.run.process) c.args.run.now.journal c.loop-mailbox.run.journal c.try_mailbox.new.run.journal _ _ _ c.in-Some.ensures.items c.loop-mailbox.invariant.reaches tried;
     }
 
-pub returns-clause-walks : goal.returns-clause-walks
-returns-clause-walks g c =
-    let start = FallingOff c.args.mailboxes.items (mind_of c.args.process.now) in
-    let p = mind_of c.loop-mailbox.process in
-    let none : c.loop-mailbox.mailboxes.items ≡ [] = search rules in (
-      ok_map _ _ _ (λ end h. none_on start c.loop-mailbox.mailboxes.items p p end c.args.journal.now c.loop-mailbox.journal c.lose.new.journal _ _ _ none c.loop-mailbox.invariant.reaches h) c.lose.ensures.carries.0,
-      err_map _ _ _ (λ h. none_wants start c.loop-mailbox.mailboxes.items p c.args.journal.now c.loop-mailbox.journal c.lose.new.journal _ _ _ none c.loop-mailbox.invariant.reaches h) c.lose.ensures.carries.1,
-    )
+pub returns : goal.returns
+returns g c = record {
+  walks = (
+      let start = FallingOff c.args.mailboxes.items (mind_of c.args.run.now.process) in
+      let p = mind_of c.loop-mailbox.run.process in
+      let none : c.loop-mailbox.mailboxes.items ≡ [] = search rules in (
+        ok_map _ _ _ (λ end h. none_on start c.loop-mailbox.mailboxes.items p (mind_of c.lose.new.run.process) end c.args.run.now.journal c.loop-mailbox.run.journal c.lose.new.run.journal _ _ _ none c.loop-mailbox.invariant.reaches h) c.lose.ensures.carries.0,
+        err_map _ _ _ (λ h. none_wants start c.loop-mailbox.mailboxes.items p c.args.run.now.journal c.loop-mailbox.run.journal c.lose.new.run.journal _ _ _ none c.loop-mailbox.invariant.reaches h) c.lose.ensures.carries.1,
+      ));
+}

@@ -7,32 +7,36 @@ use Rattle.pm_meaning.proofs.Choices.{carried}
 use Rattle.pm_run.proofs.GateLemmas.{lock_then, got_held, held_mind, got_none}
 use Rattle.pm_run.proofs.gates.ask_lock.Goals as goal
 
-pub returns-in_err-noted-clause-carries : goal.returns-in_err-noted-clause-carries
-returns-in_err-noted-clause-carries g c = (search rules, on_err _ _ (out_anywhere _ _ _ _ refl))
+pub returns-in_err-noted : goal.returns-in_err-noted
+returns-in_err-noted g c = record { carries = (search rules, on_err _ _ (out_anywhere _ _ _ _ refl)) }
 
-pub returns-in_err-kept-clause-carries : goal.returns-in_err-kept-clause-carries
-returns-in_err-kept-clause-carries g c = (search rules, on_err _ _ (out_anywhere _ _ _ _ refl))
+pub returns-in_err-kept : goal.returns-in_err-kept
+returns-in_err-kept g c = record { carries = (search rules, on_err _ _ (out_anywhere _ _ _ _ refl)) }
 
-pub returns-in_err-shown-clause-carries : goal.returns-in_err-shown-clause-carries
-returns-in_err-shown-clause-carries g c = (search rules, on_err _ _ (out_anywhere _ _ _ _ refl))
+pub returns-in_err-shown : goal.returns-in_err-shown
+returns-in_err-shown g c = record { carries = (search rules, on_err _ _ (out_anywhere _ _ _ _ refl)) }
 
-pub returns-in_err-reserve-clause-carries : goal.returns-in_err-reserve-clause-carries
-returns-in_err-reserve-clause-carries g c = (search rules, on_err _ _ (out_anywhere _ _ _ _ refl))
+pub returns-in_err-reserve : goal.returns-in_err-reserve
+returns-in_err-reserve g c = record { carries = (search rules, on_err _ _ (out_anywhere _ _ _ _ refl)) }
 
-pub returns-in_err-reserve-2-clause-carries : goal.returns-in_err-reserve-2-clause-carries
-returns-in_err-reserve-2-clause-carries g c = (search rules, on_err _ _ (out_anywhere _ _ _ _ c.reserve-2.ensures.same))
+pub returns-in_err-reserve-2 : goal.returns-in_err-reserve-2
+returns-in_err-reserve-2 g c = record { carries = (search rules, on_err _ _ (out_anywhere _ _ _ _ c.reserve-2.ensures.same)) }
 
-pub returns-in-Held-clause-carries : goal.returns-in-Held-clause-carries
-returns-in-Held-clause-carries g c =
-    let p = mind_of c.args.process.now in
-    let q = record p { locks = c.take.new.held.names } in
-    let with =
-    held_mind c.args.name c.in_ok-noted.noted c.lock_rule-rule.result c.take.result c.in-Held.sleeps c.in-Held.forced c.reserve.new.self.names c.take.new.held.names p c.in_ok-noted.ensures c.in-Held.is c.reserve.ensures.same c.take.ensures.held in
-    let told = carried _ (got_block_lock c.args.name p (lock_reply c.take.result)) _ _ _ _ _ _ (got_held c.args.name c.in_ok-shown.shown c.take.result c.in-Held.sleeps c.in-Held.forced p q c.in-Held.is c.in_ok-shown.ensures with) c.tell_forced.ensures.carries in
-    lock_then c.args.name c.in_ok-noted.noted c.lock_rule-rule.result c.take.result p _ _ c.args.journal.now c.reserve-2.new.self c.take.new.journal c.tell_forced.new.journal _ _ _ c.in_ok-noted.ensures c.lock_rule-rule.ensures c.reserve-2.ensures.same c.take.ensures.notes told
+pub returns-in-Held : goal.returns-in-Held
+returns-in-Held g c = record {
+  carries = (
+      let p = mind_of c.args.run.now.process in
+      let q = record p { locks = c.take.new.held.names } in
+      let with =
+      held_mind c.args.name c.in_ok-noted.noted c.lock_rule-rule.result c.take.result c.in-Held.sleeps c.in-Held.forced c.reserve.new.self.names c.take.new.held.names p c.in_ok-noted.ensures c.in-Held.is c.reserve.ensures.same c.take.ensures.held in
+      let told = carried _ (got_block_lock c.args.name p (lock_reply c.take.result)) _ _ _ _ _ _ (got_held c.args.name c.in_ok-shown.shown c.take.result c.in-Held.sleeps c.in-Held.forced p q c.in-Held.is c.in_ok-shown.ensures with) c.tell_forced.ensures.carries in
+      lock_then c.args.name c.in_ok-noted.noted c.lock_rule-rule.result c.take.result p _ _ c.args.run.now.journal c.reserve-2.new.self c.take.new.journal c.tell_forced.new.run.journal _ _ _ c.in_ok-noted.ensures c.lock_rule-rule.ensures c.reserve-2.ensures.same c.take.ensures.notes told);
+}
 
-pub returns-in_default-clause-carries : goal.returns-in_default-clause-carries
-returns-in_default-clause-carries g c =
-    let p = mind_of c.args.process.now in
-    let told = carried _ (got_block_lock c.args.name p (lock_reply c.take.result)) _ _ _ _ _ _ (got_none c.args.name c.in_ok-shown.shown c.in_ok-noted.noted c.lock_rule-rule.result c.take.result c.reserve.new.self.names c.take.new.held.names p c.in_default.not-Held c.in_ok-shown.ensures c.reserve.ensures.same c.take.ensures.held) c.tell_not_got.ensures.carries in
-    lock_then c.args.name c.in_ok-noted.noted c.lock_rule-rule.result c.take.result p _ _ c.args.journal.now c.reserve-2.new.self c.take.new.journal c.tell_not_got.new.journal _ _ _ c.in_ok-noted.ensures c.lock_rule-rule.ensures c.reserve-2.ensures.same c.take.ensures.notes told
+pub returns-in_default : goal.returns-in_default
+returns-in_default g c = record {
+  carries = (
+      let p = mind_of c.args.run.now.process in
+      let told = carried _ (got_block_lock c.args.name p (lock_reply c.take.result)) _ _ _ _ _ _ (got_none c.args.name c.in_ok-shown.shown c.in_ok-noted.noted c.lock_rule-rule.result c.take.result c.reserve.new.self.names c.take.new.held.names p c.in_default.not-Held c.in_ok-shown.ensures c.reserve.ensures.same c.take.ensures.held) c.tell_not_got.ensures.carries in
+      lock_then c.args.name c.in_ok-noted.noted c.lock_rule-rule.result c.take.result p _ _ c.args.run.now.journal c.reserve-2.new.self c.take.new.journal c.tell_not_got.new.run.journal _ _ _ c.in_ok-noted.ensures c.lock_rule-rule.ensures c.reserve-2.ensures.same c.take.ensures.notes told);
+}

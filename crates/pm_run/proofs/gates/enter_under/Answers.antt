@@ -15,35 +15,43 @@ use Rattle.pm_meaning.proofs.Sequences.{then_carries}
 use Rattle.pm_run.proofs.GateLemmas.{locks_with, no_text, text_runs, gate_in, gate_out}
 use Rattle.pm_run.proofs.gates.enter_under.Goals as goal
 
-pub returns-in_err-line-clause-carries : goal.returns-in_err-line-clause-carries
-returns-in_err-line-clause-carries g c = (search rules, on_err _ _ (out_anywhere _ _ _ _ refl))
+pub returns-in_err-line : goal.returns-in_err-line
+returns-in_err-line g c = record { carries = (search rules, on_err _ _ (out_anywhere _ _ _ _ refl)) }
 
-pub returns-in_err-tell-clause-carries : goal.returns-in_err-tell-clause-carries
-returns-in_err-tell-clause-carries g c =
-    let p = mind_of c.args.process.now in
-    let text = c.args.text.now in
-    let e : is_empty text ≡ true = search rules in
-    (search rules, on_err _ _ (gate_out _ (enter_under text p) _ _ _ _ (no_text text p e) (line_out p (no_lock_line (codes "{")) _ (Enters None p) _ _ _ _ c.in_ok-line.ensures c.in_err-tell.ensures.carries.1)))
+pub returns-in_err-tell : goal.returns-in_err-tell
+returns-in_err-tell g c = record {
+  carries = (
+      let p = mind_of c.args.run.now.process in
+      let text = c.args.text.now in
+      let e : is_empty text ≡ true = search rules in
+      (search rules, on_err _ _ (gate_out _ (enter_under text p) _ _ _ _ (no_text text p e) (line_out p (no_lock_line (codes "{")) _ (Enters None p) _ _ _ _ c.in_ok-line.ensures c.in_err-tell.ensures.carries.1))));
+}
 
-pub returns-then-is_empty-clause-carries : goal.returns-then-is_empty-clause-carries
-returns-then-is_empty-clause-carries g c =
-    let p = mind_of c.args.process.now in
-    let text = c.args.text.now in
-    let e : is_empty text ≡ true = search rules in
-    (gate_in _ (enter_under text p) (Enters None p) _ _ _ _ (no_text text p e) (line_told p (no_lock_line (codes "{")) _ (Enters None p) _ _ _ _ c.in_ok-line.ensures c.in_ok-tell.ensures.carries.0), tt)
+pub returns-then-is_empty : goal.returns-then-is_empty
+returns-then-is_empty g c = record {
+  carries = (
+      let p = mind_of c.args.run.now.process in
+      let text = c.args.text.now in
+      let e : is_empty text ≡ true = search rules in
+      (gate_in _ (enter_under text p) (Enters None p) _ _ _ _ (no_text text p e) (line_told p (no_lock_line (codes "{")) _ (Enters None p) _ _ _ _ c.in_ok-line.ensures c.in_ok-tell.ensures.carries.0), tt));
+}
 
-pub returns-in_err-outputs-clause-carries : goal.returns-in_err-outputs-clause-carries
-returns-in_err-outputs-clause-carries g c =
-    let p = mind_of c.args.process.now in
-    let text = c.args.text.now in
-    let e : is_empty text ≡ false = search rules in
-    (search rules, on_err _ _ (gate_out _ (enter_under text p) _ _ _ _ (text_runs text p e) (out_front (outputs_of (commands_in One text) p) (locks_with text) _ _ _ _ c.in_err-outputs.ensures.carries.1)))
+pub returns-in_err-outputs : goal.returns-in_err-outputs
+returns-in_err-outputs g c = record {
+  carries = (
+      let p = mind_of c.args.run.now.process in
+      let text = c.args.text.now in
+      let e : is_empty text ≡ false = search rules in
+      (search rules, on_err _ _ (gate_out _ (enter_under text p) _ _ _ _ (text_runs text p e) (out_front (outputs_of (commands_in One text) p) (locks_with text) _ _ _ _ c.in_err-outputs.ensures.carries.1))));
+}
 
-pub returns-clause-carries : goal.returns-clause-carries
-returns-clause-carries g c =
-    let p = mind_of c.args.process.now in
-    let text = c.args.text.now in
-    let ran = outputs_with c.in_ok-outputs.outputs.items (mind_of c.outputs_of.new.process) in
-    let e : is_empty text ≡ false = search rules in
-    carried _ (enter_under text p) _ _ _ _ _ _ (text_runs text p e)
-    (then_carries (outputs_of (commands_in One text) p) (locks_with text) ran _ _ _ _ _ _ _ _ c.in_ok-outputs.ensures.carries.0 (carried _ (locks_with text ran) _ _ _ _ _ _ (ap (λ l. enter_with text l ran.mind) c.as_slice.ensures.value) c.enter_expanded.ensures.carries))
+pub returns : goal.returns
+returns g c = record {
+  carries = (
+      let p = mind_of c.args.run.now.process in
+      let text = c.args.text.now in
+      let ran = outputs_with c.in_ok-outputs.outputs.items (mind_of c.outputs_of.new.process) in
+      let e : is_empty text ≡ false = search rules in
+      carried _ (enter_under text p) _ _ _ _ _ _ (text_runs text p e)
+      (then_carries (outputs_of (commands_in One text) p) (locks_with text) ran _ _ _ _ _ _ _ _ c.in_ok-outputs.ensures.carries.0 (carried _ (locks_with text ran) _ _ _ _ _ _ (ap (λ l. enter_with text l ran.mind) c.as_slice.ensures.value) c.enter_expanded.ensures.carries)));
+}

@@ -9,20 +9,24 @@ use Rattle.pm_run.proofs.AssignLemmas.{usable_then}
 use Rattle.pm_run.proofs.GlobalLemmas.{named_value, given_out, given_then}
 use Rattle.pm_run.proofs.global_lock.change_lock.Goals as goal
 
-pub returns-in_err-name-clause-carries : goal.returns-in_err-name-clause-carries
-returns-in_err-name-clause-carries g c = (search rules, on_err _ _ (out_anywhere _ _ _ _ refl))
+pub returns-in_err-name : goal.returns-in_err-name
+returns-in_err-name g c = record { carries = (search rules, on_err _ _ (out_anywhere _ _ _ _ refl)) }
 
-pub returns-in_err-give_lock-in-Some-clause-carries : goal.returns-in_err-give_lock-in-Some-clause-carries
-returns-in_err-give_lock-in-Some-clause-carries g c =
-    let p = mind_of c.args.process.now in
-    let some : is_empty c.args.value.now ≡ false = search rules in
-    let usable = usable_then c.args.value.now c.in-Some.name (rw c.in-Some.is at c.in_ok-name.ensures) in
-    (search rules, on_err _ _ (given_out c.args.value.now p _ _ _ _ some usable.0 c.in_err-give_lock-in-Some.ensures.carries.1))
+pub returns-in_err-give_lock-in-Some : goal.returns-in_err-give_lock-in-Some
+returns-in_err-give_lock-in-Some g c = record {
+  carries = (
+      let p = mind_of c.args.run.now.process in
+      let some : is_empty c.args.value.now ≡ false = search rules in
+      let usable = usable_then c.args.value.now c.in-Some.name (rw c.in-Some.is at c.in_ok-name.ensures) in
+      (search rules, on_err _ _ (given_out c.args.value.now p _ _ _ _ some usable.0 c.in_err-give_lock-in-Some.ensures.carries.1)));
+}
 
-pub returns-in_ok-give_lock-in-Some-clause-carries : goal.returns-in_ok-give_lock-in-Some-clause-carries
-returns-in_ok-give_lock-in-Some-clause-carries g c =
-    let p = mind_of c.args.process.now in
-    let some : is_empty c.args.value.now ≡ false = search rules in
-    let usable = usable_then c.args.value.now c.in-Some.name (rw c.in-Some.is at c.in_ok-name.ensures) in
-    carried (and_then (give_named p.global p) (take_lock c.args.value.now)) (change_lock c.args.value.now p) _ _ _ _ _ _ (named_value c.args.value.now p some usable.0)
-    (given_then c.args.value.now p (mind_of c.give_lock.new.process) _ _ c.args.journal.now c.give_lock.new.journal c.take_lock.new.journal _ _ _ c.in_ok-give_lock-in-Some.ensures.carries.0 c.take_lock.ensures.carries)
+pub returns-in_ok-give_lock-in-Some : goal.returns-in_ok-give_lock-in-Some
+returns-in_ok-give_lock-in-Some g c = record {
+  carries = (
+      let p = mind_of c.args.run.now.process in
+      let some : is_empty c.args.value.now ≡ false = search rules in
+      let usable = usable_then c.args.value.now c.in-Some.name (rw c.in-Some.is at c.in_ok-name.ensures) in
+      carried (and_then (give_named p.global p) (take_lock c.args.value.now)) (change_lock c.args.value.now p) _ _ _ _ _ _ (named_value c.args.value.now p some usable.0)
+      (given_then c.args.value.now p (mind_of c.give_lock.new.run.process) _ _ c.args.run.now.journal c.give_lock.new.run.journal c.take_lock.new.run.journal _ _ _ c.in_ok-give_lock-in-Some.ensures.carries.0 c.take_lock.ensures.carries));
+}

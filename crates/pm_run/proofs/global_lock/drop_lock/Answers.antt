@@ -7,10 +7,12 @@ use Rattle.pm_meaning.specs.Turns.{GoesOn}
 use Rattle.pm_run.proofs.GlobalLemmas.{dropped}
 use Rattle.pm_run.proofs.global_lock.drop_lock.Goals as goal
 
-pub returns-in_err-give_lock-clause-carries : goal.returns-in_err-give_lock-clause-carries
-returns-in_err-give_lock-clause-carries g c =
-    let p = mind_of c.args.process.now in
-    (search rules, on_err _ _ (out_front (give_named p.global p) (λ q. Ends (GoesOn q)) _ _ _ _ c.in_err-give_lock.ensures.carries.1))
+pub returns-in_err-give_lock : goal.returns-in_err-give_lock
+returns-in_err-give_lock g c = record {
+  carries = (
+      let p = mind_of c.args.run.now.process in
+      (search rules, on_err _ _ (out_front (give_named p.global p) (λ q. Ends (GoesOn q)) _ _ _ _ c.in_err-give_lock.ensures.carries.1)));
+}
 
-pub returns-clause-carries : goal.returns-clause-carries
-returns-clause-carries g c = (dropped (mind_of c.args.process.now) (mind_of c.give_lock.new.process) _ _ _ _ c.in_ok-give_lock.ensures.carries.0, tt)
+pub returns : goal.returns
+returns g c = record { carries = (dropped (mind_of c.args.run.now.process) (mind_of c.give_lock.new.run.process) _ _ _ _ c.in_ok-give_lock.ensures.carries.0, tt) }

@@ -9,10 +9,10 @@ use Rattle.pm_run.proofs.LeaveLemmas.{free_given, held_given}
 use Rattle.pm_run.proofs.leaving.give_block_lock.Goals as goal
 
 pub returns-then-not-holds-clause-carries : goal.returns-then-not-holds-clause-carries
-returns-then-not-holds-clause-carries g c = (free_given c.args.name.now (mind_of c.args.process.now) _ _ (sym c.holds.ensures ∙ c.if-not-holds.true), tt)
+returns-then-not-holds-clause-carries g c = (free_given c.args.name.now (mind_of c.args.run.now.process) _ _ (sym c.holds.ensures ∙ c.if-not-holds.true), tt)
 
 pub returns-clause-carries : goal.returns-clause-carries
 returns-clause-carries g c =
-    let p = mind_of c.args.process.now in
+    let p = mind_of c.args.run.now.process in
     let name = c.args.name.now in
     carried (and_then (ask (Unlock name)) (after_giving name (without_lock name p))) (give_block_lock name p) _ _ _ _ _ _ (held_given name p (sym c.holds.ensures ∙ c.if-not-holds.false)) c.give_held.ensures.carries

@@ -8,10 +8,9 @@ use Rattle.pm_run.proofs.leaving.leave_blocks.Given as goal
 
 abbrev pub invariant-loop-open : goal.invariant-loop-open
 invariant-loop-open g l = record {
-  reaches : Reaches {X = Event} step (Leaving (all_locks l.fn.frame) l.fn.end (mind_of l.fn.process)) (Leaving (all_locks l.frame) l.fn.end (mind_of l.process))
-      l.fn.journal l.journal (g.D.Asks.told l.fn.outside) (g.D.Asks.told l.outside);
-  keeping : Keeping l.journal l.process.locks.names;
-  count : l.process.openings ≡ l.fn.process.openings;
+  reaches : Reaches {X = Event} step (Leaving (all_locks l.fn.frame) l.fn.end (mind_of l.fn.run.process)) (Leaving (all_locks l.frame) l.fn.end (mind_of l.run.process))
+      l.fn.run.journal l.run.journal (g.D.Asks.told l.fn.run.outside) (g.D.Asks.told l.run.outside);
+  count : l.run.process.openings ≡ l.fn.run.process.openings;
   left : left_in l.frame ≤ left_in l.fn.frame;
 }
 

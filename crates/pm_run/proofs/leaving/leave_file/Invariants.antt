@@ -8,10 +8,9 @@ use Rattle.pm_run.proofs.leaving.leave_file.Given as goal
 
 abbrev pub invariant-loop-open : goal.invariant-loop-open
 invariant-loop-open g l = record {
-  reaches : (items : List Item) → Reaches {X = Event} step (LeavingFile (block_locks l.fn.blocks.items) items (mind_of l.fn.process)) (LeavingFile (block_locks l.blocks.items) items (mind_of l.process))
-      l.fn.journal l.journal (g.D.Asks.told l.fn.outside) (g.D.Asks.told l.outside);
-  keeping : Keeping l.journal l.process.locks.names;
-  count : l.process.openings ≡ l.fn.process.openings;
+  reaches : (items : List Item) → Reaches {X = Event} step (LeavingFile (block_locks l.fn.blocks.items) items (mind_of l.fn.run.process)) (LeavingFile (block_locks l.blocks.items) items (mind_of l.run.process))
+      l.fn.run.journal l.run.journal (g.D.Asks.told l.fn.run.outside) (g.D.Asks.told l.run.outside);
+  count : l.run.process.openings ≡ l.fn.run.process.openings;
 }
 
 abbrev pub decreases-loop-open : goal.decreases-loop-open

@@ -8,9 +8,8 @@ use Rattle.pm_run.proofs.opening.open_first.Given as goal
 
 abbrev pub invariant-loop-name : goal.invariant-loop-name
 invariant-loop-name g l = record {
-  reaches : Reaches {X = Event} step (Opening (rule_of_opening l.fn.rule) l.fn.names.items (mind_of l.fn.process)) (Opening (rule_of_opening l.fn.rule) l.names.items (mind_of l.process)) l.fn.journal l.journal (g.D.Asks.told l.fn.outside) (g.D.Asks.told l.outside);
-  counted : l.fn.process.openings ≤ l.process.openings;
-  keeping : Keeping l.journal l.process.locks.names;
+  reaches : Reaches {X = Event} step (Opening (rule_of_opening l.fn.rule) l.fn.names.items (mind_of l.fn.run.process)) (Opening (rule_of_opening l.fn.rule) l.names.items (mind_of l.run.process)) l.fn.run.journal l.run.journal (g.D.Asks.told l.fn.run.outside) (g.D.Asks.told l.run.outside);
+  counted : l.fn.run.process.openings ≤ l.run.process.openings;
 }
 
 abbrev pub decreases-loop-name : goal.decreases-loop-name

@@ -7,31 +7,31 @@ use Rattle.pm_run.proofs.opening.read_one.Goals as goal
 
 pub returns-in_err-noted-clause-memory : goal.returns-in_err-noted-clause-memory
 returns-in_err-noted-clause-memory g c =
-    on_err _ _ (reading_wants_first (rule_of_opening c.args.rule) c.args.name (mind_of c.args.process.now) _ _)
+    on_err _ _ (reading_wants_first (rule_of_opening c.args.rule) c.args.name (mind_of c.args.run.now.process) _ _)
 
 pub returns-in_err-rc-clause-memory : goal.returns-in_err-rc-clause-memory
 returns-in_err-rc-clause-memory g c =
-    on_err _ _ (reading_out (rule_of_opening c.args.rule) c.args.name c.in_ok-noted.noted (mind_of c.args.process.now) _ _ _ _ c.in_ok-noted.ensures c.in_err-rc.ensures.memory)
+    on_err _ _ (reading_out (rule_of_opening c.args.rule) c.args.name c.in_ok-noted.noted (mind_of c.args.run.now.process) _ _ _ _ c.in_ok-noted.ensures c.in_err-rc.ensures.memory)
 
 pub returns-in_err-code-in-Some-clause-memory : goal.returns-in_err-code-in-Some-clause-memory
 returns-in_err-code-in-Some-clause-memory g c =
-    on_err _ _ (read_then_wants (rule_of_opening c.args.rule) c.args.name c.in_ok-noted.noted _ (mind_of c.args.process.now) _ _ _ _ c.in_ok-noted.ensures c.in_ok-rc.ensures.ok)
+    on_err _ _ (read_then_wants (rule_of_opening c.args.rule) c.args.name c.in_ok-noted.noted _ (mind_of c.args.run.now.process) _ _ _ _ c.in_ok-noted.ensures c.in_ok-rc.ensures.ok)
 
 pub returns-in_err-enter-in-Some-clause-memory : goal.returns-in_err-enter-in-Some-clause-memory
 returns-in_err-enter-in-Some-clause-memory g c =
-    on_err _ _ (read_then_wants (rule_of_opening c.args.rule) c.args.name c.in_ok-noted.noted _ (mind_of c.args.process.now) _ _ _ _ c.in_ok-noted.ensures c.in_ok-rc.ensures.ok)
+    on_err _ _ (read_then_wants (rule_of_opening c.args.rule) c.args.name c.in_ok-noted.noted _ (mind_of c.args.run.now.process) _ _ _ _ c.in_ok-noted.ensures c.in_ok-rc.ensures.ok)
 
 pub returns-in-Some-clause-reads : goal.returns-in-Some-clause-reads
 returns-in-Some-clause-reads g c =
-    reads_code (rule_of_opening c.args.rule) c.args.name c.in_ok-noted.noted _ (mind_of c.args.process.now) _ _ _ _ c.in_ok-noted.ensures c.in_ok-rc.ensures.ok
+    reads_code (rule_of_opening c.args.rule) c.args.name c.in_ok-noted.noted _ (mind_of c.args.run.now.process) _ _ _ _ c.in_ok-noted.ensures c.in_ok-rc.ensures.ok
     c.in-Some.rc c.as_slice.result.now c.in_ok-code-in-Some.code (mind_of c.enter.new.process) c.in-Some.is c.as_slice.ensures c.in_ok-code-in-Some.ensures c.in_ok-enter-in-Some.ensures.ok
 
 pub returns-clause-reads : goal.returns-clause-reads
 returns-clause-reads g c =
-    ok_map c.pass_over.result _ _ (λ tried h. reads_none (rule_of_opening c.args.rule) c.args.name c.in_ok-noted.noted _ (mind_of c.args.process.now) c.args.journal.now c.read.new.journal _ _ c.in_ok-noted.ensures c.in_ok-rc.ensures.ok
-    c.last_missing-missing.result tried _ _ c.in-None.is c.last_missing-missing.ensures h) c.pass_over.ensures.passes
+    rw c.pass_over.ensures.same (ok_map c.pass_over.result _ _ (λ tried h. reads_none (rule_of_opening c.args.rule) c.args.name c.in_ok-noted.noted _ (mind_of c.args.run.now.process) c.args.run.now.journal c.read.new.journal _ _ c.in_ok-noted.ensures c.in_ok-rc.ensures.ok
+    c.last_missing-missing.result tried _ _ c.in-None.is c.last_missing-missing.ensures h) c.pass_over.ensures.passes)
 
 pub returns-clause-memory : goal.returns-clause-memory
 returns-clause-memory g c =
-    err_map c.pass_over.result _ _ (λ h. reads_none_out (rule_of_opening c.args.rule) c.args.name c.in_ok-noted.noted _ (mind_of c.args.process.now) c.args.journal.now c.read.new.journal _ _ c.in_ok-noted.ensures c.in_ok-rc.ensures.ok
+    err_map c.pass_over.result _ _ (λ h. reads_none_out (rule_of_opening c.args.rule) c.args.name c.in_ok-noted.noted _ (mind_of c.args.run.now.process) c.args.run.now.journal c.read.new.journal _ _ c.in_ok-noted.ensures c.in_ok-rc.ensures.ok
     c.last_missing-missing.result _ _ c.in-None.is c.last_missing-missing.ensures h) c.pass_over.ensures.memory

@@ -16,8 +16,8 @@ returns-in-Ok-clause-walks g c =
     let place : c.len-frame.result ≡ length f.code.steps.items = search rules in
     let long : length f.code.steps.items ≤ c.len-frame.result = omega (arith, place) in
     let items = outer_items f.outer.items in
-    let start = LeavingFile (block_locks f.blocks.items) items (mind_of c.args.process.now) in (
-      subst (λ l. Reaches {X = Event} step start (Running l (mind_of c.leave_file.new.process)) c.args.journal.now c.leave_file.new.journal (g.D.Asks.told c.args.outside.now) (g.D.Asks.told c.leave_file.new.outside))
+    let start = LeavingFile (block_locks f.blocks.items) items (mind_of c.args.run.now.process) in (
+      subst (λ l. Reaches {X = Event} step start (Running l (mind_of c.leave_file.new.run.process)) c.args.run.now.journal c.leave_file.new.run.journal (g.D.Asks.told c.args.run.now.outside) (g.D.Asks.told c.leave_file.new.run.outside))
           (ended_items f after refl long c.in-Ok.ensures.empty refl) (c.in-Ok.ensures.walks items).0,
       tt,
     )
@@ -28,4 +28,4 @@ returns-in-Ok-clause-falls g c =
     let after = record f { place = c.len-frame.result; blocks = c.leave_file.new.blocks } in
     let place : c.len-frame.result ≡ length f.code.steps.items = search rules in
     let long : length f.code.steps.items ≤ c.len-frame.result = omega (arith, place) in
-    ended_falls f after c.args.process.now.openings c.leave_file.new.process.openings c.leave_file.ensures.count refl long c.in-Ok.ensures.empty refl
+    ended_falls f after c.args.run.now.process.openings c.leave_file.new.run.process.openings c.leave_file.ensures.count refl long c.in-Ok.ensures.empty refl

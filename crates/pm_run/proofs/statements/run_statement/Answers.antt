@@ -9,43 +9,43 @@ use Rattle.pm_run.proofs.statements.run_statement.Goals as goal
 pub returns-in-Assign-clause-carries : goal.returns-in-Assign-clause-carries
 returns-in-Assign-clause-carries g c =
     let h = rw (c.as_slice.ensures, c.as_slice-in-Assign.ensures) at c.assign_text.ensures.carries in
-    (ok_map _ _ _ (λ end k. by_step c.args.step.now _ (mind_of c.args.process.now) _ _ _ _ _ c.in-Assign.is k) h.0, err_map _ _ _ (λ k. by_step_out c.args.step.now _ (mind_of c.args.process.now) _ _ _ _ c.in-Assign.is k) h.1)
+    (ok_map _ _ _ (λ end k. by_step c.args.step.now _ (mind_of c.args.run.now.process) _ _ _ _ _ c.in-Assign.is k) h.0, err_map _ _ _ (λ k. by_step_out c.args.step.now _ (mind_of c.args.run.now.process) _ _ _ _ c.in-Assign.is k) h.1)
 
 pub returns-in-Unset-clause-carries : goal.returns-in-Unset-clause-carries
 returns-in-Unset-clause-carries g c =
     let h = rw c.as_slice-in-Unset.ensures at c.unset_variable.ensures.carries in
-    (ok_map _ _ _ (λ end k. by_step c.args.step.now _ (mind_of c.args.process.now) _ _ _ _ _ c.in-Unset.is k) h.0, err_map _ _ _ (λ k. by_step_out c.args.step.now _ (mind_of c.args.process.now) _ _ _ _ c.in-Unset.is k) h.1)
+    (ok_map _ _ _ (λ end k. by_step c.args.step.now _ (mind_of c.args.run.now.process) _ _ _ _ _ c.in-Unset.is k) h.0, err_map _ _ _ (λ k. by_step_out c.args.step.now _ (mind_of c.args.run.now.process) _ _ _ _ c.in-Unset.is k) h.1)
 
 pub returns-in_err-ended-in-Plain-clause-carries : goal.returns-in_err-ended-in-Plain-clause-carries
 returns-in_err-ended-in-Plain-clause-carries g c =
-    (search rules, on_err _ _ (by_step_out c.args.step.now _ (mind_of c.args.process.now) _ _ _ _ c.in-Plain.is c.in_err-ended-in-Plain.ensures.carries.1))
+    (search rules, on_err _ _ (by_step_out c.args.step.now _ (mind_of c.args.run.now.process) _ _ _ _ c.in-Plain.is c.in_err-ended-in-Plain.ensures.carries.1))
 
 pub returns-in_err-ended-in-Plain-clause-sure : goal.returns-in_err-ended-in-Plain-clause-sure
 returns-in_err-ended-in-Plain-clause-sure g c =
     let recipe = c.in-Plain.recipe in
-    on_err _ _ (recipe_may_out c.args.step.now recipe (mind_of c.args.process.now) c.args.journal.now c.run_recipe.new.journal c.in-Plain.is c.in_err-ended-in-Plain.ensures.sure)
+    on_err _ _ (recipe_may_out c.args.step.now recipe (mind_of c.args.run.now.process) c.args.run.now.journal c.run_recipe.new.run.journal c.in-Plain.is c.in_err-ended-in-Plain.ensures.sure)
 
 pub returns-in_ok-ended-in-Plain-clause-carries : goal.returns-in_ok-ended-in-Plain-clause-carries
 returns-in_ok-ended-in-Plain-clause-carries g c =
-    let q = mind_of c.run_recipe.new.process in
-    (plain_done c.args.step.now _ c.in_ok-ended-in-Plain.ended c.turned_of.result (mind_of c.args.process.now) q _ _ _ _ c.in-Plain.is (c.turned_of.ensures q) c.in_ok-ended-in-Plain.ensures.carries.0, tt)
+    let q = mind_of c.run_recipe.new.run.process in
+    (plain_done c.args.step.now _ c.in_ok-ended-in-Plain.ended c.turned_of.result (mind_of c.args.run.now.process) q _ _ _ _ c.in-Plain.is (c.turned_of.ensures q) c.in_ok-ended-in-Plain.ensures.carries.0, tt)
 
 pub returns-in-Defect-clause-carries : goal.returns-in-Defect-clause-carries
 returns-in-Defect-clause-carries g c =
     let h = rw c.as_slice-in-Defect.ensures at (c.turned_by.ensures _ _ _ _ _ _ c.skip_line.ensures.carries) in
-    (ok_map _ _ _ (λ end k. by_step c.args.step.now _ (mind_of c.args.process.now) _ _ _ _ _ c.in-Defect.is k) h.0, err_map _ _ _ (λ k. by_step_out c.args.step.now _ (mind_of c.args.process.now) _ _ _ _ c.in-Defect.is k) h.1)
+    (ok_map _ _ _ (λ end k. by_step c.args.step.now _ (mind_of c.args.run.now.process) _ _ _ _ _ c.in-Defect.is k) h.0, err_map _ _ _ (λ k. by_step_out c.args.step.now _ (mind_of c.args.run.now.process) _ _ _ _ c.in-Defect.is k) h.1)
 
 pub returns-in-Enter-clause-carries : goal.returns-in-Enter-clause-carries
-returns-in-Enter-clause-carries g c = (no_statement c.args.step.now _ (mind_of c.args.process.now) _ _ (ap flat_of c.in-Enter.is) refl, tt)
+returns-in-Enter-clause-carries g c = (no_statement c.args.step.now _ (mind_of c.args.run.now.process) _ _ (ap flat_of c.in-Enter.is) refl, tt)
 
 pub returns-in-Leave-clause-carries : goal.returns-in-Leave-clause-carries
-returns-in-Leave-clause-carries g c = (no_statement c.args.step.now _ (mind_of c.args.process.now) _ _ (ap flat_of c.in-Leave.is) refl, tt)
+returns-in-Leave-clause-carries g c = (no_statement c.args.step.now _ (mind_of c.args.run.now.process) _ _ (ap flat_of c.in-Leave.is) refl, tt)
 
 pub returns-in-Assign-clause-sure : goal.returns-in-Assign-clause-sure
-returns-in-Assign-clause-sure g c = on_err _ _ (assign_may_out c.args.step.now _ _ (mind_of c.args.process.now) c.args.journal.now c.assign_text.new.journal c.in-Assign.is)
+returns-in-Assign-clause-sure g c = on_err _ _ (assign_may_out c.args.step.now _ _ (mind_of c.args.run.now.process) c.args.run.now.journal c.assign_text.new.run.journal c.in-Assign.is)
 
 pub returns-in-Unset-clause-sure : goal.returns-in-Unset-clause-sure
-returns-in-Unset-clause-sure g c = on_err _ _ (unset_may_out c.args.step.now _ (mind_of c.args.process.now) c.args.journal.now c.unset_variable.new.journal c.in-Unset.is)
+returns-in-Unset-clause-sure g c = on_err _ _ (unset_may_out c.args.step.now _ (mind_of c.args.run.now.process) c.args.run.now.journal c.unset_variable.new.run.journal c.in-Unset.is)
 
 pub returns-in-Defect-clause-sure : goal.returns-in-Defect-clause-sure
-returns-in-Defect-clause-sure g c = on_err _ _ (defect_may_out c.args.step.now _ _ (mind_of c.args.process.now) c.args.journal.now c.skip_line.new.journal c.in-Defect.is)
+returns-in-Defect-clause-sure g c = on_err _ _ (defect_may_out c.args.step.now _ _ (mind_of c.args.run.now.process) c.args.run.now.journal c.skip_line.new.run.journal c.in-Defect.is)

@@ -12,8 +12,8 @@ returns-in_err-line-clause-carries g c =
 
 pub returns-in_err-tell-clause-carries : goal.returns-in_err-tell-clause-carries
 returns-in_err-tell-clause-carries g c =
-    (search rules, on_err _ _ (line_out (mind_of c.args.process.now) (skipped_line c.args.text.now) _ (GoesOn (mind_of c.args.process.now)) _ _ _ _ c.in_ok-line.ensures c.in_err-tell.ensures.carries.1))
+    (search rules, on_err _ _ (line_out (mind_of c.args.run.now.process) (skipped_line c.args.text.now) _ (GoesOn (mind_of c.args.run.now.process)) _ _ _ _ c.in_ok-line.ensures c.in_err-tell.ensures.carries.1))
 
 pub returns-clause-carries : goal.returns-clause-carries
 returns-clause-carries g c =
-    (line_told (mind_of c.args.process.now) (skipped_line c.args.text.now) _ (GoesOn (mind_of c.args.process.now)) _ _ _ _ c.in_ok-line.ensures c.in_ok-tell.ensures.carries.0, tt)
+    (line_told (mind_of c.args.run.now.process) (skipped_line c.args.text.now) _ (GoesOn (mind_of c.args.run.now.process)) _ _ _ _ c.in_ok-line.ensures c.in_ok-tell.ensures.carries.0, tt)

@@ -15,11 +15,11 @@ pub returns-in-None-clause-walks : goal.returns-in-None-clause-walks
 returns-in-None-clause-walks g c =
     let old = c.args.frame.now in
     let f = record old { blocks = c.pop_front.new.self } in
-    let p = mind_of c.args.process.now in
+    let p = mind_of c.args.run.now.process in
     let same : old.blocks.items ≡ c.pop_front.new.self.items = search rules in
     let none : f.blocks.items ≡ [] = search rules in
     let items : items_of f ≡ items_of old = ap (λ l. weave (lists_of (drop old.place (steps_of old))) l (outer_items old.outer.items)) (sym same) in (
-      ok_map c.come_back.result _ _ (λ s h. subst (λ l. Reaches {X = Event} step (Running l p) (stands s c.come_back.new.frame (mind_of c.come_back.new.process)) c.args.journal.now c.args.journal.now (g.D.Asks.told c.args.outside.now) (g.D.Asks.told c.args.outside.now))
+      ok_map c.come_back.result _ _ (λ s h. subst (λ l. Reaches {X = Event} step (Running l p) (stands s c.come_back.new.frame (mind_of c.come_back.new.process)) c.args.run.now.journal c.args.run.now.journal (g.D.Asks.told c.args.run.now.outside) (g.D.Asks.told c.args.run.now.outside))
           items (back_reaches s f c.come_back.new.frame c.args.next p (mind_of c.come_back.new.process) _ _ c.requires.ends none h)) c.come_back.ensures.back,
       on_err c.come_back.result _ (back_wants old p _ _),
     )
@@ -31,20 +31,20 @@ returns-in-None-clause-falls g c =
     let same : old.blocks.items ≡ c.pop_front.new.self.items = search rules in
     let none : f.blocks.items ≡ [] = search rules in
     let left : left_in f ≡ left_in old = ap (λ l. 2 * (length old.code.steps.items - old.place) + length l + left_outside old.outer.items) (sym same) in
-    ok_map c.come_back.result _ _ (λ s h. over_falls c.args.process.now.openings c.come_back.new.process.openings (less_by s) old c.come_back.new.frame c.come_back.ensures.count
-    (subst (λ n. left_in c.come_back.new.frame + less_by s ≤ n) left (back_falls s f c.come_back.new.frame (mind_of c.args.process.now) (mind_of c.come_back.new.process) none h))) c.come_back.ensures.back
+    ok_map c.come_back.result _ _ (λ s h. over_falls c.args.run.now.process.openings c.come_back.new.process.openings (less_by s) old c.come_back.new.frame c.come_back.ensures.count
+    (subst (λ n. left_in c.come_back.new.frame + less_by s ≤ n) left (back_falls s f c.come_back.new.frame (mind_of c.args.run.now.process) (mind_of c.come_back.new.process) none h))) c.come_back.ensures.back
 
 pub returns-in_err-give_maybe-in-Some-clause-walks : goal.returns-in_err-give_maybe-in-Some-clause-walks
 returns-in_err-give_maybe-in-Some-clause-walks g c =
-    (search rules, on_err _ _ (block_wants c.args.frame.now c.in-Some.open c.pop_front.new.self.items c.args.next (mind_of c.args.process.now) c.requires.ends c.in-Some.ensures.items _ _ _ _ c.in_err-give_maybe-in-Some.ensures.carries.1))
+    (search rules, on_err _ _ (block_wants c.args.frame.now c.in-Some.open c.pop_front.new.self.items c.args.next (mind_of c.args.run.now.process) c.requires.ends c.in-Some.ensures.items _ _ _ _ c.in_err-give_maybe-in-Some.ensures.carries.1))
 
 pub returns-in_ok-give_maybe-in-Some-clause-walks : goal.returns-in_ok-give_maybe-in-Some-clause-walks
 returns-in_ok-give_maybe-in-Some-clause-walks g c =
-    let q = mind_of c.give_maybe.new.process in (
-      block_reaches c.args.frame.now c.in-Some.open c.pop_front.new.self.items c.args.next (mind_of c.args.process.now) c.requires.ends c.in-Some.ensures.items (record c.args.frame.now { place = c.args.next; blocks = c.pop_front.new.self }) q (with_chain c.succeed-process.result q) _ _ _ _ refl refl refl refl (ap (λ chain. with_chain chain q) c.succeed-process.ensures) c.in_ok-give_maybe-in-Some.ensures.carries.0,
+    let q = mind_of c.give_maybe.new.run.process in (
+      block_reaches c.args.frame.now c.in-Some.open c.pop_front.new.self.items c.args.next (mind_of c.args.run.now.process) c.requires.ends c.in-Some.ensures.items (record c.args.frame.now { place = c.args.next; blocks = c.pop_front.new.self }) q (with_chain c.succeed-run.result q) _ _ _ _ refl refl refl refl (ap (λ chain. with_chain chain q) c.succeed-run.ensures) c.in_ok-give_maybe-in-Some.ensures.carries.0,
       tt,
     )
 
 pub returns-in-None-clause-behind : goal.returns-in-None-clause-behind
 returns-in-None-clause-behind g c =
-    ok_map c.come_back.result _ _ (λ s h. back_behind s (record c.args.frame.now { blocks = c.pop_front.new.self }) c.come_back.new.frame (mind_of c.args.process.now) (mind_of c.come_back.new.process) h) c.come_back.ensures.back
+    ok_map c.come_back.result _ _ (λ s h. back_behind s (record c.args.frame.now { blocks = c.pop_front.new.self }) c.come_back.new.frame (mind_of c.args.run.now.process) (mind_of c.come_back.new.process) h) c.come_back.ensures.back
