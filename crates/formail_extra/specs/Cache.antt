@@ -2,15 +2,19 @@
 use Rattle.std.specs.Prelude.{◌≤◌, ℕ, Bool, true, false, ◌&&◌, ◌||◌, not, nat_eq, nat_le, Option, Some, None, List, [], ◌∷◌, ◌++◌, take, length, codes, bytes_eq, if◌then◌else◌}
 use Rattle.std.specs.List.{ends_with, list_any}
 use Rattle.pm_message.specs.Lines.{lines}
-use Rattle.formail_extra.specs.Seen.{without_newline}
+use Rattle.formail_extra.specs.Seen.{without_newline, longest_id}
 
 -- the line is whole, and is this identifier
 abbrev pub is_line_of : List ℕ → List ℕ → Bool
 is_line_of id line = ends_with nat_eq line (codes "\n") && bytes_eq (without_newline line) id
 
+-- so many bytes of a cache are looked through
+abbrev pub longest_front : ℕ
+longest_front = 2097152
+
 -- the identifier was seen: it is a whole line of the first 2,097,152 bytes of the cache
 abbrev pub is_seen : List ℕ → List ℕ → Bool
-is_seen bytes id = list_any (is_line_of id) (lines (take 2_097_152 bytes))
+is_seen bytes id = list_any (is_line_of id) (lines (take longest_front bytes))
 
 -- what stays of the cache before one identifier more: nothing if it has so many bytes
 abbrev pub left_of : ℕ → List ℕ → List ℕ
@@ -60,4 +64,4 @@ marks_of most bytes (id ∷ ids) = mark_before (is_kept bytes id) (marks_of most
 -- an identifier has at most 4,096 bytes
 abbrev pub IsShortId : Option (List ℕ) → Type 0
 IsShortId None = Unit {0}
-IsShortId (Some id) = length id ≤ 4096
+IsShortId (Some id) = length id ≤ longest_id

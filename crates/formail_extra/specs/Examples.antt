@@ -1,5 +1,5 @@
 -- Short mails, what they are remembered by and whom a reply to them goes to, and short caches.
-use Rattle.std.specs.Prelude.{◌≡◌, ℕ, true, false, Option, Some, None, List, [], ◌∷◌, ◌++◌, codes}
+use Rattle.std.specs.Prelude.{◌≡◌, ℕ, true, false, Option, Some, None, List, [], ◌∷◌, ◌++◌, ◌*◌, codes}
 use Rattle.pm_host.specs.declared.answers.Removed.TheVariants.{Removed as RemovedDone, Absent, Failed as RemoveFailed}
 use Rattle.pm_journal.specs.declared.appending.AppendEnd.TheVariants.{Done as EndDone, Undone as EndUndone, Torn as EndTorn, IsFolder as EndFolder, Raced as EndRaced}
 use Rattle.pm_message.specs.Split.{split_of}
@@ -7,9 +7,9 @@ use Rattle.formail_edit.specs.Examples.{plain, put}
 use Rattle.formail_edit.specs.declared.edits.Edits.{Edits}
 use Rattle.formail_edit.specs.declared.edits.PutKind.TheVariants.{Old, Replace, IfNone, Always}
 use Rattle.formail_extra.specs.Adding.{written_of}
-use Rattle.formail_extra.specs.Cache.{is_seen, left_of, addition_to, next_of, is_kept, is_new, cache_behind, marks_of}
+use Rattle.formail_extra.specs.Cache.{is_seen, longest_front, left_of, addition_to, next_of, is_kept, is_new, cache_behind, marks_of}
 use Rattle.formail_extra.specs.Reply.{recipient, envelope_of, reply_of}
-use Rattle.formail_extra.specs.Seen.{line_of, identifier_of}
+use Rattle.formail_extra.specs.Seen.{line_of, identifier_of, longest_id}
 use Rattle.formail_extra.specs.Stepping.{cache_at, cache_rule, end_of, given_back, step_end}
 use Rattle.formail_extra.specs.Tree.{part_of}
 use Rattle.formail_extra.specs.declared.adding.Written.TheVariants.{Done, IsFolder, Raced, Failed}
@@ -73,6 +73,8 @@ pub record Examples : Type 0 where
   pub first_is_empty : id (codes "Message-ID: \nMessage-ID: <a@x>\n\n") ≡ None
   pub longer_name : id (codes "X-Message-ID: <a@x>\nMessage-ID : <a@x>\n\n") ≡ None
   pub in_the_body : id (codes "A: 1\n\nMessage-ID: <a@x>\n") ≡ None
+  -- of which 4,096 bytes count
+  pub most_of_identifier : longest_id ≡ 4 * 1024
   -- whom a reply goes to: the first of these that is there, `Return-Path:`, the line `From `, `Reply-To:` and `From:`
   pub by_path : to (line ∷ author ∷ answers ∷ path ∷ []) ≡ codes "r@x"
   pub by_line : to (line ∷ author ∷ answers ∷ []) ≡ codes "e@x"
@@ -140,12 +142,13 @@ pub record Examples : Type 0 where
   pub body : reply (record plain { with_body = true }) mail ≡ ending [] ++ codes ">From here\n"
   pub body_as_it_is : reply (record plain { with_body = true; keep_body = true }) mail
       ≡ ending [] ++ codes "From here\n"
-  -- an identifier was seen where it is a whole line of the cache
+  -- an identifier was seen where it is a whole line of the cache, in its first 2,097,152 bytes
   pub seen : is_seen has_a a ≡ true
   pub seen_later : is_seen (codes "<b@x>\n<a@x>\n") a ≡ true
   pub seen_without_newline : is_seen a a ≡ false
   pub seen_in_part : is_seen (codes "<a@x> b\n a@x\n") a ≡ false
   pub other_case : is_seen (codes "<A@x>\n") a ≡ false
+  pub most_of_cache : longest_front ≡ 2 * 1024 * 1024
   pub empty_cache : is_seen [] a ≡ false
   -- a mail without an identifier is kept, and isn't new
   pub new_is_kept : is_kept has_a (Some b) ≡ true

@@ -33,6 +33,10 @@ abbrev pub line_in : List ℕ → List (List ℕ) → Option (List ℕ)
 line_in name texts =
     option_and_then (λ content. unless_empty (line_of content)) (first_content name (keyed true texts))
 
+-- so many bytes of an identifier count
+abbrev pub longest_id : ℕ
+longest_id = 4096
+
 -- the identifier of a mail: at most 4,096 bytes of its first `Message-ID:`
 abbrev pub identifier_of : Message → Option (List ℕ)
-identifier_of message = option_map (take 4_096) (line_in (codes "Message-ID:") (texts_of message.head))
+identifier_of message = option_map (take longest_id) (line_in (codes "Message-ID:") (texts_of message.head))

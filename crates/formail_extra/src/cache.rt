@@ -4,6 +4,7 @@ ghost use Rattle.std.specs.List.{list_any};
 ghost use Rattle.bstr.specs.Text.{lines_of};
 ghost use Rattle.formail_extra.specs.Cache.{is_line_of, is_seen, line_end_of, addition_to, is_kept};
 
+use crate::reading::MOST;
 use crate::seen::unended;
 use bstr::ByteSlice;
 use pm_bytes::Blob;
@@ -61,7 +62,7 @@ fn front(text: &[u8], most: usize) -> &[u8]
 fn was_seen(bytes: &[u8], id: &[u8]) -> bool
     ensures { result ≡ is_seen bytes.now id.now }
 {
-    has_line(front(bytes, 2_097_152), id)
+    has_line(front(bytes, MOST), id)
 }
 
 // Adds bytes for which there is room.
