@@ -7,6 +7,7 @@ mod conditions;
 mod counting;
 mod holding;
 mod judging;
+mod laws;
 mod leads;
 mod scoring;
 mod searching;
@@ -14,6 +15,7 @@ mod sizes;
 
 pub use holding::{Verdict, conditions_hold, holds};
 pub use judging::{exited, has_weight, judge_one, question_of, test};
+pub use laws::examples;
 pub use leads::read_lead;
 pub use scoring::{end_of_all, note_score};
 pub use searching::program_input;
