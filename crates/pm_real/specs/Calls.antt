@@ -3,6 +3,10 @@ use Rattle.std.specs.Prelude.{◌≡◌, ◌⊎◌, ℕ, List, Option, Some, Non
 use Rattle.std.specs.Io.KnownBytes.{Appends}
 use Rattle.pm_host.specs.declared.answers.Cut.{Cut}
 use Rattle.pm_host.specs.declared.answers.Cut.TheVariants.{Cut as WasCut, Failed as CutFailed}
+use Rattle.pm_host.specs.declared.answers.Got.{Got}
+use Rattle.pm_host.specs.declared.answers.Got.TheVariants.{Got as GotSome, Failed as GotFailed}
+use Rattle.pm_host.specs.declared.answers.Made.{Made}
+use Rattle.pm_host.specs.declared.answers.Made.TheVariants.{Made as MadeNew}
 use Rattle.pm_host.specs.declared.answers.Removed.{Removed}
 use Rattle.pm_host.specs.declared.answers.Removed.TheVariants.{Removed as RemovedIt, Absent, Failed as RemoveFailed}
 use Rattle.pm_host.specs.declared.answers.Took.{Took}
@@ -56,6 +60,15 @@ IsEmptied RemoveFailed (Some before) (Some now) = (now ≡ before) ⊎ IsCut 0 b
 IsEmptied RemoveFailed None None = Unit {0}
 IsEmptied answer before now = ⊥
 
+-- a file was made by this name, by the answer of a host; after any other answer none is open
+abbrev pub IsMadeBy : {F : Type 0} → Made → List ℕ → Option (Opened F) → Type 0
+IsMadeBy MadeNew name opened = IsMade name (state_of opened)
+IsMadeBy other name opened = opened ≡ None
+
+-- a sync changes nothing of what is known of the file
+abbrev pub Stays : FileView → FileView → Type 0
+Stays before now = now ≡ before
+
 -- an append by this name
 abbrev pub Adds : List ℕ → Option ℕ → Option FileView → Option FileView → Type 0
 Adds name (Some count) before now = IsUsedBy name Appending (IsAfterAppend (Some count)) before now
@@ -70,6 +83,11 @@ AddedTo contents bytes before now = ⊥
 abbrev pub IsCutBy : Cut → ℕ → FileView → FileView → Type 0
 IsCutBy WasCut len before now = IsCut len before now
 IsCutBy CutFailed len before now = (now ≡ before) ⊎ IsCut len before now
+
+-- how many bytes came
+abbrev pub came_of : Got → Option ℕ
+came_of (GotSome count) = Some count
+came_of GotFailed = None
 
 -- how many bytes were taken
 abbrev pub count_of : Took → Option ℕ

@@ -1,13 +1,15 @@
 //! The files, the clock and the children of the machine.
-ghost use Rattle.std.specs.Prelude.{◌≡◌, ◌≤◌, ◌<◌, None, true, false, length, IfOk};
+ghost use Rattle.std.specs.Prelude.{◌≡◌, ◌≤◌, ◌<◌, None, true, false, length, IfOk, IsSome};
+ghost use Rattle.pm_host.specs.Answers.{read_answer, IsWithin};
 ghost use Rattle.pm_host.specs.Told.{Rose, Makes};
 ghost use Rattle.pm_host.specs.declared.calls.Call.TheVariants as call;
 ghost use Rattle.pm_host.specs.declared.calls.Answer.TheVariants as answer;
 ghost use Rattle.pm_host.specs.declared.answers.Child.TheVariants.{NoChild};
 ghost use Rattle.pm_real.specs.Quiet.{quiet_host};
 ghost use Rattle.pm_real.specs.Kept.{is_open_target};
-ghost use Rattle.pm_real.specs.Calls.{state_of, count_of, Adds, IsUsed, IsCutBy, IsEmptied};
-ghost use Rattle.pm_real.specs.declared.mode.Mode.TheVariants.{Appending};
+ghost use Rattle.pm_real.specs.Calls.{state_of, came_of, count_of, Adds, IsUsed, IsCutBy, IsEmptied};
+ghost use Rattle.pm_real.specs.Calls.{IsAfterRead, IsMadeBy, Stays};
+ghost use Rattle.pm_real.specs.declared.mode.Mode.TheVariants.{Reading, Appending};
 
 use crate::child::Running;
 use crate::kept_file::KeptFile;
@@ -153,7 +155,15 @@ where
         looked
     }
 
-    fn read(&mut self, name: &str, at: u64, room: &mut [u8]) -> Got {
+    fn read(&mut self, name: &str, at: u64, room: &mut [u8]) -> Got
+        requires { 0 < length room.old }
+        ensures made { Makes (call.Read name.now at (length room.old)) (read_answer result room.new)
+            (quiet_host self.old.faults self.old.child) (quiet_host self.new.faults self.new.child) }
+        ensures within { IsWithin result (length room.old) }
+        ensures kept { IsUsed name.now Reading (IsAfterRead (came_of result)) (state_of self.old.kept.opened)
+            (state_of self.new.kept.opened) }
+        ensures open { IsSome (came_of result) → IsSome self.new.kept.opened }
+    {
         match self.kept.read(&self.rt, self.alloc, name, at, room) {
             Some(count) => Got::Got(count),
             None => {
@@ -163,7 +173,11 @@ where
         }
     }
 
-    fn create(&mut self, name: &str) -> Made {
+    fn create(&mut self, name: &str) -> Made
+        ensures made { Makes (call.Create name.now) (answer.Create result) (quiet_host self.old.faults self.old.child)
+            (quiet_host self.new.faults self.new.child) }
+        ensures kept { IsMadeBy result name.now self.new.kept.opened }
+    {
         match self.kept.create(&self.rt, self.alloc, name) {
             Ok(()) => Made::Made,
             Err(error) if error.kind() == ErrorKind::AlreadyExists => Made::Exists,
@@ -192,7 +206,13 @@ where
         }
     }
 
-    fn sync(&mut self, name: &str) -> Synced {
+    fn sync(&mut self, name: &str) -> Synced
+        ensures made { Makes (call.Sync name.now) (answer.Sync result) (quiet_host self.old.faults self.old.child)
+            (quiet_host self.new.faults self.new.child) }
+        ensures kept { IsUsed name.now Appending Stays (state_of self.old.kept.opened)
+            (state_of self.new.kept.opened) }
+        ensures open { result ≡ Synced.Synced → IsSome self.new.kept.opened }
+    {
         match self.kept.sync(&self.rt, self.alloc, name) {
             Ok(()) => Synced::Synced,
             Err(_) => {

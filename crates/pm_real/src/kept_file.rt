@@ -1,10 +1,10 @@
 //! The file that was opened last. It is kept open for the calls that follow on the same name, so that all of an append
 //! goes to one file, also where another one is put at its name meanwhile.
-ghost use Rattle.std.specs.Prelude.{◌≡◌, ◌≤◌, ◌<◌, ◌⊎◌, true, None, Some, length, take, IfSome, IfOk, IsOk, IsErr};
+ghost use Rattle.std.specs.Prelude.{◌≡◌, ◌≤◌, ◌<◌, ◌⊎◌, true, None, Some, length, take, IfSome, IfOk, IsOk, IsErr, IsSome};
 ghost use Rattle.std.specs.Prelude.{MatchResult};
 ghost use Rattle.pm_real.specs.declared.mode.Mode.TheVariants.{Reading, Appending};
 ghost use Rattle.pm_real.specs.Kept.{just_opened, is_open, in_use, is_open_target, made_target};
-ghost use Rattle.pm_real.specs.Calls.{state_of, IsAfterRead, IsAfterCut, IsEmptied, IsMade, IsUsed, Adds, AddedTo};
+ghost use Rattle.pm_real.specs.Calls.{state_of, IsAfterRead, IsAfterCut, IsEmptied, IsMade, IsUsed, Adds, AddedTo, Stays};
 
 use crate::limit::SizeLimit;
 use crate::mode::Mode;
@@ -220,6 +220,7 @@ impl<F: Read + Write + OpenFile + FileExt + Drop> KeptFile<F> {
         ensures within { IfSome result (λ count. count ≤ length room.new) }
         ensures kept { IsUsed name.now Reading (IsAfterRead result) (state_of self.old.opened)
             (state_of self.new.opened) }
+        ensures open { IsSome result → IsSome self.new.opened }
     {
         if self.use_file(rt, alloc, name, Mode::Reading).is_err() {
             return None;
@@ -257,8 +258,8 @@ impl<F: Read + Write + OpenFile + FileExt + Drop> KeptFile<F> {
 
     /// Syncs the file to disk.
     pub fn sync<R: Files<File = F>>(&mut self, rt: &R, alloc: Global, name: &str) -> io::Result<()>
-        ensures { IsUsed name.now Appending (λ before now. now ≡ before) (state_of self.old.opened)
-            (state_of self.new.opened) }
+        ensures kept { IsUsed name.now Appending Stays (state_of self.old.opened) (state_of self.new.opened) }
+        ensures open { IsOk result → IsSome self.new.opened }
     {
         self.use_file(rt, alloc, name, Mode::Appending)?;
         match &self.opened {
