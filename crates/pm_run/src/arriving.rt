@@ -5,14 +5,11 @@ ghost use Rattle.pm_bytes.specs.Name.{has_zero};
 ghost use Rattle.pm_journal.specs.Executed.{Carries};
 ghost use Rattle.pm_journal.specs.Held.{Keeping};
 ghost use Rattle.pm_journal.specs.Walking.{Go};
-ghost use Rattle.pm_meaning.specs.Delivering.{is_without as without_names};
+ghost use Rattle.pm_meaning.specs.Delivering;
 ghost use Rattle.pm_meaning.specs.FirstValues.{home_folder};
 ghost use Rattle.pm_meaning.specs.Minds.{mind_of};
 ghost use Rattle.pm_meaning.specs.Running.{Event, Arrived, Setting, step};
-ghost use Rattle.pm_meaning.specs.Running.{set_by_word as word_set, home_by as home_behind};
-ghost use Rattle.pm_meaning.specs.Running.{rcfiles_of as rcfiles_tried};
-ghost use Rattle.pm_meaning.specs.Running.{sets_folder as folder_set, named_rcfile as rcfile_named};
-ghost use Rattle.pm_meaning.specs.Running.{in_home as home_joined};
+ghost use Rattle.pm_meaning.specs.Running;
 ghost use Rattle.pm_meaning.specs.declared.command_line.CommandLine.{CommandLine as Words};
 ghost use Rattle.pm_run.specs.Opening.{OpensFrom};
 ghost use Rattle.pm_run.specs.RunningOut.{MayRunOut, RunsOut};
@@ -41,7 +38,7 @@ pub fn arrive<D: Effects>(
     journal: &mut Journal,
 ) -> Result<Process, Memory>
     requires keeping { Keeping journal.old [] }
-    ensures carries { let home = home_behind line.now.values (home_folder env.now) in
+    ensures carries { let home = Running.home_by line.now.values (home_folder env.now) in
         Carries (step (Arrived line.now env.now bytes))
         (λ process. Go (Setting line.now.values line.now home (mind_of process)))
         result journal.old journal.new (D.told outside.old) (D.told outside.new) }
@@ -64,10 +61,10 @@ pub fn begin_rcfiles<D: Effects>(
     line: &CommandLine,
     env: &Environ,
 ) -> Result<Opened, Memory>
-    ensures opens { let home = home_behind line.now.values (home_folder env.now) in IfOk result (λ opened. OpensFrom
+    ensures opens { let home = Running.home_by line.now.values (home_folder env.now) in IfOk result (λ opened. OpensFrom
         (Setting line.now.values line.now home (mind_of run.old.process)) opened (mind_of run.new.process)
         run.old.journal run.new.journal (D.told run.old.outside) (D.told run.new.outside)) }
-    ensures memory { let home = home_behind line.now.values (home_folder env.now) in
+    ensures memory { let home = Running.home_by line.now.values (home_folder env.now) in
         OnErr result (RunsOut {X = Event} step MayRunOut
         (Setting line.now.values line.now home (mind_of run.old.process))
         run.old.journal run.new.journal (D.told run.old.outside) (D.told run.new.outside)) }
@@ -96,7 +93,7 @@ fn set_words<D: Effects>(alloc: Global, run: &mut Run<D>, values: &[Pair]) -> Re
 
 // A word that sets a variable names no other rcfile and no other host.
 fn set_by_word<D: Effects>(alloc: Global, run: &mut Run<D>, word: &Pair) -> Result<Turned, Memory>
-    ensures carries { Carries (word_set word.now (mind_of run.old.process))
+    ensures carries { Carries (Running.set_by_word word.now (mind_of run.old.process))
         (λ turned. turn_in turned (mind_of run.new.process)) result
         run.old.journal run.new.journal (D.told run.old.outside) (D.told run.new.outside) }
 {
@@ -128,7 +125,7 @@ fn is_host(name: &[u8]) -> bool
 
 // Whether a word sets MAILDIR.
 fn sets_folder(values: &[Pair]) -> bool
-    ensures { result ≡ folder_set values.now }
+    ensures { result ≡ Running.sets_folder values.now }
 {
     values.iter().any(|value| value.name.as_str().as_bytes() == b"MAILDIR".as_slice())
 }
@@ -136,7 +133,7 @@ fn sets_folder(values: &[Pair]) -> bool
 // The home folder after these words.
 fn home_by<'a>(values: &'a [Pair], home: &'a str) -> &'a str
     requires usable { has_zero home.now ≡ false }
-    ensures same { result.now ≡ home_behind values.now home.now }
+    ensures same { result.now ≡ Running.home_by values.now home.now }
     ensures usable { has_zero result.now ≡ false }
 {
     let mut found = home;
@@ -162,7 +159,7 @@ fn home_of<'a>(word: &'a Pair, home: &'a str) -> &'a str
 // The rcfiles that are tried; without a word for one that of the home folder.
 fn rcfiles_of(alloc: Global, line: &CommandLine, home: &str) -> Result<VecDeque<Name>, Memory>
     requires usable { has_zero home.now ≡ false }
-    ensures { IfOk result (λ names. names.items ≡ rcfiles_tried line.now home.now) }
+    ensures { IfOk result (λ names. names.items ≡ Running.rcfiles_of line.now home.now) }
 {
     if is_without(&line.rcfiles) {
         return own_rcfile(alloc, home);
@@ -176,7 +173,7 @@ fn rcfiles_of(alloc: Global, line: &CommandLine, home: &str) -> Result<VecDeque<
 
 // Whether there is no name.
 fn is_without(names: &Names) -> bool
-    ensures { result ≡ without_names names.now }
+    ensures { result ≡ Delivering.is_without names.now }
 {
     names.as_slice().is_empty()
 }
@@ -184,7 +181,7 @@ fn is_without(names: &Names) -> bool
 // The rcfile of the home folder.
 fn own_rcfile(alloc: Global, home: &str) -> Result<VecDeque<Name>, Memory>
     requires usable { has_zero home.now ≡ false }
-    ensures { IfOk result (λ names. names.items ≡ home_joined home.now (codes ".procmailrc") ∷ []) }
+    ensures { IfOk result (λ names. names.items ≡ Running.in_home home.now (codes ".procmailrc") ∷ []) }
 {
     let mut names = VecDeque::new(alloc);
     names.push_back(in_home(alloc, home, ".procmailrc")?)?;
@@ -194,7 +191,7 @@ fn own_rcfile(alloc: Global, home: &str) -> Result<VecDeque<Name>, Memory>
 // The rcfile of this word.
 fn named_rcfile(alloc: Global, filter: bool, home: &str, word: &Name) -> Result<Name, Memory>
     requires usable { has_zero home.now ≡ false }
-    ensures { IfOk result (λ name. name ≡ rcfile_named filter home.now word.now) }
+    ensures { IfOk result (λ name. name ≡ Running.named_rcfile filter home.now word.now) }
 {
     let bytes = word.as_str().as_bytes();
     if filter || bytes.starts_with(b"/") || bytes.starts_with(b"./") {
@@ -207,7 +204,7 @@ fn named_rcfile(alloc: Global, filter: bool, home: &str, word: &Name) -> Result<
 fn in_home(alloc: Global, home: &str, word: &str) -> Result<Name, Memory>
     requires usable { has_zero home.now ≡ false }
     requires word { has_zero word.now ≡ false }
-    ensures { IfOk result (λ name. name ≡ home_joined home.now word.now) }
+    ensures { IfOk result (λ name. name ≡ Running.in_home home.now word.now) }
 {
     let mut text = String::from_str(alloc, home)?;
     text.push_str("/")?;

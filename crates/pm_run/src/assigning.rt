@@ -3,11 +3,9 @@ ghost use Rattle.std.specs.Prelude.{◌≡◌, bytes_eq, codes, length};
 ghost use Rattle.pm_journal.specs.Executed.{Carries};
 ghost use Rattle.pm_journal.specs.Plan.{and_then, ask};
 ghost use Rattle.pm_journal.specs.declared.acts.Act.TheVariants.{Probe};
-ghost use Rattle.pm_meaning.specs.Assigning.{probed, change_folder, change_host as host_changed};
-ghost use Rattle.pm_meaning.specs.Assigning.{change_other as other_changed, shift_arguments as arguments_shifted};
+ghost use Rattle.pm_meaning.specs.Assigning.{probed, change_folder};
+ghost use Rattle.pm_meaning.specs.Assigning;
 ghost use Rattle.pm_meaning.specs.Assigning.{assigned, assign, assign_with, unset};
-ghost use Rattle.pm_meaning.specs.Assigning.{change_rcfile as rcfile_changed, include_rcfile as rcfile_included};
-ghost use Rattle.pm_meaning.specs.Assigning.{switch_rcfile as rcfile_switched};
 ghost use Rattle.pm_meaning.specs.Minds.{mind_of};
 ghost use Rattle.pm_meaning.specs.Turns.{GoesOn, say_then};
 ghost use Rattle.pm_subst.specs.Commands.{commands_in};
@@ -105,7 +103,7 @@ fn change_other<D: Effects>(
     name: &[u8],
     value: &[u8],
 ) -> Result<Turned, Memory>
-    ensures carries { Carries (other_changed name.now value.now (mind_of run.old.process))
+    ensures carries { Carries (Assigning.change_other name.now value.now (mind_of run.old.process))
         (λ turned. turn_in turned (mind_of run.new.process)) result
         run.old.journal run.new.journal (D.told run.old.outside) (D.told run.new.outside) }
 {
@@ -139,7 +137,7 @@ fn log_value<D: Effects>(alloc: Global, run: &mut Run<D>, value: &[u8]) -> Resul
 
 // SHIFT got this value: without a number nothing is dropped.
 fn shift_arguments(value: &[u8], process: &mut Process)
-    ensures shifted { mind_of process.new ≡ arguments_shifted value.now (mind_of process.old) }
+    ensures shifted { mind_of process.new ≡ Assigning.shift_arguments value.now (mind_of process.old) }
     ensures locks { process.new.locks ≡ process.old.locks }
 {
     if let Some(count) = read_count(value) {
@@ -168,7 +166,7 @@ fn change_rcfile<D: Effects>(
     name: &[u8],
     value: &[u8],
 ) -> Result<Turned, Memory>
-    ensures carries { Carries (rcfile_changed name.now value.now (mind_of run.old.process))
+    ensures carries { Carries (Assigning.change_rcfile name.now value.now (mind_of run.old.process))
         (λ turned. turn_in turned (mind_of run.new.process)) result
         run.old.journal run.new.journal (D.told run.old.outside) (D.told run.new.outside) }
     ensures same { run.new.process ≡ run.old.process }
@@ -187,7 +185,7 @@ fn change_rcfile<D: Effects>(
 
 // HOST got this value.
 fn change_host<D: Effects>(alloc: Global, run: &mut Run<D>, value: &[u8]) -> Result<Turned, Memory>
-    ensures carries { Carries (host_changed value.now (mind_of run.old.process))
+    ensures carries { Carries (Assigning.change_host value.now (mind_of run.old.process))
         (λ turned. turn_in turned (mind_of run.new.process)) result
         run.old.journal run.new.journal (D.told run.old.outside) (D.told run.new.outside) }
     ensures same { run.new.process ≡ run.old.process }
@@ -212,7 +210,7 @@ fn include_rcfile<D: Effects>(
     run: &mut Run<D>,
     value: &[u8],
 ) -> Result<Turned, Memory>
-    ensures carries { Carries (rcfile_included value.now (mind_of run.old.process))
+    ensures carries { Carries (Assigning.include_rcfile value.now (mind_of run.old.process))
         (λ turned. turn_in turned (mind_of run.new.process)) result
         run.old.journal run.new.journal (D.told run.old.outside) (D.told run.new.outside) }
     ensures same { run.new.process ≡ run.old.process }
@@ -232,7 +230,7 @@ fn switch_rcfile<D: Effects>(
     run: &mut Run<D>,
     value: &[u8],
 ) -> Result<Turned, Memory>
-    ensures carries { Carries (rcfile_switched value.now (mind_of run.old.process))
+    ensures carries { Carries (Assigning.switch_rcfile value.now (mind_of run.old.process))
         (λ turned. turn_in turned (mind_of run.new.process)) result
         run.old.journal run.new.journal (D.told run.old.outside) (D.told run.new.outside) }
     ensures same { run.new.process ≡ run.old.process }

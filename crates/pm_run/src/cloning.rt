@@ -7,7 +7,7 @@ ghost use Rattle.pm_meaning.specs.Minds.{mind_of};
 ghost use Rattle.pm_meaning.specs.Running.{Item, Running, Cloning, Refusing, step};
 ghost use Rattle.pm_run.specs.Copies.{block_at};
 ghost use Rattle.pm_run.specs.Frames.{items_of, steps_of, weave};
-ghost use Rattle.pm_run.specs.declared.frames.Open.{Open as OpenBlock};
+ghost use Rattle.pm_run.specs.declared.frames.Open.{Open};
 ghost use Rattle.pm_run.specs.Ends.{copies_left};
 ghost use Rattle.pm_run.specs.Stretches.{Proceeds};
 
@@ -32,7 +32,7 @@ pub fn make_clone<D: Effects>(
     frame: &RcFrame,
     queue: &mut Queue,
 ) -> Result<(), Memory>
-    requires behind { (blocks : List OpenBlock) (rest : List Item) →
+    requires behind { (blocks : List Open) (rest : List Item) →
         weave (others (lists_of (drop place (steps_of frame.now)))) blocks rest
         ≡ weave (lists_of (drop frame.now.place (steps_of frame.now))) blocks rest }
     ensures proceeds { Proceeds queue.old queue.new

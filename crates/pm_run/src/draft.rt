@@ -1,7 +1,7 @@
 //! Drafts of abstracts.
 ghost use Rattle.std.specs.Prelude.{◌≡◌};
-ghost use Rattle.pm_actions.specs.AbstractParts.{mail_part as part_of_mail};
-ghost use Rattle.pm_meaning.specs.Telling.{log_name as name_of_log};
+ghost use Rattle.pm_actions.specs.AbstractParts.{mail_part};
+ghost use Rattle.pm_meaning.specs.Telling.{log_name};
 
 use pm_bytes::{Blob, Name};
 
@@ -14,6 +14,6 @@ pub struct Draft {
     pub value: Blob,
     pub base: Name,
     pub file: Option<Name>,
-    ghost front: { text.items ≡ part_of_mail head },
-    ghost named: { file ≡ name_of_log value base },
+    ghost front: { text.items ≡ mail_part head },
+    ghost named: { file ≡ log_name value base },
 }

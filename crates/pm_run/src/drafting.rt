@@ -2,7 +2,7 @@
 //! name of its log file too. So no memory is wanted for it once the mail is delivered.
 ghost use Rattle.std.specs.Prelude.{◌≡◌, ◌≤◌, ◌-◌, true, [], codes, IfOk, vec_capacity, vec_len};
 ghost use Rattle.pm_journal.specs.Executed.{Carries};
-ghost use Rattle.pm_meaning.specs.Abstracts.{abstract_of as abstract_in};
+ghost use Rattle.pm_meaning.specs.Abstracts.{abstract_of};
 ghost use Rattle.pm_meaning.specs.Locks.{value_or};
 ghost use Rattle.pm_meaning.specs.Logging.{log, logged};
 ghost use Rattle.pm_meaning.specs.Minds.{mind_of};
@@ -63,7 +63,7 @@ pub fn is_for(draft: &Draft, process: &Process) -> bool
 /// Finishes the draft, which is for this process, and logs it as the abstract of the last delivery.
 pub fn tell_draft<D: Effects>(run: &mut Run<D>, draft: Draft) -> Result<(), Memory>
     requires suits { is_draft_for draft (mind_of run.old.process) ≡ true }
-    ensures carries { let p = mind_of run.old.process in Carries (log (abstract_in p) p) (λ _. logged) result
+    ensures carries { let p = mind_of run.old.process in Carries (log (abstract_of p) p) (λ _. logged) result
         run.old.journal run.new.journal (D.told run.old.outside) (D.told run.new.outside) }
     ensures same { run.new.process ≡ run.old.process }
 {

@@ -4,17 +4,17 @@ ghost use Rattle.std.specs.Prelude.{◌≡◌, true, [], ◌&&◌, codes, decima
 ghost use Rattle.pm_journal.specs.Executed.{Carries};
 ghost use Rattle.pm_vars.specs.Variables.{value_of};
 ghost use Rattle.pm_journal.specs.LogText.{unusable_name_line, value_too_long_line};
-ghost use Rattle.pm_meaning.specs.Abstracts.{abstract_of as abstract_in, logs_last as last_is_logged};
-ghost use Rattle.pm_meaning.specs.Changes.{is_given as given_in, overflowed};
+ghost use Rattle.pm_meaning.specs.Abstracts;
+ghost use Rattle.pm_meaning.specs.Changes.{overflowed};
+ghost use Rattle.pm_meaning.specs.Changes;
 ghost use Rattle.pm_meaning.specs.Locks.{value_or};
 ghost use Rattle.pm_meaning.specs.Logging.{log, logged};
 ghost use Rattle.pm_meaning.specs.Minds.{mind_of};
 ghost use Rattle.pm_meaning.specs.Turns.{say_then};
-ghost use Rattle.pm_meaning.specs.Ends.{tell_delivery as delivery_told, is_delivered};
-ghost use Rattle.pm_meaning.specs.Ends.{is_trapped as trapped_at, trap as trap_run};
-ghost use Rattle.pm_meaning.specs.Ends.{trap_line as line_run, trap_by as program_run};
-ghost use Rattle.pm_meaning.specs.Ends.{run_trap as command_run, trapped_with};
-ghost use Rattle.pm_meaning.specs.Running.{Over, Closing, ending_of as ending_by};
+ghost use Rattle.pm_meaning.specs.Ends.{is_delivered};
+ghost use Rattle.pm_meaning.specs.Ends;
+ghost use Rattle.pm_meaning.specs.Ends.{trapped_with};
+ghost use Rattle.pm_meaning.specs.Running.{Over, Closing, ending_of};
 ghost use Rattle.pm_meaning.specs.Status.{base_status as status_so_far, with_exit_status, is_set};
 ghost use Rattle.pm_meaning.specs.Status.{is_there_empty, says_delivered};
 ghost use Rattle.pm_meaning.specs.Status.{chosen_status as status_chosen, exit_status as status_at};
@@ -62,9 +62,9 @@ fn tell_delivery<D: Effects>(
     end: End,
     draft: Option<Draft>,
 ) -> Result<(), Memory>
-    ensures carries { Carries (delivery_told end (mind_of run.old.process)) (λ _. logged) result
+    ensures carries { Carries (Ends.tell_delivery end (mind_of run.old.process)) (λ _. logged) result
         run.old.journal run.new.journal (D.told run.old.outside) (D.told run.new.outside) }
-    ensures told { OnErr result ((is_delivered end && last_is_logged (mind_of run.old.process)) ≡ true) }
+    ensures told { OnErr result ((is_delivered end && Abstracts.logs_last (mind_of run.old.process)) ≡ true) }
     ensures same { run.new.process ≡ run.old.process }
 {
     if !is_told(end, &run.process) {
@@ -79,7 +79,7 @@ fn tell_abstract<D: Effects>(
     run: &mut Run<D>,
     draft: Option<Draft>,
 ) -> Result<(), Memory>
-    ensures carries { let p = mind_of run.old.process in Carries (log (abstract_in p) p) (λ _. logged) result
+    ensures carries { let p = mind_of run.old.process in Carries (log (Abstracts.abstract_of p) p) (λ _. logged) result
         run.old.journal run.new.journal (D.told run.old.outside) (D.told run.new.outside) }
     ensures same { run.new.process ≡ run.old.process }
 {
@@ -100,7 +100,7 @@ fn tell_abstract<D: Effects>(
 
 // Whether the abstract is logged.
 fn is_told(end: End, process: &Process) -> bool
-    ensures { result ≡ (is_delivered end && last_is_logged (mind_of process.now)) }
+    ensures { result ≡ (is_delivered end && Abstracts.logs_last (mind_of process.now)) }
 {
     match end {
         End::Delivered => logs_last(process),
@@ -110,10 +110,10 @@ fn is_told(end: End, process: &Process) -> bool
 
 // Runs TRAP's program at the end of the first process, and answers its exit code: 127 where it didn't run to its end.
 fn trap<D: Effects>(alloc: Global, run: &mut Run<D>, end: End) -> Result<u8, Memory>
-    ensures carries { Carries (trap_run end (mind_of run.old.process))
+    ensures carries { Carries (Ends.trap end (mind_of run.old.process))
         (λ code. trapped_with code (mind_of run.new.process)) result
         run.old.journal run.new.journal (D.told run.old.outside) (D.told run.new.outside) }
-    ensures set { OnErr result (trapped_at end (mind_of run.old.process) ≡ true) }
+    ensures set { OnErr result (Ends.is_trapped end (mind_of run.old.process) ≡ true) }
 {
     if !is_trapped(end, &run.process) {
         return Ok(127);
@@ -125,7 +125,7 @@ fn trap<D: Effects>(alloc: Global, run: &mut Run<D>, end: End) -> Result<u8, Mem
 
 // Whether TRAP's program runs.
 fn is_trapped(end: End, process: &Process) -> bool
-    ensures { result ≡ trapped_at end (mind_of process.now) }
+    ensures { result ≡ Ends.is_trapped end (mind_of process.now) }
 {
     match end {
         End::NoRc => false,
@@ -135,7 +135,7 @@ fn is_trapped(end: End, process: &Process) -> bool
 
 // Whether the variable is set and not empty.
 fn is_given(name: &[u8], process: &Process) -> bool
-    ensures { result ≡ given_in name.now (mind_of process.now) }
+    ensures { result ≡ Changes.is_given name.now (mind_of process.now) }
 {
     match process.vars.get(name) {
         Some(value) => !value.as_slice().is_empty(),
@@ -176,7 +176,7 @@ fn is_code_set(process: &Process) -> bool
 
 // The program line of TRAP is read after its commands, and its program runs.
 fn trap_line<D: Effects>(alloc: Global, run: &mut Run<D>, text: &[u8]) -> Result<u8, Memory>
-    ensures carries { Carries (line_run text.now (mind_of run.old.process))
+    ensures carries { Carries (Ends.trap_line text.now (mind_of run.old.process))
         (λ code. trapped_with code (mind_of run.new.process)) result
         run.old.journal run.new.journal (D.told run.old.outside) (D.told run.new.outside) }
 {
@@ -197,7 +197,7 @@ fn trap_by<D: Effects>(
     line: ProgramLine,
     text: &[u8],
 ) -> Result<u8, Memory>
-    ensures carries { Carries (program_run line text.now (mind_of run.old.process))
+    ensures carries { Carries (Ends.trap_by line text.now (mind_of run.old.process))
         (λ code. trapped_with code (mind_of run.new.process)) result
         run.old.journal run.new.journal (D.told run.old.outside) (D.told run.new.outside) }
 {
@@ -216,7 +216,7 @@ fn run_trap<D: Effects>(
     command: Command,
     text: &[u8],
 ) -> Result<u8, Memory>
-    ensures carries { Carries (command_run command text.now (mind_of run.old.process))
+    ensures carries { Carries (Ends.run_trap command text.now (mind_of run.old.process))
         (λ code. trapped_with code (mind_of run.new.process)) result
         run.old.journal run.new.journal (D.told run.old.outside) (D.told run.new.outside) }
 {

@@ -3,7 +3,8 @@ ghost use Rattle.std.specs.Prelude.{◌≡◌, ◌++◌, IfOk, OnOk, OnErr, []};
 ghost use Rattle.pm_journal.specs.Executed.{Carries};
 ghost use Rattle.pm_journal.specs.Walking.{Go};
 ghost use Rattle.pm_actions.specs.Undelivered.{Undelivered};
-ghost use Rattle.pm_meaning.specs.Delivering.{deliver_default as to_default, no_flags};
+ghost use Rattle.pm_meaning.specs.Delivering.{no_flags};
+ghost use Rattle.pm_meaning.specs.Delivering;
 ghost use Rattle.pm_meaning.specs.Locks.{value_or};
 ghost use Rattle.pm_meaning.specs.Minds.{mind_of};
 ghost use Rattle.pm_meaning.specs.Running.{Running, FallingOff, Over, step, unless_same};
@@ -99,7 +100,7 @@ fn try_mailbox<D: Effects>(
     mailbox: &Blob,
     draft: &mut Option<Draft>,
 ) -> Result<Option<End>, Memory>
-    ensures carries { Carries (to_default mailbox.now (mind_of run.old.process))
+    ensures carries { Carries (Delivering.deliver_default mailbox.now (mind_of run.old.process))
         (λ end. turn_of end (mind_of run.new.process)) result
         run.old.journal run.new.journal (D.told run.old.outside) (D.told run.new.outside) }
     ensures sure { OnErr result (Undelivered no_flags run.old.journal run.new.journal) }

@@ -6,9 +6,9 @@ ghost use Rattle.pm_journal.specs.Held.{holds_name};
 ghost use Rattle.pm_journal.specs.Locking.{lock_act};
 ghost use Rattle.pm_journal.specs.LogText.{couldnt_lock_line, forcing_lock_line};
 ghost use Rattle.pm_journal.specs.Plan.{Ends, and_then, ask};
-ghost use Rattle.pm_meaning.specs.Blocks.{enter_block as block_entered, enter_under as entered_under};
-ghost use Rattle.pm_meaning.specs.Blocks.{enter_with as entered_with};
-ghost use Rattle.pm_meaning.specs.Blocks.{lock_block as block_locked, got_block_lock};
+ghost use Rattle.pm_meaning.specs.Blocks;
+ghost use Rattle.pm_meaning.specs.Blocks.{enter_with};
+ghost use Rattle.pm_meaning.specs.Blocks.{got_block_lock};
 ghost use Rattle.pm_meaning.specs.Judging.{judge_first};
 ghost use Rattle.pm_meaning.specs.Locks.{rule_of};
 ghost use Rattle.pm_meaning.specs.Minds.{Mind, mind_of};
@@ -47,7 +47,7 @@ pub fn pass_gate<D: Effects>(
     recipe: &Recipe,
 ) -> Result<Gate, Memory>
     ensures carries { let top = top_of recipe.now in
-        Carries (judge_first top (λ p. block_entered top p) (mind_of run.old.process))
+        Carries (judge_first top (λ p. Blocks.enter_block top p) (mind_of run.old.process))
         (λ gate. gate_turn gate (mind_of run.new.process)) result
         run.old.journal run.new.journal (D.told run.old.outside) (D.told run.new.outside) }
 {
@@ -69,7 +69,7 @@ fn gate_by(end: Option<End>) -> Gate
 
 // The block of a recipe that is executed. One for a copy of the process has no lock.
 fn enter_block<D: Effects>(alloc: Global, run: &mut Run<D>, recipe: &Recipe) -> Result<Gate, Memory>
-    ensures carries { Carries (block_entered (top_of recipe.now) (mind_of run.old.process))
+    ensures carries { Carries (Blocks.enter_block (top_of recipe.now) (mind_of run.old.process))
         (λ gate. gate_turn gate (mind_of run.new.process)) result
         run.old.journal run.new.journal (D.told run.old.outside) (D.told run.new.outside) }
 {
@@ -84,7 +84,7 @@ fn enter_block<D: Effects>(alloc: Global, run: &mut Run<D>, recipe: &Recipe) -> 
 
 // The block is entered under the lock of this text. A block has no automatic lock, which is told.
 fn enter_under<D: Effects>(alloc: Global, run: &mut Run<D>, text: &[u8]) -> Result<Gate, Memory>
-    ensures carries { Carries (entered_under text.now (mind_of run.old.process))
+    ensures carries { Carries (Blocks.enter_under text.now (mind_of run.old.process))
         (λ gate. gate_turn gate (mind_of run.new.process)) result
         run.old.journal run.new.journal (D.told run.old.outside) (D.told run.new.outside) }
 {
@@ -118,7 +118,7 @@ fn enter_expanded<D: Effects>(
     outputs: &[Blob],
 ) -> Result<Gate, Memory>
     requires each { length outputs.now ≡ length (commands_in One text.now) }
-    ensures carries { Carries (entered_with text.now outputs.now (mind_of run.old.process))
+    ensures carries { Carries (enter_with text.now outputs.now (mind_of run.old.process))
         (λ gate. gate_turn gate (mind_of run.new.process)) result
         run.old.journal run.new.journal (D.told run.old.outside) (D.told run.new.outside) }
 {
@@ -146,7 +146,7 @@ fn lock_block<D: Effects>(
     text: &[u8],
     value: &[u8],
 ) -> Result<Gate, Memory>
-    ensures carries { Carries (block_locked text.now value.now (mind_of run.old.process))
+    ensures carries { Carries (Blocks.lock_block text.now value.now (mind_of run.old.process))
         (λ gate. gate_turn gate (mind_of run.new.process)) result
         run.old.journal run.new.journal (D.told run.old.outside) (D.told run.new.outside) }
 {

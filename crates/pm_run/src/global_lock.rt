@@ -6,8 +6,9 @@ ghost use Rattle.pm_journal.specs.Locking.{lock_act};
 ghost use Rattle.pm_journal.specs.LogText.{couldnt_lock_line, forcing_lock_line};
 ghost use Rattle.pm_journal.specs.Plan.{Ends, and_then, ask};
 ghost use Rattle.pm_journal.specs.declared.acts.Act.TheVariants.{Unlock};
-ghost use Rattle.pm_meaning.specs.GlobalLock.{without_global, after_giving, give_named, drop_lock as lock_dropped};
-ghost use Rattle.pm_meaning.specs.GlobalLock.{got_lock, take_lock as lock_taken, change_lock as lock_changed};
+ghost use Rattle.pm_meaning.specs.GlobalLock.{without_global, after_giving, give_named};
+ghost use Rattle.pm_meaning.specs.GlobalLock;
+ghost use Rattle.pm_meaning.specs.GlobalLock.{got_lock};
 ghost use Rattle.pm_meaning.specs.Locks.{rule_of};
 ghost use Rattle.pm_meaning.specs.Minds.{mind_of};
 ghost use Rattle.pm_meaning.specs.Turns.{GoesOn, say_then};
@@ -28,7 +29,7 @@ pub fn change_lock<D: Effects>(
     run: &mut Run<D>,
     value: &[u8],
 ) -> Result<Option<End>, Memory>
-    ensures carries { Carries (lock_changed value.now (mind_of run.old.process))
+    ensures carries { Carries (GlobalLock.change_lock value.now (mind_of run.old.process))
         (λ end. turn_of end (mind_of run.new.process)) result
         run.old.journal run.new.journal (D.told run.old.outside) (D.told run.new.outside) }
 {
@@ -46,7 +47,7 @@ pub fn change_lock<D: Effects>(
 
 /// The lock of LOCKFILE is given back, and the process goes on.
 pub fn drop_lock<D: Effects>(alloc: Global, run: &mut Run<D>) -> Result<Option<End>, Memory>
-    ensures carries { Carries (lock_dropped (mind_of run.old.process))
+    ensures carries { Carries (GlobalLock.drop_lock (mind_of run.old.process))
         (λ end. turn_of end (mind_of run.new.process)) result
         run.old.journal run.new.journal (D.told run.old.outside) (D.told run.new.outside) }
 {
@@ -110,7 +111,7 @@ fn take_lock<D: Effects>(
     name: &Name,
 ) -> Result<Option<End>, Memory>
     requires same { name.now ≡ value.now }
-    ensures carries { Carries (lock_taken value.now (mind_of run.old.process))
+    ensures carries { Carries (GlobalLock.take_lock value.now (mind_of run.old.process))
         (λ end. turn_of end (mind_of run.new.process)) result
         run.old.journal run.new.journal (D.told run.old.outside) (D.told run.new.outside) }
 {

@@ -5,8 +5,9 @@ ghost use Rattle.pm_journal.specs.Plan.{and_then, ask};
 ghost use Rattle.pm_journal.specs.declared.acts.Act.TheVariants.{ReadFile};
 ghost use Rattle.pm_recipe.specs.Listed.{rc_of};
 ghost use Rattle.pm_meaning.specs.Minds.{mind_of};
-ghost use Rattle.pm_meaning.specs.Running.{Event, Opening, entered as entered_by, step};
-ghost use Rattle.pm_meaning.specs.Running.{open_next, after_read, pass_over as passed_over};
+ghost use Rattle.pm_meaning.specs.Running.{Event, Opening, step, entered};
+ghost use Rattle.pm_meaning.specs.Running.{open_next, after_read};
+ghost use Rattle.pm_meaning.specs.Running;
 ghost use Rattle.pm_meaning.specs.Running.{ahead, left_by};
 ghost use Rattle.pm_meaning.specs.declared.process.End.TheVariants.{HostOff};
 ghost use Rattle.pm_run.specs.Frames.{items_of, left_over};
@@ -175,7 +176,7 @@ fn code_of(alloc: Global, rc: &[u8]) -> Result<Code, Memory>
 // The rcfile has this name; the first one that is read, if it is of the working folder, is run from there.
 fn enter(alloc: Global, rule: Rule, name: &Name, process: &mut Process) -> Result<(), Memory>
     ensures ok { IfOk result (λ _. mind_of process.new
-        ≡ entered_by (rule_of_opening rule) name.now (mind_of process.old)) }
+        ≡ entered (rule_of_opening rule) name.now (mind_of process.old)) }
     ensures locks { process.new.locks ≡ process.old.locks }
 {
     let is_first = process.rcfile.as_str().is_empty();
@@ -202,7 +203,7 @@ fn pass_over<D: Effects>(
     ensures passes { let p = mind_of run.old.process in IfOk result (λ tried. PassesOver (rule_of_opening rule)
         name.now missing tried p run.old.journal run.new.journal (D.told run.old.outside) (D.told run.new.outside)) }
     ensures memory { OnErr result ((names : List (List ℕ)) →
-        OutOfMemory (passed_over (rule_of_opening rule) name.now names missing (mind_of run.old.process))
+        OutOfMemory (Running.pass_over (rule_of_opening rule) name.now names missing (mind_of run.old.process))
         run.old.journal run.new.journal (D.told run.old.outside) (D.told run.new.outside)) }
     ensures same { run.new.process ≡ run.old.process }
 {
