@@ -1,5 +1,6 @@
 -- What is read and found is what the definitions say.
-use Rattle.std.proofs.Common.{◌≡◌, ◌⊎◌, inl, inr, ℕ, ◌≤◌, Bool, List, length, Option, Some, None, refl, sym, ap, subst, IfSome}
+use Rattle.std.proofs.Common.{◌≡◌, ◌⊎◌, inl, inr, ℕ, ◌≤◌, Bool, true, false, not, List, length, Option, Some, None, refl, sym, ap, subst, IfSome}
+use Rattle.std.specs.Prelude.{IsTrue, IsFalse, is_some}
 use Rattle.pm_regex.specs.Re.{Re, Whole}
 use Rattle.pm_regex.specs.Reading.{Reads, HasNoReading}
 use Rattle.pm_regex.proofs.ReadLemmas.{one_reading_of}
@@ -8,7 +9,7 @@ use Rattle.pm_regex.specs.declared.found.Found.{Found}
 use Rattle.pm_regex.specs.Found.{IsFound, IsFoundOf}
 use Rattle.pm_regex.proofs.MatchOrNot.{at_after}
 use Rattle.pm_regex.proofs.FoundOrNot.{found_of, one_found}
-use Rattle.pm_meaning.specs.Searching.{expression_from, expression_of, IsWithin}
+use Rattle.pm_meaning.specs.Searching.{expression_from, expression_of, found_outcome, holds_if, IsWithin}
 
 from_reading : (text : List ℕ) (e : Whole) → Reads text e → (d : ((f : Whole) × Reads text f) ⊎ HasNoReading text) → expression_from d ≡ Some e
 from_reading text e r (inl h) = ap (λ w. Some w) (one_reading_of text h.0 e h.1 r)
@@ -40,3 +41,27 @@ found_within_of fold (Some l) r area (Some f) is =
 -- a cut stands before the end, which is in the area
 pub found_within : (fold : Bool) (e : Whole) (area : List ℕ) (f : Option Found) → IsFound fold e area f → IfSome f (IsWithin area)
 found_within fold e area f is = found_within_of fold e.left e.right area f is
+
+some_if : (fold : Bool) (e : Whole) (area : List ℕ) (b : Bool) (x : Option Found) → IsFound fold e area x → (IsTrue b → IsFound fold e area None → ⊥) → (IsFalse b → IsFound fold e area None) → b ≡ is_some x
+some_if fold e area true None is some none = absurd (some tt is)
+some_if fold e area true (Some f) is some none = refl
+some_if fold e area false None is some none = refl
+some_if fold e area false (Some f) is some none = (let same : Some f ≡ None = one_found fold e area (Some f) None is (none tt) in cc)
+
+-- whether there is a match is whether something is found
+pub is_match_is : (fold : Bool) (e : Whole) (area : List ℕ) (b : Bool) → (IsTrue b → IsFound fold e area None → ⊥) → (IsFalse b → IsFound fold e area None) → b ≡ is_some (found_of fold e area).0
+is_match_is fold e area b some none = some_if fold e area b (found_of fold e area).0 (found_of fold e area).1 some none
+
+-- what comes of an inverted condition
+pub inverted_outcome : (area : List ℕ) (x : Option Found) → holds_if (not (is_some x)) ≡ found_outcome true area x
+inverted_outcome area None = refl
+inverted_outcome area (Some f) = refl
+
+plain_outcome_of : (fold : Bool) (l : Option Re) (r : Re) (area : List ℕ) (x : Option Found) → is_some l ≡ false → IsFoundOf fold l r area x → holds_if (is_some x) ≡ found_outcome false area x
+plain_outcome_of fold l r area None no is = refl
+plain_outcome_of fold None r area (Some f) no is = rw is.0 refl
+plain_outcome_of fold (Some l) r area (Some f) no is = cc
+
+-- what comes of an expression without a cut
+pub plain_outcome : (fold : Bool) (e : Whole) (area : List ℕ) → is_some e.left ≡ false → holds_if (is_some (found_of fold e area).0) ≡ found_outcome false area (found_of fold e area).0
+plain_outcome fold e area no = plain_outcome_of fold e.left e.right area (found_of fold e area).0 no (found_of fold e area).1

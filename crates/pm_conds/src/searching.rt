@@ -1,5 +1,5 @@
 //! Conditions that search for an expression.
-ghost use Rattle.std.specs.Prelude.{◌≡◌, ◌≤◌, not, IfOk, IfSome, length};
+ghost use Rattle.std.specs.Prelude.{◌≡◌, ◌≤◌, false, is_some, not, IfOk, IfSome, length};
 ghost use Rattle.pm_message.specs.Area.{area_of};
 ghost use Rattle.pm_regex.proofs.FoundOrNot.{found_of};
 ghost use Rattle.pm_meaning.specs.Searching.{Sight, sight_of, part_of, area_in, match_text};
@@ -75,40 +75,42 @@ pub fn matched(alloc: Global, area: &[u8], start: usize, end: usize) -> Result<B
     Blob::from_slice(alloc, to_newline(past_newline(&area[start..end])))
 }
 
-/// The first match of the expression in the area.
-fn find(alloc: Global, expr: Expr, fold: bool, area: &[u8]) -> Result<Option<Found>, Memory>
-    ensures found { IfOk result (λ found. found ≡ (found_of fold expr area.now).0) }
-    ensures within { IfOk result (λ found. IfSome found (IsWithin area.now)) }
+/// Whether the expression matches anywhere in the area.
+pub fn is_found(engine: &mut Engine, area: &[u8]) -> bool
+    ensures same { engine.new ≡ engine.old }
+    ensures found { result ≡ is_some (found_of engine.old.fold engine.old.expr area.now).0 }
 {
-    let mut engine = Engine::build(alloc, &expr, fold)?;
-    Ok(engine.find(area))
+    engine.is_match(area)
+}
+
+/// The first match of the engine's expression in the area.
+pub fn find(engine: &mut Engine, area: &[u8]) -> Option<Found>
+    ensures same { engine.new ≡ engine.old }
+    ensures found { result ≡ (found_of engine.old.fold engine.old.expr area.now).0 }
+    ensures within { IfSome result (IsWithin area.now) }
+{
+    engine.find(area)
 }
 
 /// What comes of what was found.
-fn found_outcome(
-    alloc: Global,
-    inverted: bool,
-    area: &[u8],
-    found: Option<Found>,
-) -> Result<Outcome, Memory>
+fn found_outcome(alloc: Global, area: &[u8], found: Option<Found>) -> Result<Outcome, Memory>
     requires { IfSome found (IsWithin area.now) }
-    ensures { IfOk result (λ come. come ≡ Searching.found_outcome inverted area.now found) }
+    ensures { IfOk result (λ come. come ≡ Searching.found_outcome false area.now found) }
 {
     match found {
-        None => Ok(outcome_if(inverted)),
-        Some(found) => {
-            if inverted {
-                return Ok(Outcome::Fails);
-            }
-            match found.cut {
-                None => Ok(Outcome::Holds),
-                Some(cut) => Ok(Outcome::Matched(matched(alloc, area, cut, found.end)?)),
-            }
-        }
+        None => Ok(Outcome::Fails),
+        Some(Found { cut: None, .. }) => Ok(Outcome::Holds),
+        Some(
+            Found {
+                cut: Some(cut),
+                end,
+                ..
+            },
+        ) => Ok(Outcome::Matched(matched(alloc, area, cut, end)?)),
     }
 }
 
-/// Searches the area for an expression.
+/// Searches the area for an expression. Where its match begins and ends is asked only if MATCH gets it.
 fn find_area(
     alloc: Global,
     inverted: bool,
@@ -119,8 +121,15 @@ fn find_area(
     ensures { IfOk result (λ come. come
         ≡ Searching.found_outcome inverted area.now (match_in distinguish expr area.now)) }
 {
-    let found = find(alloc, expr, !distinguish, area)?;
-    found_outcome(alloc, inverted, area, found)
+    let mut engine = Engine::build(alloc, &expr, !distinguish)?;
+    if inverted {
+        return Ok(outcome_if(!is_found(&mut engine, area)));
+    }
+    if !expr.has_cut() {
+        return Ok(outcome_if(is_found(&mut engine, area)));
+    }
+    let found = find(&mut engine, area);
+    found_outcome(alloc, area, found)
 }
 
 /// Searches the area for the expression that the text is, and counts its matches where there is a weight.

@@ -20,6 +20,7 @@ pub mod EngineLemmas
 pub mod CountLemmas
 pub mod JoinLemmas
 pub mod FinalLemmas
+pub mod AnyLemmas
 pub mod BackwardLemmas
 pub mod CacheLemmas
 pub mod ListLemmas

@@ -2,7 +2,9 @@
 ghost use Rattle.std.specs.Prelude.{◌≡◌, ℕ, ◌-◌, ◌^◌, ◌<◌, ◌≤◌, Bool, List, length};
 ghost use Rattle.pm_regex.specs.Re.{Re, nothing};
 ghost use Rattle.pm_regex.specs.declared.found.Found.{Found};
+ghost use Rattle.pm_match.specs.declared.search.Search.{Search};
 ghost use Rattle.pm_match.specs.Search.{Runs};
+ghost use Rattle.pm_match.specs.Finding.{IsFirst};
 ghost use Rattle.pm_regex.specs.Found.{IsRun, place_behind};
 ghost use Rattle.pm_match.specs.Checkpoints.{CountsTo};
 
@@ -22,7 +24,38 @@ fn next_place(found: Match) -> usize
     }
 }
 
-/// Counts the next match and goes on after it, or to the area's end if there is none.
+/// How far a count is after what was found from its place on: behind the match, or at the area's end if there is none.
+fn after(found: Option<Match>, area: &[u8], from: Progress) -> Progress
+    requires found { (g : Search) × (e : Re) × (fold : Bool) × Runs g e nothing fold
+        × IsFirst fold e nothing area.now from.place found }
+    requires few { from.count ≤ from.place }
+    requires within { from.place < length area.now }
+    ensures after { from.place < result.place }
+    ensures few { result.count ≤ result.place }
+    ensures within { result.place ≤ length area.now }
+    ensures counted { (e : Re) (fold : Bool) → IsFirst fold e nothing area.now from.place found
+        → CountsTo fold e area.now 0 from.count from.place → CountsTo fold e area.now 0 result.count result.place }
+{
+    let end = Progress {
+        count: from.count,
+        place: area.len(),
+    };
+    match found {
+        None => end,
+        Some(found) => {
+            if found.start >= area.len() {
+                return end;
+            }
+            Progress {
+                count: from.count + 1,
+                place: next_place(found),
+            }
+        }
+    }
+}
+
+/// Counts the next match and goes on after it, or to the area's end if there is none. Where a search for it visits many
+/// places, and sets cost less for each, it counts the rest by marks.
 fn count_next(search: &mut Search, area: &[u8], from: Progress) -> Progress
     requires runs { (e : Re) × (fold : Bool) × Runs search.old e nothing fold }
     requires few { from.count ≤ from.place }
@@ -34,21 +67,16 @@ fn count_next(search: &mut Search, area: &[u8], from: Progress) -> Progress
     ensures counted { (e : Re) (fold : Bool) → Runs search.old e nothing fold
         → CountsTo fold e area.now 0 from.count from.place → CountsTo fold e area.now 0 result.count result.place }
 {
-    let end = Progress {
-        count: from.count,
-        place: area.len(),
-    };
-    match search.first(area, from.place) {
-        None => end,
-        Some(found) => {
-            if found.start >= area.len() {
-                return end;
-            }
-            Progress {
-                count: from.count + 1,
-                place: next_place(found),
-            }
-        }
+    if !search.is_small(area.len()) || !search.is_reserved(area.len()) {
+        let found = search.first(area, from.place);
+        return after(found, area, from);
+    }
+    match search.first_within(area, from.place, area.len() / 8) {
+        None => Progress {
+            count: search.count_on(area, from),
+            place: area.len(),
+        },
+        Some(found) => after(found, area, from),
     }
 }
 

@@ -1,6 +1,6 @@
 //! The search for the first match, in one pass.
 ghost use Rattle.std.specs.Prelude.{◌≡◌, ℕ, Bool, ◌+◌, ◌^◌, ◌*◌, IsTrue, IfSome, ◌<◌, ◌≤◌, ◌⊎◌, length, vec_len};
-ghost use Rattle.std.specs.Prelude.{slice_get, Some, None, Option};
+ghost use Rattle.std.specs.Prelude.{◌-◌, slice_get, Some, None, Option};
 ghost use Rattle.pm_regex.specs.Re.{Re};
 ghost use Rattle.pm_match.specs.Automata.{AreWhole, Fits};
 ghost use Rattle.pm_match.specs.Search.{IsProgram};
@@ -77,7 +77,7 @@ fn open(program: &Program, labels: &mut Labels, area: &[u8], place: usize, seed:
 }
 
 /// Begins runs of both parts here, and gives the label with which the right part ends here.
-fn visit(
+pub fn visit(
     automata: &Automata,
     room: &mut Room,
     area: &[u8],
@@ -162,7 +162,7 @@ fn is_final(best: Option<Match>, left_labels: &Labels, right_labels: &Labels) ->
 }
 
 /// Hands the labels of both parts on to the next place.
-fn hand_on(automata: &Automata, room: &mut Room, area: &[u8], place: usize)
+pub fn hand_on(automata: &Automata, room: &mut Room, area: &[u8], place: usize)
     requires automata { AreWhole automata.now }
     requires room { Fits automata.now room.old }
     requires place { place < length area.now }
@@ -196,14 +196,23 @@ fn hand_on(automata: &Automata, room: &mut Room, area: &[u8], place: usize)
     mem::swap(&mut room.right, &mut room.right_next);
 }
 
-/// The first match from a place on: the least start, for it the least cut, and for both the greatest end.
-pub fn find(automata: &Automata, room: &mut Room, area: &[u8], from: usize) -> Option<Match>
+/// The first match from a place on: the least start, for it the least cut, and for both the greatest end. There is no
+/// answer where more places than this number would be visited.
+pub fn find_within(
+    automata: &Automata,
+    room: &mut Room,
+    area: &[u8],
+    from: usize,
+    most: usize,
+) -> Option<Option<Match>>
     requires automata { AreWhole automata.now }
     requires room { Fits automata.now room.old }
     requires from { from ≤ length area.now }
     ensures room { Fits automata.now room.new }
-    ensures first { (fold : Bool) (l r : Re) → IsProgram automata.now.left l fold → IsProgram automata.now.right r fold
-        → IsFirst fold l r area.now from result }
+    ensures first { (found : Option Match) → result ≡ Some found → (fold : Bool) (l r : Re)
+        → IsProgram automata.now.left l fold → IsProgram automata.now.right r fold
+        → IsFirst fold l r area.now from found }
+    ensures none { result ≡ None → most < 2 ^ 64 - 1 }
 {
     let mut best = None;
     let mut base = from;
@@ -214,12 +223,15 @@ pub fn find(automata: &Automata, room: &mut Room, area: &[u8], from: usize) -> O
     clear(&mut room.right);
     while place < area.len() {
         room.visits = room.visits.saturating_add(1);
+        if room.visits > most {
+            return None;
+        }
         let met = visit(automata, room, area, base, place);
         room.labels = room.labels.saturating_add(room.left.states.len());
         best = better(best, met, place);
         if is_final(best, &room.left, &room.right) {
             room.last = place;
-            return best;
+            return Some(best);
         }
         hand_on(automata, room, area, place);
         let on = go_on(
@@ -236,5 +248,20 @@ pub fn find(automata: &Automata, room: &mut Room, area: &[u8], from: usize) -> O
     }
     room.last = area.len();
     let met = visit(automata, room, area, base, area.len());
-    better(best, met, area.len())
+    Some(better(best, met, area.len()))
+}
+
+/// The first match from a place on: the least start, for it the least cut, and for both the greatest end.
+pub fn find(automata: &Automata, room: &mut Room, area: &[u8], from: usize) -> Option<Match>
+    requires automata { AreWhole automata.now }
+    requires room { Fits automata.now room.old }
+    requires from { from ≤ length area.now }
+    ensures room { Fits automata.now room.new }
+    ensures first { (fold : Bool) (l r : Re) → IsProgram automata.now.left l fold → IsProgram automata.now.right r fold
+        → IsFirst fold l r area.now from result }
+{
+    match find_within(automata, room, area, from, usize::MAX) {
+        None => None,
+        Some(found) => found,
+    }
 }

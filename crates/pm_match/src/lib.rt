@@ -2,6 +2,7 @@
 #![tactic(auto)]
 
 mod advancing;
+mod any_match;
 mod anywhere;
 mod atoms;
 mod automata;
@@ -20,6 +21,7 @@ mod order;
 mod row;
 mod search;
 mod sets;
+mod spare;
 mod starts;
 mod step;
 mod tables;

@@ -269,6 +269,7 @@ pub fn count_marked(program: &Program, marks: &mut Marks, area: &[u8], from: Pro
     requires short { length area.now ≤ marks.old.reach }
     ensures room { HasRoom program.now.steps.items program.now.entry program.now.exit marks.new }
     ensures reach { marks.new.reach ≡ marks.old.reach }
+    ensures few { result ≤ length area.now }
     ensures counted { (e : Re) (fold : Bool) → IsProgram program.now e fold
         → CountsTo fold e area.now 0 from.count from.place
         → (ms : List Found) × IsRun fold e area.now 0 ms × (result ≡ length ms) }

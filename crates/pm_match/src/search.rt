@@ -5,25 +5,19 @@ ghost use Rattle.pm_match.specs.Starts.{AreStarts};
 ghost use Rattle.pm_match.specs.Cache.{AreReady};
 ghost use Rattle.pm_match.specs.Anywhere.{IsSound, IsAnywhere};
 
-use crate::anywhere::{Anywhere, before_all, make_anywhere};
+use crate::any_match::is_match;
+use crate::anywhere::{Anywhere, before_all};
 use crate::automata::{Automata, Room};
-use crate::build::{Program, build};
-use crate::cache::{Cache, least_start, make_cache};
-use crate::find::{Match, find};
+use crate::build::build;
+use crate::cache::{Cache, least_start};
+use crate::find::{Match, find, find_within};
 use crate::labels::no_labels;
 use crate::marks::{Marks, Progress, count_marked, make_marks};
 use crate::order::order_of;
-use crate::starts::Starts;
-use crate::tables::starts_of;
+use crate::spare::{VERY_LONG, is_needed, spare_anywhere, spare_cache, tables};
 use pm_bytes::Memory;
 use pm_regex::Op;
 use std::alloc::Global;
-
-/// How long an area is where tables save more than it takes to make them.
-const LONG: usize = 256;
-
-/// How long an area is if the tables of later bytes, and rows, save more than it takes to make them.
-const VERY_LONG: usize = 16384;
 
 /// How long an area is if pieces of it show whether a count by sets of states saves more than it takes.
 const BUSY: usize = 4096;
@@ -55,17 +49,6 @@ const FEWER: usize = 32;
 /// How many labels a place has where they cost more than sets of states.
 const CROWD: usize = 3;
 
-/// The length of areas that the cache of a search for the first match has room for sets by.
-const REACH: usize = 16384;
-
-/// Whether tables are still to be made.
-fn is_needed(starts: &Option<Starts>, size: usize) -> bool {
-    match starts {
-        None => size >= LONG,
-        Some(tables) => size >= VERY_LONG && !tables.is_whole,
-    }
-}
-
 /// The piece of this number and size, of pieces at equal distances from the area's front on.
 fn piece_of(area: &[u8], number: usize, size: usize) -> &[u8] {
     let start = (area.len() / PIECES).saturating_mul(number);
@@ -73,50 +56,6 @@ fn piece_of(area: &[u8], number: usize, size: usize) -> &[u8] {
         return &area[..0];
     }
     &area[start..start + size]
-}
-
-/// The tables of an automaton. Where there is no memory for them the search goes on without.
-fn tables(alloc: Global, program: &Program, is_very_long: bool) -> Option<Starts>
-    requires range { InRange program.now.steps.items }
-    requires entry { program.now.entry < length program.now.steps.items }
-    requires exit { program.now.exit < length program.now.steps.items }
-    ensures { AreStarts program.now.steps.items program.now.entry program.now.exit result }
-{
-    match starts_of(
-        alloc,
-        &program.steps,
-        program.entry,
-        program.exit,
-        is_very_long,
-    ) {
-        Err(_) => None,
-        Ok(starts) => Some(starts),
-    }
-}
-
-/// An empty cache for passes from the end. Where there is no memory for it the search goes on without.
-fn spare_cache(alloc: Global, program: &Program) -> Option<Cache>
-    ensures { IfSome result (AreReady false program.now.steps.items program.now.exit) }
-{
-    let order = match order_of(alloc, &program.steps) {
-        Err(_) => return None,
-        Ok(order) => order,
-    };
-    match make_cache(alloc, program.steps.len(), REACH, order) {
-        Err(_) => None,
-        Ok(cache) => Some(cache),
-    }
-}
-
-/// An empty cache for passes from the front. Where there is no memory for it the search goes on without.
-fn spare_anywhere(alloc: Global, program: &Program) -> Option<Anywhere>
-    requires { IsSound program.now }
-    ensures { IfSome result (IsAnywhere program.now) }
-{
-    match make_anywhere(alloc, program) {
-        Err(_) => None,
-        Ok(anywhere) => Some(anywhere),
-    }
 }
 
 /// Two automata, and the room to search by them.
@@ -134,9 +73,10 @@ pub struct Search {
 }
 
 impl Search {
-    ghost use Rattle.std.specs.Prelude.{◌≡◌, ◌≤◌, ℕ, Bool, List, IfOk, IsTrue, length};
+    ghost use Rattle.std.specs.Prelude.{◌≡◌, ◌≤◌, ℕ, Bool, List, Option, Some, None, IfOk, IsTrue, IsFalse, length};
     ghost use Rattle.pm_regex.specs.Re.{Re, nothing};
     ghost use Rattle.pm_regex.specs.declared.found.Found.{Found};
+    ghost use Rattle.pm_match.specs.declared.find.Match.{Match};
     ghost use Rattle.pm_regex.specs.Found.{IsMatch, IsRun};
     ghost use Rattle.pm_match.specs.Checkpoints.{CountsTo};
     ghost use Rattle.pm_regex.specs.Postfix.{Spells};
@@ -182,7 +122,8 @@ impl Search {
     /// Makes the tables, where the area is long enough to pay for them.
     fn prepare(&mut self, area: &[u8])
         requires { (l : Re) × (r : Re) × (fold : Bool) × Runs self.old l r fold }
-        ensures { (l r : Re) (fold : Bool) → Runs self.old l r fold → Runs self.new l r fold }
+        ensures kept { (l r : Re) (fold : Bool) → Runs self.old l r fold → Runs self.new l r fold }
+        ensures marks { self.new.marks ≡ self.old.marks }
     {
         if is_needed(&self.automata.starts, area.len()) {
             let is_very_long = area.len() >= VERY_LONG;
@@ -199,6 +140,19 @@ impl Search {
     {
         self.prepare(area);
         find(&self.automata, &mut self.room, area, from)
+    }
+
+    /// The first match from a place on, where it is found by a visit of so many places at most.
+    pub fn first_within(&mut self, area: &[u8], from: usize, most: usize) -> Option<Option<Match>>
+        requires runs { (l : Re) × (r : Re) × (fold : Bool) × Runs self.old l r fold }
+        requires from { from ≤ length area.now }
+        ensures kept { (l r : Re) (fold : Bool) → Runs self.old l r fold → Runs self.new l r fold }
+        ensures marks { self.new.marks ≡ self.old.marks }
+        ensures first { (found : Option Match) → result ≡ Some found → (l r : Re) (fold : Bool)
+            → Runs self.old l r fold → IsFirst fold l r area.now from found }
+    {
+        self.prepare(area);
+        find_within(&self.automata, &mut self.room, area, from, most)
     }
 
     /// How many places searches of short pieces from all over the area visit.
@@ -363,6 +317,20 @@ impl Search {
         self.first(area, from)
     }
 
+    /// Whether there is a match in the area.
+    pub fn is_match(&mut self, area: &[u8]) -> bool
+        requires { (l : Re) × (r : Re) × (fold : Bool) × Runs self.old l r fold }
+        ensures kept { (l r : Re) (fold : Bool) → Runs self.old l r fold → Runs self.new l r fold }
+        ensures some { IsTrue result → (l r : Re) (fold : Bool) → Runs self.old l r fold
+            → IsFirst fold l r area.now 0 None → ⊥ }
+        ensures none { IsFalse result → (l r : Re) (fold : Bool) → Runs self.old l r fold
+            → IsFirst fold l r area.now 0 None }
+    {
+        let from = self.begin_of(area);
+        self.prepare(area);
+        is_match(&self.automata, &mut self.room, area, from)
+    }
+
     /// Whether there is room to count by marks in an area of this length.
     pub fn is_reserved(&self, length: usize) -> bool
         ensures { IsTrue result → IsReserved self.now length }
@@ -393,6 +361,7 @@ impl Search {
         requires within { from.place ≤ length area.now }
         requires reserved { IsReserved self.old (length area.now) }
         ensures kept { (l r : Re) (fold : Bool) → Runs self.old l r fold → Runs self.new l r fold }
+        ensures few { result ≤ length area.now }
         ensures counted { (e : Re) (fold : Bool) → Runs self.old e nothing fold
             → CountsTo fold e area.now 0 from.count from.place
             → (ms : List Found) × IsRun fold e area.now 0 ms × (result ≡ length ms) }

@@ -1,48 +1,27 @@
-use Rattle.std.proofs.Common.{◌≡◌, ◌∷◌, false, refl, subst, arith}
+use Rattle.std.proofs.Common.{◌∙◌}
 use Rattle.pm_regex.specs.Re.{nothing}
-use Rattle.pm_match.specs.Finding.{IsFirst}
-use Rattle.pm_regex.specs.Found.{IsRun, place_behind}
-use Rattle.pm_match.specs.Shown.{shown_match}
-use Rattle.pm_match.proofs.CountLemmas.{goes, ordered, run_none, run_late, run_more}
-use Rattle.pm_match.proofs.MarkLemmas.{to_end}
+use Rattle.pm_match.proofs.CountLemmas.{rest_counts}
 use Rattle.pm_match.proofs.count.count_next.Goals as goal
+
+pub after-requires-clause-found : goal.after-requires-clause-found
+after-requires-clause-found c =
+    let r = c.requires.runs in (c.args.search.now, r.0, r.1, r.2, c.first-found.ensures.first r.0 nothing r.1 r.2)
+
+pub after-requires-in-Some-clause-found : goal.after-requires-in-Some-clause-found
+after-requires-in-Some-clause-found c =
+    let r = c.requires.runs in (c.args.search.now, r.0, r.1, r.2, c.first_within.ensures.first _ c.in-Some.is r.0 nothing r.1 r.2)
+
+pub count_on-requires-clause-runs : goal.count_on-requires-clause-runs
+count_on-requires-clause-runs c =
+    let r = c.requires.runs in (r.0, r.1, c.first_within.ensures.kept r.0 nothing r.1 r.2)
 
 pub returns-in-None-clause-counted : goal.returns-in-None-clause-counted
 returns-in-None-clause-counted c = λ e fold h by.
-    let none = subst (λ x. IsFirst fold e nothing c.args.area.now c.args.from.place x) c.in-None.is (c.first.ensures.first e nothing fold h) in
-    to_end fold e c.args.area.now c.args.from.count c.args.from.place _ refl by (run_none fold e c.args.area.now c.args.from.place none)
+    rest_counts fold e c.args.area.now _ (c.count_on.ensures.counted e fold (c.first_within.ensures.kept e nothing fold h) by)
 
-pub returns-then-found-area-clause-counted : goal.returns-then-found-area-clause-counted
-returns-then-found-area-clause-counted c = λ e fold h by.
-    let some = subst (λ x. IsFirst fold e nothing c.args.area.now c.args.from.place x) c.in-Some.is (c.first.ensures.first e nothing fold h) in
-    to_end fold e c.args.area.now c.args.from.count c.args.from.place _ refl by (run_late fold e c.args.area.now c.args.from.place c.in-Some.found some c.if-found-area.true)
+pub count_on-requires-clause-reserved : goal.count_on-requires-clause-reserved
+count_on-requires-clause-reserved c =
+    let r = c.is_reserved.ensures c.if-not-is_reserved.false in (r.0, c.first_within.ensures.marks ∙ r.1, r.2)
 
-pub returns-else-found-area-clause-after : goal.returns-else-found-area-clause-after
-returns-else-found-area-clause-after c =
-    let r = c.requires.runs in
-    let some = subst (λ x. IsFirst r.1 r.0 nothing c.args.area.now c.args.from.place x) c.in-Some.is (c.first.ensures.first r.0 nothing r.1 r.2) in
-    let g = goes r.1 r.0 c.args.area.now c.args.from.place c.in-Some.found some c.if-found-area.false (ordered c.args.search.now r.1 r.0 c.args.area.now c.args.from.place c.in-Some.found r.2 some) in
-    let a = g.after in omega (arith, a, c.next_place.ensures)
-
-pub returns-else-found-area-clause-few : goal.returns-else-found-area-clause-few
-returns-else-found-area-clause-few c =
-    let r = c.requires.runs in
-    let some = subst (λ x. IsFirst r.1 r.0 nothing c.args.area.now c.args.from.place x) c.in-Some.is (c.first.ensures.first r.0 nothing r.1 r.2) in
-    let g = goes r.1 r.0 c.args.area.now c.args.from.place c.in-Some.found some c.if-found-area.false (ordered c.args.search.now r.1 r.0 c.args.area.now c.args.from.place c.in-Some.found r.2 some) in
-    let a = g.after in omega (arith, a, c.next_place.ensures, c.requires.few)
-
-pub returns-else-found-area-clause-within : goal.returns-else-found-area-clause-within
-returns-else-found-area-clause-within c =
-    let r = c.requires.runs in
-    let some = subst (λ x. IsFirst r.1 r.0 nothing c.args.area.now c.args.from.place x) c.in-Some.is (c.first.ensures.first r.0 nothing r.1 r.2) in
-    let g = goes r.1 r.0 c.args.area.now c.args.from.place c.in-Some.found some c.if-found-area.false (ordered c.args.search.now r.1 r.0 c.args.area.now c.args.from.place c.in-Some.found r.2 some) in
-    let a = g.within in omega (arith, a, c.next_place.ensures)
-
-pub returns-else-found-area-clause-counted : goal.returns-else-found-area-clause-counted
-returns-else-found-area-clause-counted c = λ e fold h by rest run.
-    let m = c.in-Some.found in
-    let place : c.next_place.result ≡ place_behind m.start m.end = c.next_place.ensures in
-    let some = subst (λ x. IsFirst fold e nothing c.args.area.now c.args.from.place x) c.in-Some.is (c.first.ensures.first e nothing fold h) in
-    let r = by (shown_match false m ∷ rest)
-    (run_more fold e c.args.area.now c.args.from.place m rest c.if-found-area.false some (subst (λ k. IsRun fold e c.args.area.now k rest) place run)) in
-    let n = r.2 in (r.0, r.1, omega (arith, n))
+pub returns-in-None-clause-kept : goal.returns-in-None-clause-kept
+returns-in-None-clause-kept c = λ l r fold h. c.count_on.ensures.kept l r fold (c.first_within.ensures.kept l r fold h)

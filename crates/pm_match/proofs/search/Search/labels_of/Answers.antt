@@ -1,7 +1,7 @@
 use Rattle.pm_match.proofs.search.Search.labels_of.Goals as goal
 
 pub loop-number-init : goal.loop-number-init
-loop-number-init c = λ l r fold h. c.prepare.ensures l r fold h
+loop-number-init c = λ l r fold h. c.prepare.ensures.kept l r fold h
 
 pub loop-number-preserved : goal.loop-number-preserved
 loop-number-preserved c = λ l r fold h. c.first-found.ensures.kept l r fold (c.loop-number.invariant l r fold h)

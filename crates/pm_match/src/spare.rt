@@ -1,0 +1,76 @@
+//! What makes a search quicker and is made once an area is long enough to pay for it. Where there is no memory for it the
+//! search goes on without.
+ghost use Rattle.std.specs.Prelude.{◌<◌, false, IfSome, length};
+ghost use Rattle.pm_match.specs.Labels.{InRange};
+ghost use Rattle.pm_match.specs.Starts.{AreStarts};
+ghost use Rattle.pm_match.specs.Cache.{AreReady};
+ghost use Rattle.pm_match.specs.Anywhere.{IsSound, IsAnywhere};
+
+use crate::anywhere::{Anywhere, make_anywhere};
+use crate::build::Program;
+use crate::cache::{Cache, make_cache};
+use crate::order::order_of;
+use crate::starts::Starts;
+use crate::tables::starts_of;
+use std::alloc::Global;
+
+/// How long an area is where tables save more than it takes to make them.
+const LONG: usize = 256;
+
+/// How long an area is if the tables of later bytes, and rows, save more than it takes to make them.
+pub const VERY_LONG: usize = 16384;
+
+/// The length of areas that the cache of a search for the first match has room for sets by.
+const REACH: usize = 16384;
+
+/// Whether tables are still to be made.
+pub fn is_needed(starts: &Option<Starts>, size: usize) -> bool {
+    match starts {
+        None => size >= LONG,
+        Some(tables) => size >= VERY_LONG && !tables.is_whole,
+    }
+}
+
+/// The tables of an automaton. Where there is no memory for them the search goes on without.
+pub fn tables(alloc: Global, program: &Program, is_very_long: bool) -> Option<Starts>
+    requires range { InRange program.now.steps.items }
+    requires entry { program.now.entry < length program.now.steps.items }
+    requires exit { program.now.exit < length program.now.steps.items }
+    ensures { AreStarts program.now.steps.items program.now.entry program.now.exit result }
+{
+    match starts_of(
+        alloc,
+        &program.steps,
+        program.entry,
+        program.exit,
+        is_very_long,
+    ) {
+        Err(_) => None,
+        Ok(starts) => Some(starts),
+    }
+}
+
+/// An empty cache for passes from the end. Where there is no memory for it the search goes on without.
+pub fn spare_cache(alloc: Global, program: &Program) -> Option<Cache>
+    ensures { IfSome result (AreReady false program.now.steps.items program.now.exit) }
+{
+    let order = match order_of(alloc, &program.steps) {
+        Err(_) => return None,
+        Ok(order) => order,
+    };
+    match make_cache(alloc, program.steps.len(), REACH, order) {
+        Err(_) => None,
+        Ok(cache) => Some(cache),
+    }
+}
+
+/// An empty cache for passes from the front. Where there is no memory for it the search goes on without.
+pub fn spare_anywhere(alloc: Global, program: &Program) -> Option<Anywhere>
+    requires { IsSound program.now }
+    ensures { IfSome result (IsAnywhere program.now) }
+{
+    match make_anywhere(alloc, program) {
+        Err(_) => None,
+        Ok(anywhere) => Some(anywhere),
+    }
+}
