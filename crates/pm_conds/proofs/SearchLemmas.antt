@@ -43,10 +43,10 @@ pub found_within : (fold : Bool) (e : Whole) (area : List ℕ) (f : Option Found
 found_within fold e area f is = found_within_of fold e.left e.right area f is
 
 some_if : (fold : Bool) (e : Whole) (area : List ℕ) (b : Bool) (x : Option Found) → IsFound fold e area x → (IsTrue b → IsFound fold e area None → ⊥) → (IsFalse b → IsFound fold e area None) → b ≡ is_some x
-some_if fold e area true None is some none = absurd (some tt is)
+some_if fold e area true None is some none = absurd (some refl is)
 some_if fold e area true (Some f) is some none = refl
 some_if fold e area false None is some none = refl
-some_if fold e area false (Some f) is some none = (let same : Some f ≡ None = one_found fold e area (Some f) None is (none tt) in cc)
+some_if fold e area false (Some f) is some none = (let same : Some f ≡ None = one_found fold e area (Some f) None is (none refl) in absurd cc)
 
 -- whether there is a match is whether something is found
 pub is_match_is : (fold : Bool) (e : Whole) (area : List ℕ) (b : Bool) → (IsTrue b → IsFound fold e area None → ⊥) → (IsFalse b → IsFound fold e area None) → b ≡ is_some (found_of fold e area).0
@@ -58,10 +58,10 @@ inverted_outcome area None = refl
 inverted_outcome area (Some f) = refl
 
 plain_outcome_of : (fold : Bool) (l : Option Re) (r : Re) (area : List ℕ) (x : Option Found) → is_some l ≡ false → IsFoundOf fold l r area x → holds_if (is_some x) ≡ found_outcome false area x
-plain_outcome_of fold l r area None no is = refl
-plain_outcome_of fold None r area (Some f) no is = rw is.0 refl
-plain_outcome_of fold (Some l) r area (Some f) no is = cc
+plain_outcome_of fold l r area None whole is = refl
+plain_outcome_of fold None r area (Some f) whole is = rw is.0 refl
+plain_outcome_of fold (Some l) r area (Some f) whole is = absurd cc
 
 -- what comes of an expression without a cut
 pub plain_outcome : (fold : Bool) (e : Whole) (area : List ℕ) → is_some e.left ≡ false → holds_if (is_some (found_of fold e area).0) ≡ found_outcome false area (found_of fold e area).0
-plain_outcome fold e area no = plain_outcome_of fold e.left e.right area (found_of fold e area).0 no (found_of fold e area).1
+plain_outcome fold e area whole = plain_outcome_of fold e.left e.right area (found_of fold e area).0 whole (found_of fold e area).1

@@ -110,7 +110,29 @@ fn found_outcome(alloc: Global, area: &[u8], found: Option<Found>) -> Result<Out
     }
 }
 
-/// Searches the area for an expression. Where its match begins and ends is asked only if MATCH gets it.
+/// What comes of the engine's expression in an area. Where its match begins and ends is asked only if MATCH gets it.
+fn sought(
+    alloc: Global,
+    inverted: bool,
+    expr: &Expr,
+    engine: &mut Engine,
+    area: &[u8],
+) -> Result<Outcome, Memory>
+    requires { engine.old.expr ≡ expr.now }
+    ensures { IfOk result (λ come. come
+        ≡ Searching.found_outcome inverted area.now (found_of engine.old.fold expr.now area.now).0) }
+{
+    if inverted {
+        return Ok(outcome_if(!is_found(engine, area)));
+    }
+    if expr.has_cut() {
+        let found = find(engine, area);
+        return found_outcome(alloc, area, found);
+    }
+    Ok(outcome_if(is_found(engine, area)))
+}
+
+/// Searches the area for an expression.
 fn find_area(
     alloc: Global,
     inverted: bool,
@@ -122,14 +144,7 @@ fn find_area(
         ≡ Searching.found_outcome inverted area.now (match_in distinguish expr area.now)) }
 {
     let mut engine = Engine::build(alloc, &expr, !distinguish)?;
-    if inverted {
-        return Ok(outcome_if(!is_found(&mut engine, area)));
-    }
-    if !expr.has_cut() {
-        return Ok(outcome_if(is_found(&mut engine, area)));
-    }
-    let found = find(&mut engine, area);
-    found_outcome(alloc, area, found)
+    sought(alloc, inverted, &expr, &mut engine, area)
 }
 
 /// Searches the area for the expression that the text is, and counts its matches where there is a weight.

@@ -5,7 +5,7 @@ ghost use Rattle.pm_match.specs.Starts.{AreStarts};
 ghost use Rattle.pm_match.specs.Cache.{AreReady};
 ghost use Rattle.pm_match.specs.Anywhere.{IsSound, IsAnywhere};
 
-use crate::any_match::is_match;
+use crate::any_match::{is_match, is_match_within};
 use crate::anywhere::{Anywhere, before_all};
 use crate::automata::{Automata, Room};
 use crate::build::build;
@@ -46,6 +46,9 @@ const MANY: usize = 256;
 /// How many bytes for each state of a large automaton an area must have to pay for a pass from the front.
 const FEWER: usize = 32;
 
+/// How many places of a long area are searched for any match before something is made that makes a search quicker.
+const FRONT: usize = 256;
+
 /// How many labels a place has where they cost more than sets of states.
 const CROWD: usize = 3;
 
@@ -73,7 +76,7 @@ pub struct Search {
 }
 
 impl Search {
-    ghost use Rattle.std.specs.Prelude.{◌≡◌, ◌≤◌, ℕ, Bool, List, Option, Some, None, IfOk, IsTrue, IsFalse, length};
+    ghost use Rattle.std.specs.Prelude.{◌≡◌, ◌≤◌, ℕ, Bool, true, false, List, Option, Some, None, IfOk, IsTrue, IsFalse, length};
     ghost use Rattle.pm_regex.specs.Re.{Re, nothing};
     ghost use Rattle.pm_regex.specs.declared.found.Found.{Found};
     ghost use Rattle.pm_match.specs.declared.find.Match.{Match};
@@ -317,8 +320,23 @@ impl Search {
         self.first(area, from)
     }
 
-    /// Whether there is a match in the area.
-    pub fn is_match(&mut self, area: &[u8]) -> bool
+    /// Whether there is a match, where the first places of a long area show it.
+    fn is_match_at_front(&mut self, area: &[u8]) -> Option<bool>
+        requires { (l : Re) × (r : Re) × (fold : Bool) × Runs self.old l r fold }
+        ensures kept { (l r : Re) (fold : Bool) → Runs self.old l r fold → Runs self.new l r fold }
+        ensures some { result ≡ Some true → (l r : Re) (fold : Bool) → Runs self.old l r fold
+            → IsFirst fold l r area.now 0 None → ⊥ }
+        ensures none { result ≡ Some false → (l r : Re) (fold : Bool) → Runs self.old l r fold
+            → IsFirst fold l r area.now 0 None }
+    {
+        if area.len() < BUSY {
+            return None;
+        }
+        is_match_within(&self.automata, &mut self.room, area, 0, FRONT)
+    }
+
+    /// Whether there is a match, by a search that is made ready for the whole area.
+    fn is_match_in_all(&mut self, area: &[u8]) -> bool
         requires { (l : Re) × (r : Re) × (fold : Bool) × Runs self.old l r fold }
         ensures kept { (l r : Re) (fold : Bool) → Runs self.old l r fold → Runs self.new l r fold }
         ensures some { IsTrue result → (l r : Re) (fold : Bool) → Runs self.old l r fold
@@ -329,6 +347,21 @@ impl Search {
         let from = self.begin_of(area);
         self.prepare(area);
         is_match(&self.automata, &mut self.room, area, from)
+    }
+
+    /// Whether there is a match in the area.
+    pub fn is_match(&mut self, area: &[u8]) -> bool
+        requires { (l : Re) × (r : Re) × (fold : Bool) × Runs self.old l r fold }
+        ensures kept { (l r : Re) (fold : Bool) → Runs self.old l r fold → Runs self.new l r fold }
+        ensures some { IsTrue result → (l r : Re) (fold : Bool) → Runs self.old l r fold
+            → IsFirst fold l r area.now 0 None → ⊥ }
+        ensures none { IsFalse result → (l r : Re) (fold : Bool) → Runs self.old l r fold
+            → IsFirst fold l r area.now 0 None }
+    {
+        match self.is_match_at_front(area) {
+            None => self.is_match_in_all(area),
+            Some(is_match) => is_match,
+        }
     }
 
     /// Whether there is room to count by marks in an area of this length.

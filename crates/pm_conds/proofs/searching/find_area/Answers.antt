@@ -1,13 +1,10 @@
-use Rattle.std.proofs.Common.{not, true, refl, ap, ◌∙◌, sym}
-use Rattle.pm_meaning.specs.Searching.{holds_if, found_outcome, match_in}
-use Rattle.pm_conds.proofs.SearchLemmas.{inverted_outcome, plain_outcome}
+use Rattle.std.proofs.Common.{ap}
+use Rattle.pm_regex.proofs.FoundOrNot.{found_of}
+use Rattle.pm_meaning.specs.Searching.{found_outcome}
+use Rattle.pm_conds.proofs.Choices.{comes_to}
 use Rattle.pm_conds.proofs.searching.find_area.Goals as goal
 
-pub returns-then-inverted : goal.returns-then-inverted
-returns-then-inverted c = ?
-
-pub returns-then-has_cut : goal.returns-then-has_cut
-returns-then-has_cut c = ?
-
 pub returns : goal.returns
-returns c = ?
+returns c =
+    comes_to c.sought.result _ _
+    (ap (λ a. found_outcome c.args.inverted c.args.area.now (found_of a.fold c.args.expr c.args.area.now).0) c.in_ok-engine.ensures) c.sought.ensures

@@ -1,11 +1,11 @@
-use Rattle.std.proofs.Common.{◌≡◌, ◌+◌, ◌^◌, ◌<◌, length, ◌∙◌, subst, None, arith}
+use Rattle.std.proofs.Common.{◌≡◌, ◌+◌, ◌^◌, ◌<◌, length, ◌∙◌, subst, true, false, None, arith}
 use Rattle.pm_match.specs.Finding.{IsArrived, IsBestBefore, LeftSeed, RightSeed}
 use Rattle.pm_match.proofs.FindLemmas.{arrived_first, left_late, right_late}
 use Rattle.pm_match.proofs.BestLemmas.{best_none, ends_here, found_of}
 use Rattle.pm_match.proofs.AnyLemmas.{none_more, some_first, none_fits, some_fits}
 use Rattle.pm_match.specs.Starts.{GoesOn}
 use Rattle.pm_match.proofs.SkipLemmas.{all_bytes, on_places, on_left, on_right, on_best, on_none, first_from}
-use Rattle.pm_match.proofs.any_match.is_match.Goals as goal
+use Rattle.pm_match.proofs.any_match.is_match_within.Goals as goal
 
 pub loop-place-init : goal.loop-place-init
 loop-place-init c = record {
@@ -88,7 +88,8 @@ returns-then-is_met-clause-some c = λ t fold x y a d.
 pub returns-clause-some : goal.returns-clause-some
 returns-clause-some c = λ t fold x y a d.
     let fits : length c.args.area.now < 2 ^ 64 = omega arith in
-    let came = c.is_met-2.ensures.some t in
+    let same : c.is_met-2.result ≡ true = cc in
+    let came = c.is_met-2.ensures.some same in
     some_first fold x y c.args.area.now c.args.from c.loop-place.base (length c.args.area.now) c.visit-met-2.result came.0 came.1 c.loop-place.invariant.after
     (ends_here fold c.args.automata.now.left.steps.items c.args.automata.now.right.steps.items c.args.area.now x y c.args.automata.now.left.entry c.args.automata.now.left.exit c.args.automata.now.right.entry c.args.automata.now.right.exit
     c.loop-place.base (length c.args.area.now) c.visit-met-2.new.room.right.of.items c.visit-met-2.ensures.right_held (omega arith) fits a.built a.stop d.built d.stop c.visit-met-2.result c.visit-met-2.ensures.met
@@ -98,7 +99,8 @@ pub returns-clause-none : goal.returns-clause-none
 returns-clause-none c = λ t fold x y a d.
     let fits : length c.args.area.now < 2 ^ 64 = omega arith in
     let same : c.loop-place.place ≡ length c.args.area.now = omega arith in
-    let no_label = c.is_met-2.ensures.none t in
+    let off : c.is_met-2.result ≡ false = cc in
+    let no_label = c.is_met-2.ensures.none off in
     first_from fold x y c.args.area.now c.args.from c.loop-place.base c.loop-place.invariant.after (c.loop-place.invariant.none fold x y a d) None
     (found_of fold x y c.args.area.now c.loop-place.base fits None
     (none_more fold x y c.args.area.now c.loop-place.base (length c.args.area.now) c.visit-met-2.result no_label

@@ -4,7 +4,7 @@ use Rattle.pm_match.specs.Automata.{Fits}
 use Rattle.pm_match.specs.Search.{IsProgram}
 use Rattle.pm_regex.specs.Found.{IsMatch}
 use Rattle.pm_match.specs.Finding.{IsBestBefore, IsArrived, LeftSeed, RightSeed}
-use Rattle.pm_match.proofs.any_match.is_match.Given as goal
+use Rattle.pm_match.proofs.any_match.is_match_within.Given as goal
 
 abbrev pub invariant-loop-place : goal.invariant-loop-place
 invariant-loop-place l = record {
