@@ -1,5 +1,6 @@
 -- What a search is for.
-use Rattle.std.specs.Prelude.{◌≡◌, Bool, false, Some, slice_get, IfSome, ℕ, ◌≤◌}
+use Rattle.std.specs.Prelude.{◌≡◌, Bool, false, Some, slice_get, IfSome, ℕ, ◌≤◌, Box}
+use Rattle.std.specs.declared.alloc.Global.{Global}
 use Rattle.pm_regex.specs.Re.{Re}
 use Rattle.pm_match.specs.declared.step.Step.TheVariants.{Stop}
 use Rattle.pm_match.specs.declared.build.Program.{Program}
@@ -20,12 +21,12 @@ pub record IsProgram (g : Program) (e : Re) (fold : Bool) : Type 0 where
 pub record Runs (g : Search) (l r : Re) (fold : Bool) : Type 0 where
   pub whole : AreWhole g.automata
   pub room : Fits g.automata g.room
-  pub marks : IfSome g.marks (HasRoom g.automata.left.steps.items g.automata.left.entry g.automata.left.exit)
-  pub cache : IfSome g.cache (AreReady false g.automata.left.steps.items g.automata.left.exit)
-  pub anywhere : IfSome g.anywhere (IsAnywhere g.automata.left)
+  pub marks : IfSome g.marks (λ m. HasRoom g.automata.left.steps.items g.automata.left.entry g.automata.left.exit m.value)
+  pub cache : IfSome g.cache (λ c. AreReady false g.automata.left.steps.items g.automata.left.exit c.value)
+  pub anywhere : IfSome g.anywhere (λ a. IsAnywhere g.automata.left a.value)
   pub left : IsProgram g.automata.left l fold
   pub right : IsProgram g.automata.right r fold
 
 -- there is room to count by marks in an area of this length
 abbrev pub IsReserved : Search → ℕ → Type 0
-IsReserved g size = (m : Marks) × (g.marks ≡ Some m) × (size ≤ m.reach)
+IsReserved g size = (m : Box Marks Global) × (g.marks ≡ Some m) × (size ≤ m.value.reach)

@@ -33,6 +33,13 @@ pub struct Marks {
     pub forward: Forward,
 }
 
+/// Whether there is room for an area of this length.
+pub fn reaches(marks: &Marks, length: usize) -> bool
+    ensures { IsTrue result → length ≤ marks.now.reach }
+{
+    length <= marks.reach
+}
+
 /// How many places are marked at a time in an area of this length.
 fn window_of(reach: usize) -> usize
     ensures { result ≡ min reach 65536 }

@@ -12,9 +12,8 @@ use crate::build::build;
 use crate::cache::{Cache, least_start};
 use crate::find::{Match, find, find_within};
 use crate::labels::no_labels;
-use crate::marks::{Marks, Progress, count_marked, make_marks};
-use crate::order::order_of;
-use crate::spare::{VERY_LONG, is_needed, spare_anywhere, spare_cache, tables};
+use crate::marks::{Marks, Progress, count_marked, reaches};
+use crate::spare::{VERY_LONG, is_needed, reserved_marks, spare_anywhere, spare_cache, tables};
 use pm_bytes::Memory;
 use pm_regex::Op;
 use std::alloc::Global;
@@ -68,11 +67,11 @@ pub struct Search {
     automata: Automata,
     room: Room,
     /// Room to count by marks, once it was asked for.
-    marks: Option<Marks>,
+    marks: Option<Box<Marks>>,
     /// Sets for a pass from the end, once one was worth it.
-    cache: Option<Cache>,
+    cache: Option<Box<Cache>>,
     /// Sets for a pass from the front that tells whether anything matches, once one was worth it.
-    anywhere: Option<Anywhere>,
+    anywhere: Option<Box<Anywhere>>,
 }
 
 impl Search {
@@ -370,7 +369,7 @@ impl Search {
     {
         match &self.marks {
             None => false,
-            Some(marks) => length <= marks.reach,
+            Some(marks) => reaches(marks, length),
         }
     }
 
@@ -379,8 +378,7 @@ impl Search {
         ensures kept { (l r : Re) (fold : Bool) → Runs self.old l r fold → Runs self.new l r fold }
     {
         if !self.is_reserved(length) {
-            let order = order_of(self.alloc, &self.automata.left.steps)?;
-            let marks = make_marks(self.alloc, self.automata.left.steps.len(), length, order)?;
+            let marks = reserved_marks(self.alloc, &self.automata.left, length)?;
             self.marks = Some(marks);
         }
         Ok(())

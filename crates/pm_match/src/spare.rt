@@ -1,17 +1,20 @@
 //! What makes a search quicker and is made once an area is long enough to pay for it. Where there is no memory for it the
 //! search goes on without.
-ghost use Rattle.std.specs.Prelude.{◌<◌, false, IfSome, length};
+ghost use Rattle.std.specs.Prelude.{◌≡◌, ◌<◌, false, IfOk, IfSome, length};
 ghost use Rattle.pm_match.specs.Labels.{InRange};
 ghost use Rattle.pm_match.specs.Starts.{AreStarts};
 ghost use Rattle.pm_match.specs.Cache.{AreReady};
+ghost use Rattle.pm_match.specs.Checkpoints.{HasRoom};
 ghost use Rattle.pm_match.specs.Anywhere.{IsSound, IsAnywhere};
 
 use crate::anywhere::{Anywhere, make_anywhere};
 use crate::build::Program;
 use crate::cache::{Cache, make_cache};
+use crate::marks::{Marks, make_marks};
 use crate::order::order_of;
 use crate::starts::Starts;
 use crate::tables::starts_of;
+use pm_bytes::Memory;
 use std::alloc::Global;
 
 /// How long an area is where tables save more than it takes to make them.
@@ -50,8 +53,8 @@ pub fn tables(alloc: Global, program: &Program, is_very_long: bool) -> Option<St
     }
 }
 
-/// An empty cache for passes from the end. Where there is no memory for it the search goes on without.
-pub fn spare_cache(alloc: Global, program: &Program) -> Option<Cache>
+/// An empty cache for passes from the end.
+fn empty_cache(alloc: Global, program: &Program) -> Option<Cache>
     ensures { IfSome result (AreReady false program.now.steps.items program.now.exit) }
 {
     let order = match order_of(alloc, &program.steps) {
@@ -64,13 +67,44 @@ pub fn spare_cache(alloc: Global, program: &Program) -> Option<Cache>
     }
 }
 
+/// An empty cache for passes from the end. Where there is no memory for it the search goes on without.
+pub fn spare_cache(alloc: Global, program: &Program) -> Option<Box<Cache>>
+    ensures { IfSome result (λ cache. AreReady false program.now.steps.items program.now.exit cache.value) }
+{
+    match empty_cache(alloc, program) {
+        None => None,
+        Some(cache) => Box::new(alloc, cache).ok(),
+    }
+}
+
 /// An empty cache for passes from the front. Where there is no memory for it the search goes on without.
-pub fn spare_anywhere(alloc: Global, program: &Program) -> Option<Anywhere>
+pub fn spare_anywhere(alloc: Global, program: &Program) -> Option<Box<Anywhere>>
     requires { IsSound program.now }
-    ensures { IfSome result (IsAnywhere program.now) }
+    ensures { IfSome result (λ anywhere. IsAnywhere program.now anywhere.value) }
 {
     match make_anywhere(alloc, program) {
         Err(_) => None,
-        Ok(anywhere) => Some(anywhere),
+        Ok(anywhere) => Box::new(alloc, anywhere).ok(),
     }
+}
+
+/// Room to count by marks in areas of up to this length.
+fn marks_for(alloc: Global, program: &Program, reach: usize) -> Result<Marks, Memory>
+    ensures room { IfOk result (HasRoom program.now.steps.items program.now.entry program.now.exit) }
+    ensures reach { IfOk result (λ marks. marks.reach ≡ reach) }
+{
+    let order = order_of(alloc, &program.steps)?;
+    let marks = make_marks(alloc, program.steps.len(), reach, order)?;
+    Ok(marks)
+}
+
+/// Room to count by marks in areas of up to this length.
+pub fn reserved_marks(alloc: Global, program: &Program, reach: usize) -> Result<Box<Marks>, Memory>
+    ensures room { IfOk result (λ marks.
+        HasRoom program.now.steps.items program.now.entry program.now.exit marks.value) }
+    ensures reach { IfOk result (λ marks. marks.value.reach ≡ reach) }
+{
+    let marks = marks_for(alloc, program, reach)?;
+    let marks = Box::new(alloc, marks)?;
+    Ok(marks)
 }

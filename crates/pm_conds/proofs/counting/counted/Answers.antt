@@ -14,7 +14,7 @@ returns-then-not-is_found c =
     let e = c.args.expr.now in
     ap (λ n. Counted c.args.weight n None) c.matches_of_none.ensures
     ∙ none_counts c.args.weight c.args.inverted area (found_of fold e area).0 (count_of fold e area).0
-    (sym (c.is_found.ensures.found ∙ ap (λ w. is_some (found_of fold w area).0) c.requires) ∙ c.if-not-is_found.false)
+    (sym (c.is_found.ensures.found ∙ ap (λ w. is_some (found_of fold w area).0) c.requires) ∙ c.if-not-is_found.true)
 
 pub returns-then-inverted : goal.returns-then-inverted
 returns-then-inverted c =
@@ -22,7 +22,7 @@ returns-then-inverted c =
     let fold = c.args.engine.now.fold in
     let e = c.args.expr.now in
     inverted_counts c.args.weight area (found_of fold e area).0 (count_of fold e area).0
-    (sym (c.is_found.ensures.found ∙ ap (λ w. is_some (found_of fold w area).0) c.requires) ∙ c.if-not-is_found.true)
+    (sym (c.is_found.ensures.found ∙ ap (λ w. is_some (found_of fold w area).0) c.requires) ∙ c.if-not-is_found.false)
     ∙ ap (λ i. Weighing.counted_outcome c.args.weight i area (found_of fold e area).0 (count_of fold e area).0) (sym c.if-inverted.true)
 
 pub returns : goal.returns
