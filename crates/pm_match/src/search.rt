@@ -33,6 +33,10 @@ const PIECES: usize = 16;
 /// How many bytes each has for the labels.
 const PIECE: usize = 128;
 
+/// How many places of a piece are visited at most where the tables rule out all that they can: its first, and its last
+/// ones.
+const BORDERS: usize = 8;
+
 /// How many bytes each has for the places.
 const SHORT: usize = 64;
 
@@ -75,7 +79,8 @@ pub struct Search {
 }
 
 impl Search {
-    ghost use Rattle.std.specs.Prelude.{◌≡◌, ◌≤◌, ℕ, Bool, true, false, List, Option, Some, None, IfOk, IsTrue, IsFalse, length};
+    ghost use Rattle.std.specs.Prelude.{◌≡◌, ◌≤◌, ℕ, Bool, true, false, List, Option, Some, None, length};
+    ghost use Rattle.std.specs.Prelude.{IfOk, IsTrue, IsFalse};
     ghost use Rattle.pm_regex.specs.Re.{Re, nothing};
     ghost use Rattle.pm_regex.specs.declared.found.Found.{Found};
     ghost use Rattle.pm_match.specs.declared.find.Match.{Match};
@@ -247,7 +252,9 @@ impl Search {
         let mut labels: usize = 0;
         for number in 0..PIECES {
             let _found = self.first(piece_of(area, number, PIECE), 0);
-            labels = labels.saturating_add(self.room.labels);
+            if self.room.visits > BORDERS {
+                labels = labels.saturating_add(self.room.labels);
+            }
         }
         labels
     }

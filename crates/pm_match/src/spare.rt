@@ -1,5 +1,5 @@
-//! What makes a search quicker and is made once an area is long enough to pay for it. Where there is no memory for it the
-//! search goes on without.
+//! What makes a search quicker, and is made once an area is long enough to pay for it. Where there is no memory for it
+//! the search goes on without.
 ghost use Rattle.std.specs.Prelude.{◌≡◌, ◌<◌, false, IfOk, IfSome, length};
 ghost use Rattle.pm_match.specs.Labels.{InRange};
 ghost use Rattle.pm_match.specs.Starts.{AreStarts};
