@@ -1,5 +1,6 @@
 //! Conditions with a weight that count the matches of an expression (procmailsc(5)).
 ghost use Rattle.std.specs.Prelude.{◌≡◌, IfOk, Some, not, max, if◌then◌else◌};
+ghost use Rattle.pm_regex.specs.declared.found.Found.{Found};
 ghost use Rattle.pm_regex.proofs.FoundOrNot.{found_of};
 ghost use Rattle.pm_regex.proofs.CountOf.{count_of};
 ghost use Rattle.pm_meaning.specs.Searching.{match_in};
@@ -10,7 +11,7 @@ use crate::searching::{find, is_found, matched};
 use pm_bytes::{Blob, Memory};
 use pm_match::Engine;
 use pm_meaning::question::{Factors, Outcome};
-use pm_regex::{Expr, Found};
+use pm_regex::Expr;
 use std::alloc::Global;
 
 /// The bytes that MATCH gets of an expression that matches, where it has a `\/`.
@@ -29,14 +30,11 @@ fn match_of(
         return Ok(None);
     }
     match find(engine, area) {
-        None | Some(Found { cut: None, .. }) => Ok(None),
-        Some(
-            Found {
-                cut: Some(cut),
-                end,
-                ..
-            },
-        ) => Ok(Some(matched(alloc, area, cut, end)?)),
+        None => Ok(None),
+        Some(found) => match found.cut {
+            None => Ok(None),
+            Some(cut) => Ok(Some(matched(alloc, area, cut, found.end)?)),
+        },
     }
 }
 

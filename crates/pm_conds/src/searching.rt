@@ -99,14 +99,10 @@ fn found_outcome(alloc: Global, area: &[u8], found: Option<Found>) -> Result<Out
 {
     match found {
         None => Ok(Outcome::Fails),
-        Some(Found { cut: None, .. }) => Ok(Outcome::Holds),
-        Some(
-            Found {
-                cut: Some(cut),
-                end,
-                ..
-            },
-        ) => Ok(Outcome::Matched(matched(alloc, area, cut, end)?)),
+        Some(found) => match found.cut {
+            None => Ok(Outcome::Holds),
+            Some(cut) => Ok(Outcome::Matched(matched(alloc, area, cut, found.end)?)),
+        },
     }
 }
 
