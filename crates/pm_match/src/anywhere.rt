@@ -242,8 +242,8 @@ fn meet(
     }
 }
 
-/// The number of the set of the next place, by that of a place. There is none where the exit is reached, or where there
-/// is no room for the set.
+/// The number of the set of the next place, by that of a place. There is none where the exit is reached, where half of
+/// the steps had no link, or where there is no room for the set.
 fn next_number(
     program: &Program,
     sets: &mut Sets,
@@ -263,7 +263,12 @@ fn next_number(
 {
     match known(sets, area, place, at) {
         Some(to) => Some(to),
-        None => meet(program, sets, next, area, place, at),
+        None => {
+            if sets.missed > PATIENCE + place / 2 {
+                return None;
+            }
+            meet(program, sets, next, area, place, at)
+        }
     }
 }
 
@@ -306,9 +311,6 @@ fn pass(program: &Program, sets: &mut Sets, next: &mut Labels, area: &[u8], firs
     let mut base = 0;
     let mut place = 0;
     while place < area.len() {
-        if sets.missed > PATIENCE + place / 2 {
-            return base;
-        }
         match next_number(program, sets, next, area, place, at) {
             None => return base,
             Some(to) => {

@@ -56,11 +56,6 @@ loop-place-preserved c =
           (true_or_false c.index.result.now.goes_on);
     }
 
-pub returns-then-sets-place-clause-none : goal.returns-then-sets-place-clause-none
-returns-then-sets-place-clause-none c = λ g em.
-    let inv = c.loop-place.invariant in
-    before_base g c.args.program.now c.args.area.now em c.loop-place.base c.loop-place.place inv.low inv.within inv.none (inv.base g em)
-
 pub returns-in-None-clause-none : goal.returns-in-None-clause-none
 returns-in-None-clause-none c = λ g em.
     let inv = c.loop-place.invariant in
