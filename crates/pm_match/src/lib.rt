@@ -16,6 +16,7 @@ mod find;
 mod forward;
 mod labels;
 mod laws;
+mod marking;
 mod marks;
 mod order;
 mod row;
