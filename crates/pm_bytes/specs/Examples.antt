@@ -1,5 +1,5 @@
 -- Short texts and what is read from them, and each class of bytes as all bytes that are in it.
-use Rattle.std.specs.Prelude.{◌≡◌, ℕ, Bool, true, false, List, [], ◌∷◌, Some, None, pos, neg_ℤ, codes, map, replicate}
+use Rattle.std.specs.Prelude.{◌≡◌, ℕ, Bool, true, false, not, List, [], ◌∷◌, Some, None, pos, neg_ℤ, nat_eq, codes, map, replicate}
 use Rattle.std.specs.List.{filter, range_with_len}
 use Rattle.pm_bytes.specs.Letter.{is_blank_byte, is_space_byte, is_digit_byte, is_name_start, is_name_byte, lower_case}
 use Rattle.pm_bytes.specs.Name.{is_usable}
@@ -25,6 +25,7 @@ pub record Examples : Type 0 where
   -- capitals are made small, and no other byte
   pub capitals : map lower_case (codes "ABCDEFGHIJKLMNOPQRSTUVWXYZ") ≡ codes "abcdefghijklmnopqrstuvwxyz"
   pub around_capitals : map lower_case (64 ∷ 91 ∷ 96 ∷ 97 ∷ 122 ∷ 123 ∷ 192 ∷ []) ≡ 64 ∷ 91 ∷ 96 ∷ 97 ∷ 122 ∷ 123 ∷ 192 ∷ []
+  pub made_small : those (λ b. not (nat_eq (lower_case b) b)) ≡ codes "ABCDEFGHIJKLMNOPQRSTUVWXYZ"
   -- 1 to 18 digits write a number in tens; nothing else does
   pub zero : count_of (codes "0") ≡ Some 0
   pub tens : count_of (codes "1024") ≡ Some 1024
@@ -52,10 +53,12 @@ pub record Examples : Type 0 where
   pub byte_255 : is_usable (97 ∷ 255 ∷ []) ≡ false
   pub byte_0 : is_usable (97 ∷ 0 ∷ []) ≡ false
   pub byte_1 : is_usable (1 ∷ []) ≡ true
+  pub all_of_ascii : is_usable (range_with_len 1 127) ≡ true
   -- a name is seen from a folder, unless it begins with `/` or the folder is `.`
   pub in_folder : full_name (codes "Mail") (codes "mbox") ≡ codes "Mail/mbox"
   pub behind_slash : full_name (codes "/h/") (codes "mbox") ≡ codes "/h/mbox"
   pub from_root : full_name (codes "Mail") (codes "/mbox") ≡ codes "/mbox"
   pub working_folder : full_name (codes ".") (codes "mbox") ≡ codes "mbox"
+  pub dot_and_slash : full_name (codes "./") (codes "mbox") ≡ codes "./mbox"
   pub folder_above : full_name (codes "..") (codes "./mbox") ≡ codes ".././mbox"
   pub empty_name : full_name (codes "Mail") [] ≡ codes "Mail/"
