@@ -1,5 +1,6 @@
 -- Log lines, names in folders, and what calls come to, in short runs.
-use Rattle.std.specs.Prelude.{ℕ, Bool, true, false, List, [], ◌∷◌, ◌≡◌, Some, None, length, fold, codes, neg_ℤ, pos}
+use Rattle.std.specs.Prelude.{ℕ, ◌+◌, ◌≤◌, ◌<◌, Bool, true, false, not, List, [], ◌∷◌, ◌≡◌, Some, None, length, fold, nat_eq, codes, neg_ℤ, pos}
+use Rattle.std.specs.List.{filter, range_with_len}
 use Rattle.pm_host.specs.declared.answers.Looked.TheVariants as looked
 use Rattle.pm_host.specs.declared.answers.Took.TheVariants as took
 use Rattle.pm_host.specs.declared.answers.Made.TheVariants as made
@@ -12,19 +13,22 @@ use Rattle.pm_host.specs.declared.answers.Fed.TheVariants as fed
 use Rattle.pm_host.specs.declared.answers.Finished.TheVariants as finished
 use Rattle.pm_host.specs.declared.calls.Answer.{Answer}
 use Rattle.pm_host.specs.declared.calls.Answer.TheVariants as answer
+use Rattle.pm_host.specs.declared.calls.Call.{Call}
 use Rattle.pm_journal.specs.LogText.{quoted, couldnt_read_line, too_many_rcfiles_line, host_mismatched_line, couldnt_write_line, bytes_left_line, no_free_name_line, no_delivery_line, skipped_line, value_too_long_line, unusable_name_line, defective_condition_line, couldnt_lock_line, forcing_lock_line, couldnt_unlock_line, no_lock_line, couldnt_start_line, lost_contact_line, output_too_long_line, couldnt_chdir_line, program_failure_line, input_closed_line, couldnt_write_out_line, too_many_clones_line}
-use Rattle.pm_journal.specs.Naming.{Numbered, plain_candidate, maildir_candidate, mh_candidate, maildir_folders, first_number}
+use Rattle.pm_journal.specs.Naming.{Numbered, plain_candidate, maildir_candidate, mh_candidate, maildir_folders, first_number, unslashed}
 use Rattle.pm_journal.specs.Appending.{append_step, append_heard, append_reply}
 use Rattle.pm_journal.specs.Locking.{lock_rule, lock_step, lock_heard, lock_reply, no_tally}
 use Rattle.pm_journal.specs.Placing.{FileState, Creating, Moving, Ended, file_heard, try_reply}
-use Rattle.pm_journal.specs.Reading.{ReadState, ReadLooking, ReadEnded, read_heard}
-use Rattle.pm_journal.specs.Children.{FeedState, FeedOn, FeedOver, TakeState, TakeOn, TakeOver, feed_heard, take_heard, takes_output, run_reply}
+use Rattle.pm_journal.specs.Reading.{ReadState, ReadLooking, ReadOn, ReadEnded, ReadDone, IsNextRead, read_heard}
+use Rattle.pm_journal.specs.Children.{FeedState, FeedOn, FeedOver, TakeState, TakeOn, TakeOver, TakeDone, IsNextTake, feed_heard, take_heard, takes_output, run_reply}
+use Rattle.pm_journal.specs.declared.acts.Reply.{Reply}
 use Rattle.pm_journal.specs.declared.acts.Reply.TheVariants as reply
 use Rattle.pm_journal.specs.declared.appending.AppendEnd.TheVariants as append_end
 use Rattle.pm_journal.specs.declared.appending.AppendStep.TheVariants as append_ask
 use Rattle.pm_journal.specs.declared.appending.AppendState.{AppendState}
 use Rattle.pm_journal.specs.declared.appending.AppendState.TheVariants as append_state
 use Rattle.pm_journal.specs.declared.children.FeedEnd.TheVariants as feed_end
+use Rattle.pm_journal.specs.declared.children.TakeEnd.{TakeEnd}
 use Rattle.pm_journal.specs.declared.children.TakeEnd.TheVariants as take_end
 use Rattle.pm_journal.specs.declared.locking.LockEnd.TheVariants as lock_end
 use Rattle.pm_journal.specs.declared.locking.LockStep.TheVariants as lock_ask
@@ -75,6 +79,7 @@ pub record OfTexts : Type 0 where
   pub next_maildir_name : maildir_candidate (codes "d") stamp 12
       ≡ record { at = codes "d/tmp/1000.42_3-12.a_b"; to = Some (codes "d/new/1000.42_3-12.a_b") }
   pub maildir_parts : maildir_folders (codes "d") ≡ codes "d" ∷ codes "d/tmp" ∷ codes "d/new" ∷ codes "d/cur" ∷ []
+  pub slash_alone : filter (λ b. not (nat_eq (unslashed b) b)) (range_with_len 0 256) ≡ codes "/"
   -- 100 names are tried
   pub names : (make : ℕ → Candidate) (all : List Candidate) → Numbered make all → length all ≡ 100
   -- in an MH folder it is numbered after the greatest number there, and other names don't count
@@ -192,6 +197,10 @@ pub record OfFiles : Type 0 where
   pub read_missing : reading (nothing ∷ []) ≡ ReadEnded reply.Missing
   pub read_folder : reading (folder ∷ []) ≡ ReadEnded reply.NotPlain
   pub read_failed : reading (size 4 ∷ answer.Read (codes "ab") ∷ answer.Failed ∷ []) ≡ ReadEnded reply.Faulted
+  -- as far as 1,048,577 bytes, of which the last says that it is too long
+  pub reads_on : (name so_far : List ℕ) (call : Call) (next : IsNextRead name so_far call)
+      → length so_far + next.room ≤ 1048577
+  pub read_long : (so_far : List ℕ) (reply : Reply) → ReadDone (ReadOn so_far) reply → 1048576 < length so_far
 
 -- what lock files and programs come to
 pub record OfLocksAndPrograms : Type 0 where
@@ -224,11 +233,15 @@ pub record OfLocksAndPrograms : Type 0 where
   pub not_fed : feeding (answer.Feed (fed.Took 3) ∷ answer.Feed fed.Failed ∷ []) ≡ FeedOver (feed_end.Failed 3)
   pub output : taking (answer.Take (codes "ab") ∷ answer.Take (codes "c") ∷ answer.Take [] ∷ []) ≡ TakeOver (take_end.All (codes "abc"))
   pub output_failed : taking (answer.Take (codes "ab") ∷ answer.Failed ∷ []) ≡ TakeOver take_end.Failed
+  -- an output of more than 67,108,864 bytes isn't taken to its end
+  pub takes_on : (so_far : List ℕ) (call : Call) → IsNextTake so_far call → length so_far ≤ 67108864
+  pub taken_long : (so_far : List ℕ) (end : TakeEnd) → TakeDone (TakeOn so_far) end → 67108864 < length so_far
   pub wants_output : takes_output true (feed_end.Closed 3) ≡ true
   pub wants_none_after_failure : takes_output true (feed_end.Failed 3) ≡ false
   -- its code, or 128 and the signal that ended it
   pub code : run_reply 5 feed_end.All (take_end.All (codes "a")) (finished.Code 2) ≡ reply.Ended 2 5 (codes "a")
   pub signal : run_reply 5 (feed_end.Closed 3) (take_end.All []) (finished.Signal 9) ≡ reply.Ended 137 3 []
+  pub great_signal : run_reply 5 (feed_end.Closed 3) (take_end.All []) (finished.Signal 200) ≡ reply.Ended 255 3 []
   pub no_end : run_reply 5 feed_end.All (take_end.All []) finished.Failed ≡ reply.Broken 5
   pub broken : run_reply 5 (feed_end.Failed 3) (take_end.All []) (finished.Code 0) ≡ reply.Broken 3
   pub output_broken : run_reply 5 feed_end.All take_end.Failed (finished.Code 0) ≡ reply.Broken 5

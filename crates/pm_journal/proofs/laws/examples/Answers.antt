@@ -36,6 +36,7 @@ returns-clause-texts c = record {
   maildir_name = refl;
   next_maildir_name = refl;
   maildir_parts = refl;
+  slash_alone = refl;
   names = λ make all numbered. numbered.count;
   mh_name = refl;
   first_in_empty = refl;
@@ -83,6 +84,8 @@ returns-clause-files c = record {
   read_missing = refl;
   read_folder = refl;
   read_failed = refl;
+  reads_on = λ name so_far call next. next.bounded;
+  read_long = λ so_far reply done. done.0;
 }
 
 pub returns-clause-locks_and_programs : goal.returns-clause-locks_and_programs
@@ -112,10 +115,13 @@ returns-clause-locks_and_programs c = record {
   not_fed = refl;
   output = refl;
   output_failed = refl;
+  takes_on = λ so_far call next. next.wanted;
+  taken_long = λ so_far end done. done.0;
   wants_output = refl;
   wants_none_after_failure = refl;
   code = refl;
   signal = refl;
+  great_signal = refl;
   no_end = refl;
   broken = refl;
   output_broken = refl;
