@@ -1,5 +1,5 @@
 -- What comes of locks, deliveries and programs, answer by answer, and what is logged (procmail(1), procmailrc(5)).
-use Rattle.std.specs.Prelude.{ℕ, List, [], ◌∷◌, ◌++◌, ◌≡◌, Some, None, true, false, codes, length, nat_lt, replicate, pos}
+use Rattle.std.specs.Prelude.{ℕ, ◌-◌, ◌^◌, List, [], ◌∷◌, ◌++◌, ◌≡◌, Some, None, true, false, codes, length, min, nat_lt, replicate, pos, if◌then◌else◌}
 use Rattle.std.specs.List.{filter, range_with_len}
 use Rattle.pm_journal.specs.LogText.{bytes_left_line, couldnt_lock_line, couldnt_read_line, couldnt_start_line, couldnt_unlock_line, couldnt_write_line, couldnt_write_out_line, defective_condition_line, forcing_lock_line, input_closed_line, lost_contact_line, no_delivery_line, no_free_name_line, no_lock_line, output_too_long_line, program_failure_line, unusable_name_line, value_too_long_line}
 use Rattle.pm_journal.specs.Plan.{Ends, Plan, and_then, ask}
@@ -7,22 +7,25 @@ use Rattle.pm_journal.specs.Walking.{Go}
 use Rattle.pm_journal.specs.declared.acts.Act.TheVariants.{Lock, SayErr, Unlock}
 use Rattle.pm_journal.specs.declared.acts.Reply.TheVariants as reply
 use Rattle.pm_journal.specs.declared.children.RunEnd.TheVariants as run
+use Rattle.pm_recipe.specs.Tree.{nil}
 use Rattle.pm_recipe.specs.declared.tree.Condition.{Condition}
 use Rattle.pm_recipe.specs.declared.tree.Weight.TheVariants as weight
 use Rattle.pm_subst.specs.Fields.{most_length}
-use Rattle.pm_subst.specs.Words.{size_in}
+use Rattle.pm_subst.specs.Words.{size_in, words_in}
 use Rattle.pm_subst.specs.declared.kinds.Mode.{Mode}
-use Rattle.pm_subst.specs.declared.kinds.Mode.TheVariants.{One, Quoted}
+use Rattle.pm_subst.specs.declared.kinds.Mode.TheVariants.{Many, One, Quoted}
 use Rattle.pm_vars.specs.Table.{Table}
 use Rattle.pm_meaning.specs.Abstracts.{abstract_of, copy_lines, folder_part, from_part, is_subject, subject_line, subject_part}
 use Rattle.pm_meaning.specs.Blocks.{closed, enter_under, give_block_lock, got_block_lock, lock_block}
-use Rattle.pm_meaning.specs.Chains.{executed, passed, with_chain}
+use Rattle.pm_meaning.specs.Chains.{executed, passed, succeeded, with_chain}
 use Rattle.pm_meaning.specs.Changes.{overflowed, stored_in}
+use Rattle.pm_meaning.specs.Courses.{Others, make_clone, now_at, with_copy}
 use Rattle.pm_meaning.specs.ConditionExamples.{question}
 use Rattle.pm_meaning.specs.Delivering.{appended_by, attempt_lines, attempt_turn, deliver_at, deliver_to, file_one, file_size, in_plain, is_done, next_stamp, placed_by, plain_prefix}
 use Rattle.pm_meaning.specs.Destinations.{destination_of}
-use Rattle.pm_meaning.specs.Ends.{tell_delivery}
+use Rattle.pm_meaning.specs.Ends.{tell_delivery, trap, trap_by, trapped_with}
 use Rattle.pm_meaning.specs.Examples.{chain, letters, process, process_with, variable}
+use Rattle.pm_meaning.specs.Forwards.{addressed, forward_line}
 use Rattle.pm_meaning.specs.GlobalLock.{after_giving, got_lock, with_global}
 use Rattle.pm_meaning.specs.Judging.{Come, behind_conditions, by_line, come_with, held_with, holding, read_again, told_judgement}
 use Rattle.pm_meaning.specs.Leads.{Asking, asking_of}
@@ -31,8 +34,8 @@ use Rattle.pm_meaning.specs.Logging.{log_to, logged}
 use Rattle.pm_meaning.specs.Minds.{Mind}
 use Rattle.pm_meaning.specs.Outputs.{run_fault, taken_output}
 use Rattle.pm_meaning.specs.ProgramActions.{appended_name, forward_task, lock_mode, outcome_lines, pipe_task, trial_lines, trial_turn, write_outcome, write_task, Delivers}
-use Rattle.pm_meaning.specs.Programs.{command_line_of, line_of_words, needs_shell, shell_words}
-use Rattle.pm_meaning.specs.Running.{Opening, OpeningRule, Over, falling_off, pass_over}
+use Rattle.pm_meaning.specs.Programs.{command_line_of, expanded_line, line_of_words, needs_shell, shell_words}
+use Rattle.pm_meaning.specs.Running.{Opening, OpeningRule, Over, Refusing, Running, clone_of, falling_off, pass_over}
 use Rattle.pm_meaning.specs.Turns.{Enters, GoesOn, Halts, Turn, is_too_long, refuse_name, say_then}
 use Rattle.pm_meaning.specs.declared.process.Attempt.TheVariants as attempt
 use Rattle.pm_meaning.specs.declared.process.End.TheVariants.{Delivered, FellOff, NoRc}
@@ -64,6 +67,10 @@ t = codes "t"
 -- a process that logs abstracts of all deliveries
 abbrev pub logging : Mind
 logging = process_with (variable (codes "LOGFILE") (codes "l2") ∷ variable (codes "LOGABSTRACT") (codes "all") ∷ [])
+
+-- no clone waits, and so many were made
+abbrev pub after_clones : ℕ → Others
+after_clones count = record { queue = []; made = count; first = None }
 
 -- a mail filter
 abbrev pub mail_filter : Mind
@@ -250,6 +257,22 @@ pub record OfTrials : Type 0 where
   pub longest_text : (mode : Mode) (text : List ℕ) (vars : Table) (outputs : List (List ℕ))
       → is_too_long mode text vars outputs
       ≡ nat_lt most_length (size_in mode vars outputs text)
+  pub longest_line : (outputs : List (List ℕ)) (text : List ℕ) (p : Mind) → expanded_line outputs text p
+      ≡ (if nat_lt most_length (size_in Many p.vars outputs text)
+      then line.TooLong (min (size_in Many p.vars outputs text) (2 ^ 64 - 1))
+      else line_of_words (words_in Many p.vars outputs text) p)
+  pub longest_forward : (outputs : List (List ℕ)) (text : List ℕ) (p : Mind) → forward_line outputs text p
+      ≡ (if nat_lt most_length (size_in Many p.vars outputs text)
+      then line.TooLong (min (size_in Many p.vars outputs text) (2 ^ 64 - 1))
+      else addressed (words_in Many p.vars outputs text) p)
+  -- TRAP's code is 127 if no program runs
+  pub trap_without_words : trap_by line.NoWords t process
+      ≡ say_then process (unusable_name_line t) (trapped_with 127 process)
+  pub trap_unusable : trap_by line.Unusable t process
+      ≡ say_then process (unusable_name_line t) (trapped_with 127 process)
+  pub trap_too_long : trap_by (line.TooLong 1048577) t process
+      ≡ say_then process (value_too_long_line 1048577) (trapped_with 127 (overflowed process))
+  pub no_trap : trap Delivered process ≡ Ends (trapped_with 127 process)
 
 -- what is logged, and what comes of rcfiles that aren't read
 pub record OfTelling : Type 0 where
@@ -281,3 +304,7 @@ pub record OfTelling : Type 0 where
       ≡ say_then process (couldnt_read_line k) (Go (Opening by_words (m ∷ []) process))
   -- without a delivery this is told
   pub fell_off : falling_off [] process ≡ say_then process no_delivery_line (Go (Over FellOff process))
+  -- a run makes 16 clones
+  pub clone_16 : make_clone nil [] process (after_clones 15)
+      ≡ Go (now_at (with_copy (clone_of nil [] process) (after_clones 15)) (Running [] (succeeded process)))
+  pub clone_17 : make_clone nil [] process (after_clones 16) ≡ Go (now_at (after_clones 16) (Refusing [] process))

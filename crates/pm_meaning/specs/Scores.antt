@@ -94,6 +94,9 @@ no_number = refl
 fourth_powers : add_length (pos 0) (pos 7) 4 9 5 true ≡ None
 fourth_powers = refl
 
+greatest : add_length (pos 0) (pos 7) 2 268435456 134217728 true ≡ Some (pos 7)
+greatest = refl
+
 too_great : add_length (pos 0) (pos 7) 2 9 134217729 true ≡ None
 too_great = refl
 

@@ -121,6 +121,12 @@ returns-clause-trials c = record {
   longest_output = λ output is. ap (λ count. if nat_lt 1048576 count then [] else output) is;
   longer_output = λ output is. ap (λ count. if nat_lt 1048576 count then [] else output) is;
   longest_text = λ mode text vars outputs. refl;
+  longest_line = λ outputs text p. refl;
+  longest_forward = λ outputs text p. refl;
+  trap_without_words = refl;
+  trap_unusable = refl;
+  trap_too_long = refl;
+  no_trap = refl;
 }
 
 pub returns-clause-telling : goal.returns-clause-telling
@@ -145,4 +151,6 @@ returns-clause-telling c = record {
   own_unreadable = refl;
   named_missing = refl;
   fell_off = refl;
+  clone_16 = refl;
+  clone_17 = refl;
 }
