@@ -1,12 +1,17 @@
 -- Expressions and how they are read, part by part.
-use Rattle.std.specs.Prelude.{ℕ, List, [], ◌∷◌, ◌++◌, ◌≡◌, Some, None, true, false, map, codes}
+use Rattle.std.specs.Prelude.{ℕ, ◌≤◌, Bool, List, [], ◌∷◌, ◌++◌, ◌≡◌, Option, Some, None, true, false, not, map, length, nat_eq, codes}
+use Rattle.std.specs.List.{filter, range_with_len}
+use Rattle.pm_regex.specs.declared.sign.Sign.{Sign}
+use Rattle.pm_regex.specs.declared.sign.Sign.TheVariants.{Open, Close, One}
 use Rattle.pm_regex.specs.declared.macros.Macro.TheVariants.{ToAddress, ToWord, FromDaemon, FromMailer}
 use Rattle.pm_regex.specs.declared.op.Atom.TheVariants.{Byte, Any, LineStart, LineEnd, WordStart, WordEnd, AreaStart, AreaEnd}
 use Rattle.pm_regex.specs.declared.op.Times.TheVariants.{Star, Plus, Maybe}
 use Rattle.pm_regex.specs.Bytes.{first_of}
+use Rattle.pm_regex.specs.Grammar.{IsExpr, IsPiece, IsWhole, Stand}
 use Rattle.pm_regex.specs.Macros.{macro_at, macro_text, plain_span, Expands}
 use Rattle.pm_regex.specs.Re.{Re, nothing, one, set, seq, either, times, Whole}
-use Rattle.pm_regex.specs.Reading.{ReadsTokens}
+use Rattle.pm_regex.specs.Reading.{Reads, ReadsTokens}
+use Rattle.pm_regex.specs.Tokens.{Token, IsTokens, sign, sign_of, escaped_sign}
 
 -- a branch of these pieces, one after the other
 abbrev pub branch_from : Re → List Re → Re
@@ -34,6 +39,15 @@ IsReadWithCut text left right = ReadsTokens text (record { left = Some left; rig
 -- the text is no expression
 abbrev pub IsNone : List ℕ → Type 0
 IsNone text = (e : Whole) → ReadsTokens text e → ⊥
+
+-- whether a sign is this byte and no more
+abbrev pub is_itself : ℕ → Option Sign → Bool
+is_itself b (Some (One (Byte c))) = nat_eq c b
+is_itself b other = false
+
+-- the bytes of which what they spell is more than themselves
+abbrev pub signs : (ℕ → Option Sign) → List ℕ
+signs spelled = filter (λ b. not (is_itself b (spelled b))) (range_with_len 0 256)
 
 -- what holds of macros
 pub record OfMacros : Type 0 where
@@ -82,6 +96,9 @@ pub record OfExpressions : Type 0 where
   pub line : IsRead (codes "^.$") (branch (one LineStart ∷ one Any ∷ one LineEnd ∷ []))
   pub edges_of_words : IsRead (codes "\\<a\\>") (branch (one WordStart ∷ byte (codes "a") ∷ one WordEnd ∷ []))
   pub escaped : IsRead (codes "\\.\\*\\n\\\\") (branch (bytes (codes ".*n\\")))
+  -- all bytes that are signs by themselves, or after a backslash
+  pub all_signs : signs sign_of ≡ codes "$()*+.?[\\^|"
+  pub all_escaped : signs (λ b. Some (escaped_sign b)) ≡ codes "/<>"
   -- a repeat is of the piece before it, and at the front of a branch a byte
   pub repeats : IsRead (codes "a*b+c?d")
       (branch (times Star (byte (codes "a")) ∷ times Plus (byte (codes "b")) ∷ times Maybe (byte (codes "c")) ∷ byte (codes "d") ∷ []))
@@ -99,6 +116,7 @@ pub record OfExpressions : Type 0 where
   pub end_behind_cut : IsReadWithCut (codes "\\/^^|^^") nothing (either (branch (one AreaEnd ∷ [])) (branch (one AreaStart ∷ [])))
   -- bracket expressions: ranges, a `]` that stands first, a `-` at the end, and a `^`
   pub ranges : IsRead (codes "[a-cx]") (branch (set false ((97, 99) ∷ (120, 120) ∷ []) ∷ []))
+  pub range_of_one : IsRead (codes "[a-a]") (branch (set false ((97, 97) ∷ []) ∷ []))
   pub bracket_first : IsRead (codes "[]a-]") (branch (set false ((93, 93) ∷ (97, 97) ∷ (45, 45) ∷ []) ∷ []))
   pub others : IsRead (codes "[^^]") (branch (set true ((94, 94) ∷ []) ∷ []))
   -- no expressions: a parenthesis or a backslash alone, a second cut or one in parentheses, and a range downward
@@ -108,3 +126,9 @@ pub record OfExpressions : Type 0 where
   pub cut_in_parentheses : IsNone (codes "(\\/)")
   pub backslash_alone : IsNone (codes "\\")
   pub downward : IsNone (codes "[b-a]")
+  -- 200 parentheses may be open, and 65,536 bytes be there after the macros
+  pub parenthesis_200 : (s : Stand) (u : List Token) (e : Re) → IsExpr 200 false u e
+      → IsPiece 199 s (sign Open ∷ u ++ sign Close ∷ []) e
+  pub no_more_bytes : (text : List ℕ) (e : Whole) (r : Reads text e) → length r.after ≤ 65536
+  pub as_many_bytes : (text after : List ℕ) (tokens : List Token) (e : Whole) → Expands text after
+      → length after ≤ 65536 → IsTokens after tokens → IsWhole tokens e → Reads text e

@@ -8,6 +8,7 @@ use Rattle.pm_regex.specs.declared.macros.Macro.TheVariants.{ToAddress, ToWord, 
 use Rattle.pm_regex.specs.Re.{Whole}
 use Rattle.pm_regex.specs.Macros.{macro_text, Expands, done, part}
 use Rattle.pm_regex.specs.Tokens.{Token, sign, bracket, sign_of, escaped_sign, begins_with, range, byte, closed, more, Body, body, plain, escape, edge, line_start, members, others, IsTokens, none, next}
+use Rattle.pm_regex.specs.Grammar.{group}
 use Rattle.pm_regex.specs.Sets.{HasNoBody}
 use Rattle.pm_regex.specs.Signs.{HasNoToken}
 use Rattle.pm_regex.specs.Machine.{reading}
@@ -126,6 +127,8 @@ returns-clause-expressions c = record {
   line = is_read _ _ _ (a_start refl (a_sign refl (a_sign refl none))) refl;
   edges_of_words = is_read _ _ _ (an_escape (a_sign refl (an_escape none))) refl;
   escaped = is_read _ _ _ (an_escape (an_escape (an_escape (an_escape none)))) refl;
+  all_signs = refl;
+  all_escaped = refl;
   repeats = is_read _ _ _ (a_sign refl (a_sign refl (a_sign refl (a_sign refl (a_sign refl (a_sign refl (a_sign refl none))))))) refl;
   repeated_twice = is_read _ _ _ (a_sign refl (a_sign refl (a_sign refl none))) refl;
   at_the_front = is_read _ _ _ (a_sign refl (a_sign refl (a_sign refl (a_sign refl (a_sign refl (a_sign refl none)))))) refl;
@@ -137,6 +140,8 @@ returns-clause-expressions c = record {
   cut = is_read _ _ _ (a_sign refl (a_sign refl (a_sign refl (an_escape (a_sign refl (a_sign refl none)))))) refl;
   end_behind_cut = is_read _ _ _ (an_escape (an_edge (a_sign refl (an_edge none)))) refl;
   ranges = is_read _ _ _ (some_bytes refl (body _ _ _ _ _ _ (range _ _ _ (λ e. absurd (omega (arith, e))) (omega arith)) (more _ _ _ _ _ _ refl (byte _ _ refl) (closed _))) none) refl;
+  range_of_one = is_read _ _ _
+      (some_bytes refl (body _ _ _ _ _ _ (range _ _ _ (λ e. absurd (omega (arith, e))) (omega arith)) (closed _)) none) refl;
   bracket_first = is_read _ _ _ (some_bytes refl (body _ _ _ _ _ _ (byte _ _ refl) (more _ _ _ _ _ _ refl (byte _ _ refl) (more _ _ _ _ _ _ refl (byte _ _ refl) (closed _)))) none) refl;
   others = is_read _ _ _ (other_bytes (body _ _ _ _ _ _ (byte _ _ refl) (closed _)) none) refl;
   open_parenthesis = λ e r. not_read _ _ (a_sign refl (a_sign refl none)) refl e r;
@@ -145,4 +150,14 @@ returns-clause-expressions c = record {
   cut_in_parentheses = λ e r. not_read _ _ (a_sign refl (an_escape (a_sign refl none))) refl e r;
   backslash_alone = λ e r. no_first_token (92 ∷ []) (omega arith) alone e r;
   downward = λ e r. no_first_token (codes "[b-a]") (omega arith) (no_bracket (codes "[b-a]") refl reversed) e r;
+  parenthesis_200 = λ s u e is. group 199 s u e (omega arith) is;
+  no_more_bytes = λ text e r. r.room;
+  as_many_bytes = λ text after tokens e is room cut spelled. record {
+    after = after;
+    tokens = tokens;
+    expands = is;
+    room = room;
+    cut = cut;
+    spelled = spelled;
+  };
 }
