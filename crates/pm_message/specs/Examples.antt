@@ -1,10 +1,11 @@
 -- Mails in small examples: where the head ends, its fields, what conditions search, what a mailbox or a program gets, and
 -- the line `From ` with its date.
-use Rattle.std.specs.Prelude.{◌≡◌, ℕ, pos, negsuc, true, false, List, [], ◌∷◌, codes}
+use Rattle.std.specs.Prelude.{◌≡◌, ℕ, pos, negsuc, true, false, List, [], ◌∷◌, ◌++◌, codes}
+use Rattle.std.specs.List.{filter, range_with_len}
 use Rattle.pm_message.specs.Area.{area_of}
 use Rattle.pm_message.specs.Calendar.{day_after, days_before}
 use Rattle.pm_message.specs.Date.{date_of, from_line_of, moved}
-use Rattle.pm_message.specs.Field.{fields_of, key_of, texts_of}
+use Rattle.pm_message.specs.Field.{fields_of, is_name_byte, key_of, texts_of}
 use Rattle.pm_message.specs.FromLine.{makes_line, prepared_of, renewed_of}
 use Rattle.pm_message.specs.Lines.{lines}
 use Rattle.pm_message.specs.Piece.{piece_of}
@@ -61,6 +62,7 @@ pub record FieldExamples : Type 0 where
   -- the key of a field is a name and its colon
   pub named : key_of false (codes "Subject: a: b\n") ≡ key kind.Named 8
   pub named_by_signs : key_of false (codes "!~:a\n") ≡ key kind.Named 3
+  pub all_of_names : filter is_name_byte (range_with_len 0 256) ≡ range_with_len 33 25 ++ range_with_len 59 68
   -- a name has only bytes from `!` to `~` and no colon, and it isn't empty
   pub name_with_blank : key_of false (codes "To : ann\n") ≡ key kind.Other 0
   pub name_with_tab : key_of false (codes "To\t: ann\n") ≡ key kind.Other 0
@@ -70,6 +72,7 @@ pub record FieldExamples : Type 0 where
   -- the line `From ` has a key as the first field alone, and it isn't the field `From:`
   pub from_line : key_of true (codes "From ann Thu\n") ≡ key kind.FromLine 5
   pub later_from_line : key_of false (codes "From ann Thu\n") ≡ key kind.Other 0
+  pub tab_after_from : key_of true (codes "From\tann\n") ≡ key kind.Other 0
   pub from_field : key_of true (codes "From: ann\n") ≡ key kind.Named 5
   -- fields stand one after the other
   pub places : fields_of (codes "From ann Thu\nTo: bob,\n cc\nsee below\n\n")
@@ -145,6 +148,8 @@ pub record FromLineExamples : Type 0 where
   -- an old line goes, and a new date keeps its sender, which ends at the next blank or the newline
   pub sender_replaced : renewed_of (codes "From ann Thu\nTo: bob\n") (Sender (codes "eve")) (codes "joe") (pos 0)
       ≡ codes "From eve Thu Jan  1 00:00:00 1970\nTo: bob\n"
+  pub quoted_stays : renewed_of (codes ">From ann Thu\nTo: bob\n") (Sender (codes "eve")) (codes "joe") (pos 0)
+      ≡ codes "From eve Thu Jan  1 00:00:00 1970\n>From ann Thu\nTo: bob\n"
   pub date_replaced : renewed_of (codes "From ann Mon\nTo: bob\n") Date (codes "joe") (pos 0)
       ≡ codes "From ann Thu Jan  1 00:00:00 1970\nTo: bob\n"
   pub sender_between_tabs : renewed_of (codes "From \t ann\tMon\nTo: bob\n") Date (codes "joe") (pos 0)
