@@ -1,6 +1,8 @@
 -- Rcfiles and their lines, form by form (procmailrc(5), procmailsc(5)).
-use Rattle.std.specs.Prelude.{ℕ, List, [], ◌∷◌, ◌≡◌, Some, None, true, false, codes, pos, neg_ℤ}
+use Rattle.std.specs.Prelude.{ℕ, Bool, List, [], ◌∷◌, ◌≡◌, Some, None, true, false, not, codes, pos, neg_ℤ}
+use Rattle.std.specs.List.{filter, range_with_len}
 use Rattle.pm_recipe.specs.declared.building.Head.{Head}
+use Rattle.pm_recipe.specs.declared.fronts.Kind.{Kind}
 use Rattle.pm_recipe.specs.declared.fronts.Kind.TheVariants as kind
 use Rattle.pm_recipe.specs.declared.fronts.Situation.{Situation}
 use Rattle.pm_recipe.specs.declared.tree.Condition.{Condition}
@@ -9,7 +11,7 @@ use Rattle.pm_recipe.specs.declared.tree.Weight.TheVariants as weight
 use Rattle.pm_recipe.specs.Build.{tree_of_items}
 use Rattle.pm_recipe.specs.Colon.{flags_of, flags_part, has_junk, lock_of}
 use Rattle.pm_recipe.specs.Ends.{missed}
-use Rattle.pm_recipe.specs.Front.{front_of, gap, piece}
+use Rattle.pm_recipe.specs.Front.{ends_name, front_of, gap, piece}
 use Rattle.pm_recipe.specs.Item.Item.{Begins, Fails}
 use Rattle.pm_recipe.specs.Letters.{no_flags}
 use Rattle.pm_recipe.specs.Listed.{rc_of}
@@ -45,6 +47,18 @@ these (tree ∷ trees) = cons tree (these trees)
 -- a colon line without letters
 abbrev pub plain_head : Head
 plain_head = record { line = 1; text = codes ":0"; flags = no_flags; lock = None }
+
+-- the bytes that pass a test, and two kinds of what they begin
+abbrev pub those : (ℕ → Bool) → List ℕ
+those test = filter test (range_with_len 0 256)
+
+abbrev pub is_gap : Kind → Bool
+is_gap kind.Gap = true
+is_gap other = false
+
+abbrev pub is_mailbox : Kind → Bool
+is_mailbox kind.Mailbox = true
+is_mailbox other = false
 
 -- what stands at the front of a text where a statement can begin
 pub record OfStatements : Type 0 where
@@ -85,8 +99,12 @@ pub record OfStatements : Type 0 where
   pub open_lock : front_of outside (codes ":0:'l\n*") ≡ piece kind.Skipped [] (codes ":0:'l") (codes "\n*")
   -- anything else is a defect up to the end of its line; lines may be joined, but not in a comment
   pub other_colon : front_of outside (codes ":1\nA") ≡ piece kind.Skipped [] (codes ":1") (codes "\nA")
+  pub blank_after_colon : front_of outside (codes ": 0\nA") ≡ piece kind.Skipped [] (codes ": 0") (codes "\nA")
   pub no_name : front_of outside (codes "1=b") ≡ piece kind.Skipped [] (codes "1=b") []
   pub name_and_more : front_of outside (codes "A;\nB") ≡ piece kind.Skipped [] (codes "A;") (codes "\nB")
+  pub name_and_hash : front_of outside (codes "A#b") ≡ piece kind.Skipped [] (codes "A#b") []
+  pub ends_of_names : those (λ b. ends_name (b ∷ [])) ≡ codes "\t\n "
+  pub gaps : those (λ b. is_gap (front_of outside (b ∷ codes "A")).kind) ≡ codes "\t\n #"
   pub joined_defect : front_of outside (codes "?a\\\nb #c\\\nA") ≡ piece kind.Skipped [] (codes "?a\\\nb #c\\") (codes "\nA")
 
 -- what stands at the front of a text after a colon line
@@ -104,6 +122,8 @@ pub record OfLines : Type 0 where
   pub output_at_end : front_of (after_colon 0) (codes "|") ≡ piece kind.WriteOut [] [] []
   pub capture : front_of (after_colon 0) (codes "A = | p\nB") ≡ piece kind.Capture (codes "A") (codes " p") (codes "\nB")
   pub named_mailbox : front_of (after_colon 0) (codes "A=b") ≡ piece kind.Mailbox [] (codes "A=b") []
+  pub mailboxes : those (λ b. not (is_mailbox (front_of (after_colon 0) (b ∷ codes "x")).kind)) ≡ codes "\t\n !#*:|}"
+  pub comment_for_program : front_of (after_colon 0) (codes "| #p\nA") ≡ piece kind.Pipe [] (codes " #p") (codes "\nA")
   -- a brace begins a block before a blank, a newline or the end
   pub block : front_of (after_colon 0) (codes "{ A") ≡ piece kind.Open [] (codes "{") (codes " A")
   pub block_at_newline : front_of (after_colon 0) (codes "{\n") ≡ piece kind.Open [] (codes "{") (codes "\n")

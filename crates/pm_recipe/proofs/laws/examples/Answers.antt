@@ -32,8 +32,12 @@ returns-clause-statements c = record {
   joined_colon_line = refl;
   open_lock = refl;
   other_colon = refl;
+  blank_after_colon = refl;
   no_name = refl;
   name_and_more = refl;
+  name_and_hash = refl;
+  ends_of_names = refl;
+  gaps = refl;
   joined_defect = refl;
 }
 
@@ -49,6 +53,8 @@ returns-clause-lines c = record {
   output_at_end = refl;
   capture = refl;
   named_mailbox = refl;
+  mailboxes = refl;
+  comment_for_program = refl;
   block = refl;
   block_at_newline = refl;
   braced_mailbox = refl;
