@@ -1,5 +1,6 @@
 -- Short mails, what they are remembered by and whom a reply to them goes to, and short caches.
 use Rattle.std.specs.Prelude.{◌≡◌, ℕ, true, false, Option, Some, None, List, [], ◌∷◌, ◌++◌, ◌*◌, codes}
+use Rattle.std.specs.List.{filter, range_with_len}
 use Rattle.pm_host.specs.declared.answers.Removed.TheVariants.{Removed as RemovedDone, Absent, Failed as RemoveFailed}
 use Rattle.pm_journal.specs.declared.appending.AppendEnd.TheVariants.{Done as EndDone, Undone as EndUndone, Torn as EndTorn, IsFolder as EndFolder, Raced as EndRaced}
 use Rattle.pm_message.specs.Split.{split_of}
@@ -8,7 +9,7 @@ use Rattle.formail_edit.specs.declared.edits.Edits.{Edits}
 use Rattle.formail_edit.specs.declared.edits.PutKind.TheVariants.{Old, Replace, IfNone, Always}
 use Rattle.formail_extra.specs.Adding.{written_of}
 use Rattle.formail_extra.specs.Cache.{is_seen, longest_front, left_of, addition_to, next_of, is_kept, is_new, cache_behind, marks_of}
-use Rattle.formail_extra.specs.Reply.{recipient, envelope_of, reply_of}
+use Rattle.formail_extra.specs.Reply.{ends_address, recipient, envelope_of, reply_of}
 use Rattle.formail_extra.specs.Seen.{line_of, identifier_of, longest_id}
 use Rattle.formail_extra.specs.Stepping.{cache_at, cache_rule, end_of, given_back, step_end}
 use Rattle.formail_extra.specs.Tree.{part_of}
@@ -99,6 +100,7 @@ pub record Examples : Type 0 where
   pub comment : to (codes "From: j@x(Joe)\n" ∷ []) ≡ codes "j@x"
   pub comment_after_a_blank : to (codes "From:\tj@x (Joe)\n" ∷ []) ≡ codes "j@x"
   pub folded_address : to (codes "From: j@x\n (Joe)\n" ∷ []) ≡ codes "j@x"
+  pub ends : filter ends_address (range_with_len 0 256) ≡ codes "\t\n ("
   pub other_bytes : to (codes "From: !j)@x,\n" ∷ []) ≡ codes "!j)@x,"
   pub comment_alone : to (codes "From: (Joe)\n" ∷ []) ≡ codes "unknown"
   -- of the line `From ` it is the word, whatever its bytes are
@@ -116,6 +118,8 @@ pub record Examples : Type 0 where
   pub folded_subject : reply plain (codes "Subject: a\n b\n\n") ≡ codes "To: unknown\nSubject: Re: a b\n\n"
   pub answers_already : reply plain (codes "Subject: rE:x\n\n") ≡ codes "To: unknown\nSubject: rE:x\n\n"
   pub re_without_colon : reply plain (codes "Subject: Re x\n\n") ≡ codes "To: unknown\nSubject: Re: Re x\n\n"
+  pub re_after_a_blank : reply plain (codes "Subject: Re : x\n\n") ≡ codes "To: unknown\nSubject: Re: Re : x\n\n"
+  pub numbered_re : reply plain (codes "Subject: Re[2]: x\n\n") ≡ codes "To: unknown\nSubject: Re: Re[2]: x\n\n"
   pub references_alone : reply plain (codes "References: <0@x>\n\n") ≡ codes "To: unknown\nReferences: <0@x>\n\n"
   pub identifier_alone : reply plain (codes "Message-ID: <1@x>\n\n")
       ≡ codes "To: unknown\nReferences: <1@x>\nIn-Reply-To: <1@x>\n\n"
