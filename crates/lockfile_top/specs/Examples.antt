@@ -1,5 +1,6 @@
 -- Short command lines, what they ask for, and what is done then.
-use Rattle.std.specs.Prelude.{◌≡◌, ℕ, pos, negsuc, true, false, Option, Some, None, List, [], ◌∷◌, codes}
+use Rattle.std.specs.Prelude.{◌≡◌, ◌++◌, ℕ, Bool, not, pos, negsuc, true, false, Option, Some, None, List, [], ◌∷◌, codes}
+use Rattle.std.specs.List.{filter, range_with_len}
 use Rattle.pm_bytes.specs.declared.environment.Environ.{Environ}
 use Rattle.pm_bytes.specs.declared.environment.Pair.{Pair}
 use Rattle.pm_journal.specs.Locking.{lock_rule, lock_act}
@@ -15,9 +16,10 @@ use Rattle.lockfile_top.specs.Doing.{without_name, with_name, do_tasks}
 use Rattle.lockfile_top.specs.Ends.{made_after}
 use Rattle.lockfile_top.specs.Lines.{forcing_line, sorry_line}
 use Rattle.lockfile_top.specs.Status.{status_number, end_status}
-use Rattle.lockfile_top.specs.Words.{first_rule, seconds_of, tries_for, word_of, mailbox_lock, tasks_in, is_inverted, command_line}
+use Rattle.lockfile_top.specs.Words.{first_rule, seconds_of, setting_of, tries_for, word_of, mailbox_lock, tasks_in, is_inverted, command_line}
 use Rattle.lockfile_top.specs.declared.status.Status.TheVariants.{Success, Usage, SystemError, CannotCreate}
 use Rattle.lockfile_top.specs.declared.tasks.Ending.TheVariants.{AllDone, GaveUp}
+use Rattle.lockfile_top.specs.declared.tasks.Setting.{Setting}
 use Rattle.lockfile_top.specs.declared.tasks.Setting.TheVariants.{Retries, Limit, Suspend}
 use Rattle.lockfile_top.specs.declared.tasks.Task.{Task}
 use Rattle.lockfile_top.specs.declared.tasks.Task.TheVariants.{Take, Give}
@@ -66,6 +68,22 @@ told line = entry (SayErr line) Wrote
 -- `a`, `b` and `c`, each with one try
 abbrev pub three : List Task
 three = Take (codes "a") once ∷ Take (codes "b") once ∷ Take (codes "c") once ∷ []
+
+-- the bytes that pass a test, and whether an argument is read, or names a lock file
+abbrev pub those : (ℕ → Bool) → List ℕ
+those test = filter test (range_with_len 0 256)
+
+abbrev pub is_setting : Option Setting → Bool
+is_setting None = false
+is_setting (Some setting) = true
+
+abbrev pub is_read : Word → Bool
+is_read Unread = false
+is_read word = true
+
+abbrev pub is_name : Word → Bool
+is_name Takes = true
+is_name word = false
 
 -- what holds of them
 pub record Examples : Type 0 where
@@ -123,6 +141,10 @@ pub record Examples : Type 0 where
   pub waits_for_suspension : says (codes "-s") ≡ Awaits Suspend
   pub other_letter : says (codes "-x") ≡ Unread
   pub letters_together : says (codes "-mlx") ≡ Unread
+  pub letters_with_value : those (λ b. is_setting (setting_of b)) ≡ codes "lrs"
+  pub letters_alone : those (λ b. is_read (says (45 ∷ b ∷ []))) ≡ codes "!0123456789lrs"
+  pub of_the_mailbox : those (λ b. is_read (says (codes "-m" ++ b ∷ []))) ≡ codes "lu"
+  pub no_names : those (λ b. not (is_name (says (b ∷ codes "a")))) ≡ 0 ∷ codes "-"
   pub bare_minus : says (codes "-") ≡ Unread
   pub empty_argument : says [] ≡ Unread
   pub byte_0 : says (97 ∷ 0 ∷ []) ≡ Unread
