@@ -89,6 +89,7 @@ pub record Examples : Type 0 where
   pub second_code : worst (exits 0) (exits 3) ≡ Amiss
   pub first_code : worst (exits 1) (exits 0) ≡ Amiss
   pub both_codes : worst (exits 1) (exits 2) ≡ Amiss
+  pub code_of_a_signal : worst (exits 137) (exits 0) ≡ Amiss
   pub closed_early : worst (Ended 0 0 []) (exits 0) ≡ Amiss
   pub first_not_started : worst NotStarted (exits 0) ≡ Failed
   pub second_not_started : worst (exits 0) NotStarted ≡ Failed

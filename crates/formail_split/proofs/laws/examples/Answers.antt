@@ -53,6 +53,7 @@ returns c = record {
   second_code = refl;
   first_code = refl;
   both_codes = refl;
+  code_of_a_signal = refl;
   closed_early = refl;
   first_not_started = refl;
   second_not_started = refl;
