@@ -1,5 +1,12 @@
 -- Short command lines of formail and what they ask for, and what is written then.
-use Rattle.std.specs.Prelude.{◌≡◌, ℕ, pos, true, false, Option, Some, None, List, [], ◌∷◌, ◌++◌, option_map, codes}
+use Rattle.std.specs.Prelude.{◌≡◌, ℕ, Bool, pos, true, false, Option, Some, None, List, [], ◌∷◌, ◌++◌, option_map, codes}
+use Rattle.std.specs.List.{filter, range_with_len}
+use Rattle.pm_host.specs.Streams.{StreamView}
+use Rattle.pm_host.specs.Told.{HostView}
+use Rattle.pm_streams.specs.Reading.{ReadPast, StopsFailed}
+use Rattle.pm_streams.specs.declared.writing.WriteEnd.TheVariants.{Short}
+use Rattle.formail_extra.specs.declared.stepping.CacheEnd.{CacheEnd}
+use Rattle.formail_extra.specs.declared.stepping.CacheEnd.TheVariants.{Busy, IsFolder, Failed as CacheFailed, Raced}
 use Rattle.pm_bytes.specs.declared.environment.Pair.{Pair}
 use Rattle.formail_edit.specs.Examples.{plain, put, rename, unique, extract}
 use Rattle.formail_edit.specs.declared.edits.PutKind.TheVariants.{Old, Replace, IfNone, Always}
@@ -7,8 +14,8 @@ use Rattle.formail_split.specs.Parts.{parts_of}
 use Rattle.formail_split.specs.declared.feeding.Outcome.TheVariants.{Fine, Amiss, Failed}
 use Rattle.formail_top.specs.Asked.{nothing, request_for}
 use Rattle.formail_top.specs.Outputs.{mails_of, sender_of_output, wants_moment, ids_of, kept_of, outputs_of, each_output_of}
-use Rattle.formail_top.specs.Run.{command_for, feed_status, kept_status}
-use Rattle.formail_top.specs.Words.{cache_of, settings_of}
+use Rattle.formail_top.specs.Run.{AfterStep, AsksFor, Ended, IsWriteStatus, Seen, Untouched, Unwritten, command_for, feed_status, kept_status}
+use Rattle.formail_top.specs.Words.{cache_of, setting_for, setting_of, settings_of, takes_more, takes_text}
 use Rattle.formail_top.specs.declared.request.Request.{Request}
 use Rattle.formail_top.specs.declared.settings.Setting.{Setting}
 use Rattle.formail_top.specs.declared.settings.Setting.TheVariants.{Join, Zap, KeepFrom, KeepBody, WithBody, Prefix, Take as TakeOf, Put as PutOf, Unique as UniqueOf, Rename as RenameOf, Reply, Trust, Skip, Total, Split, Program, Argument}
@@ -46,6 +53,19 @@ from_a = codes "From a\nA: 1\n\nx\n\n"
 abbrev pub from_b : List ℕ
 from_b = codes "From b\nB: 2\n\ny\n"
 
+-- the bytes that pass a test, and whether something is asked for
+abbrev pub those : (ℕ → Bool) → List ℕ
+those test = filter test (range_with_len 0 256)
+
+abbrev pub is_asked : Option Setting → Bool
+is_asked None = false
+is_asked (Some setting) = true
+
+-- with this status it is told how a step with a cache ended
+abbrev pub Tells : CacheEnd → ℕ → Type 0
+Tells end number = (request : Request) (vars : List Pair) (mails : List (List ℕ)) (status : ℕ) (host host' : HostView)
+    (out out' : StreamView) → AfterStep end request vars mails status host host' out out' → status ≡ number
+
 -- what holds of them
 pub record Examples : Type 0 where
   -- letters that stand alone
@@ -58,6 +78,10 @@ pub record Examples : Type 0 where
   pub no_sign : one (codes "f") ≡ None
   pub empty : one [] ≡ None
   pub unread_to_the_end : two (codes "-q") (codes "-f") ≡ None
+  pub letters_alone : those (λ b. is_asked (setting_of b)) ≡ codes "bcfkrtz"
+  pub letters_with_text : those (λ b. is_asked (setting_for b (codes "A: x"))) ≡ codes "AIUXaipux"
+  pub letters_with_two_texts : those takes_more ≡ codes "DR"
+  pub letters_with_any : those takes_text ≡ codes "ADIRUXaipux"
   -- a letter takes the rest of its argument, or the next one
   pub prefix_here : one (codes "-p| ") ≡ only (Prefix (codes "| "))
   pub prefix_next : two (codes "-p") (codes "*") ≡ only (Prefix (codes "*"))
@@ -240,3 +264,17 @@ pub record Examples : Type 0 where
   pub fine_status : feed_status Fine ≡ 0
   pub amiss_status : feed_status Amiss ≡ 1
   pub failed_status : feed_status Failed ≡ 74
+  -- the status by what came of a cache, of the input, of the arguments and of memory
+  pub busy_status : Tells Busy 73
+  pub folder_status : Tells IsFolder 73
+  pub raced_status : Tells Raced 73
+  pub cache_status : Tells CacheFailed 74
+  pub short_status : (status count : ℕ) → IsWriteStatus status (Short count) → status ≡ 74
+  pub unread_status : (words : List (List ℕ)) (vars : List Pair) (seen : Seen) → request_for words ≡ None
+      → seen.source' ≡ seen.source → Untouched seen → Ended words vars 64 seen
+  pub too_long_status : (words : List (List ℕ)) (vars : List Pair) (seen : Seen) (request : Request)
+      → AsksFor words request → ReadPast seen.source seen.source' → Untouched seen → Ended words vars 65 seen
+  pub lost_status : (words : List (List ℕ)) (vars : List Pair) (seen : Seen) (request : Request)
+      → AsksFor words request → StopsFailed seen.source seen.source' → Untouched seen → Ended words vars 74 seen
+  pub memory_status : (words : List (List ℕ)) (vars : List Pair) (seen : Seen) → Unwritten words seen
+      → Ended words vars 71 seen

@@ -3,6 +3,7 @@ use Rattle.std.specs.Fmt.{digits}
 use Rattle.std.specs.Str.{is_utf8, chars}
 use lib.Utf8.{encode}
 use Rattle.pm_message.specs.Calendar.{day_at}
+use Rattle.formail_top.specs.Run.Ended.{unread, too_long, lost, memory}
 use Rattle.formail_top.proofs.laws.examples.Goals as goal
 
 -- each by computing
@@ -17,6 +18,10 @@ returns c = record {
   no_sign = refl;
   empty = refl;
   unread_to_the_end = refl;
+  letters_alone = refl;
+  letters_with_text = refl;
+  letters_with_two_texts = refl;
+  letters_with_any = refl;
   prefix_here = refl;
   prefix_next = refl;
   prefix_is_empty = refl;
@@ -142,4 +147,13 @@ returns c = record {
   fine_status = refl;
   amiss_status = refl;
   failed_status = refl;
+  busy_status = λ request vars mails status host host' out out' stops. stops.0;
+  folder_status = λ request vars mails status host host' out out' stops. stops.0;
+  raced_status = λ request vars mails status host host' out out' stops. stops.0;
+  cache_status = λ request vars mails status host host' out out' stops. stops.0;
+  short_status = λ status count is. is;
+  unread_status = λ words vars seen none same untouched. unread refl none same untouched;
+  too_long_status = λ words vars seen request asks past untouched. too_long refl request asks past untouched;
+  lost_status = λ words vars seen request asks stops untouched. lost refl request asks stops untouched;
+  memory_status = λ words vars seen left. memory refl left;
 }
