@@ -25,8 +25,10 @@ pub record Examples : Type 0 where
   pub set_again : with_value (codes "A") (codes "c d") two ≡ variable (codes "A") (codes "c d") ∷ variable (codes "B") [] ∷ []
   pub set_new : with_value (codes "C") (codes "c") two
       ≡ variable (codes "A") (codes "a") ∷ variable (codes "B") [] ∷ variable (codes "C") (codes "c") ∷ []
+  pub set_empty : with_value (codes "A") [] two ≡ variable (codes "A") [] ∷ variable (codes "B") [] ∷ []
   -- a variable that is unset is gone, and no other
   pub unset_one : without (codes "A") two ≡ variable (codes "B") [] ∷ []
+  pub unset_empty : without (codes "B") two ≡ variable (codes "A") (codes "a") ∷ []
   pub unset_none : without (codes "C") two ≡ two
   -- arguments count from 1
   pub argument_0 : argument_of 0 words ≡ None
@@ -36,6 +38,7 @@ pub record Examples : Type 0 where
   -- a program gets a variable, also an empty one, but none with a byte 0 or bytes that aren't UTF-8
   pub exported : is_exported (variable (codes "A") (codes "a b")) ≡ true
   pub exported_empty : is_exported (variable (codes "A") []) ≡ true
+  pub exported_lines : is_exported (variable (codes "A") (codes "a\nb\n")) ≡ true
   pub byte_0_in_value : is_exported (variable (codes "A") (97 ∷ 0 ∷ [])) ≡ false
   pub byte_0_in_name : is_exported (variable (65 ∷ 0 ∷ []) (codes "a")) ≡ false
   pub no_utf8_in_value : is_exported (variable (codes "A") (255 ∷ [])) ≡ false
