@@ -1,6 +1,8 @@
--- Entries of an environment, and the variables that they are.
-use Rattle.std.specs.Prelude.{ℕ, ◌≡◌, List, [], ◌∷◌, ◌++◌, codes, Some, None}
+-- Entries of an environment, the variables that they are, and the login name.
+use Rattle.std.specs.Prelude.{ℕ, ◌≡◌, false, List, [], ◌∷◌, ◌++◌, codes, Some, None}
+use Rattle.std.specs.List.{filter, range_with_len}
 use Rattle.pm_bytes.specs.declared.environment.Pair.{Pair}
+use Rattle.pm_start.specs.Login.{is_login, login_name, login_of}
 use Rattle.pm_start.specs.Variables.{pair_of, pairs_of}
 
 abbrev pub variable : List ℕ → List ℕ → Pair
@@ -19,3 +21,13 @@ pub record Examples : Type 0 where
   -- all are read, in order, also two of one name
   pub order : pairs_of (codes "B=2" ∷ codes "A" ∷ codes "A=1" ∷ codes "B=3" ∷ [])
       ≡ variable (codes "B") (codes "2") ∷ variable (codes "A") (codes "1") ∷ variable (codes "B") (codes "3") ∷ []
+  -- a login name has no byte below 33; if there is none it is `nobody`, and of several the first counts
+  pub logins : filter (λ b. is_login (b ∷ [])) (range_with_len 0 256) ≡ range_with_len 33 223
+  pub blank_in_login : is_login (codes "a b") ≡ false
+  pub empty_login : login_of (Some []) ≡ codes "nobody"
+  pub unset_login : login_of None ≡ codes "nobody"
+  pub first_login : login_name (record {
+    vars = variable (codes "LOGNAME") (codes "joe") ∷ variable (codes "LOGNAME") (codes "ann") ∷ [];
+    pid = 1;
+    host_name = codes "h";
+  }) ≡ codes "joe"

@@ -1,7 +1,7 @@
 //! Laws of the definitions, each as the contract of a call that does nothing.
 ghost use Rattle.pm_start.specs.Examples.{Examples};
 
-/// The definitions of an environment's variables say of some entries what they are.
+/// The definitions of variables and of the login name say of some entries of an environment what they are.
 pub fn examples()
     ensures { Examples }
 {}

@@ -14,4 +14,9 @@ returns c = record {
   no_text = refl;
   name_no_text = refl;
   order = refl;
+  logins = refl;
+  blank_in_login = refl;
+  empty_login = refl;
+  unset_login = refl;
+  first_login = refl;
 }
