@@ -1,10 +1,11 @@
 -- Short mails, and what formail writes of them.
 use Rattle.std.specs.Prelude.{◌≡◌, ℕ, pos, Bool, true, false, Option, Some, None, List, [], ◌∷◌, ◌++◌, codes}
+use Rattle.std.specs.List.{filter, range_with_len}
 use Rattle.pm_message.specs.Date.{from_line_of}
 use Rattle.pm_message.specs.Field.{texts_of}
 use Rattle.pm_message.specs.Split.{split_of}
 use Rattle.formail_edit.specs.Output.{edited}
-use Rattle.formail_edit.specs.Sender.{sender_for, line_at, bracketed}
+use Rattle.formail_edit.specs.Sender.{sender_for, line_at, bracketed, is_visible}
 use Rattle.formail_edit.specs.declared.edits.Edits.{Edits}
 use Rattle.formail_edit.specs.declared.edits.Rename.{Rename}
 use Rattle.formail_edit.specs.declared.edits.Put.{Put}
@@ -167,6 +168,7 @@ pub record Examples : Type 0 where
       ≡ codes " one\n two more\n"
   pub trimmed_contents : written (record (taking false (codes "Subject")) { zap = true }) two_subjects
       ≡ codes "one\ntwo\n more\n"
+  pub blanks_behind : written (record (taking false (codes "A:")) { zap = true }) (codes "A: 1 \t\n\n") ≡ codes "1\n"
   pub whole_fields : written (taking true (codes "Subject")) two_subjects ≡ codes "Subject: one\nSubject: two\n more\n"
   pub content_of_the_line : written (taking false (codes "From")) two_subjects ≡ codes "a Thu Jan  1 00:00:00 1970\n"
   pub nothing_taken : written (taking false (codes "Cc:")) two_subjects ≡ []
@@ -210,6 +212,7 @@ pub record Examples : Type 0 where
   pub empty_brackets : sender plain (codes "Return-Path: <>\n\n") ≡ Some (codes "unknown")
   pub blank_in_brackets : sender plain (codes "Return-Path: <a b>\n\n") ≡ Some (codes "unknown")
   pub byte_33 : sender plain (codes "Return-Path: <!>\n\n") ≡ Some (codes "!")
+  pub all_of_addresses : filter is_visible (range_with_len 0 256) ≡ range_with_len 33 223
   pub first_alone_counts : sender plain (codes "Return-Path: <>\nReturn-Path: <d>\n\n") ≡ Some (codes "unknown")
   pub open_brackets : bracketed (codes "a>b<c") ≡ None
   pub closed_brackets : bracketed (codes "a>b<c>d>") ≡ Some (codes "c")
