@@ -1,7 +1,7 @@
 -- The operators of expressions, and how far names, quotes and commands reach.
-use Rattle.std.specs.Prelude.{ℕ, ◌+◌, List, [], ◌∷◌, if◌then◌else◌, nat_eq, Bool, false, true, ◌||◌}
-use Rattle.pm_bytes.specs.Alphabet.{BACKSLASH, SINGLE_QUOTE, BACKQUOTE, CARET, DOLLAR, DOT, STAR, PLUS, QUESTION, BAR, OPEN_PARENTHESIS, CLOSE_PARENTHESIS, OPEN_BRACKET, CLOSE_BRACKET}
-use Rattle.pm_bytes.specs.Letter.{is_name_byte}
+use Rattle.std.specs.Prelude.{ℕ, ◌+◌, List, [], ◌∷◌, if◌then◌else◌, nat_eq, Bool, false, true, not, ◌&&◌, ◌||◌}
+use Rattle.pm_bytes.specs.Alphabet.{BACKSLASH, SINGLE_QUOTE, DOUBLE_QUOTE, BACKQUOTE, CLOSE_BRACE, HASH, CARET, DOLLAR, DOT, STAR, PLUS, QUESTION, BAR, OPEN_PARENTHESIS, CLOSE_PARENTHESIS, OPEN_BRACKET, CLOSE_BRACKET}
+use Rattle.pm_bytes.specs.Letter.{is_name_byte, is_space_byte}
 
 -- ^ $ . * + ? | ( ) [ ] and the backslash
 abbrev pub is_operator : ℕ → Bool
@@ -9,6 +9,17 @@ is_operator byte =
     nat_eq byte CARET || nat_eq byte DOLLAR || nat_eq byte DOT || nat_eq byte STAR || nat_eq byte PLUS || nat_eq byte QUESTION
     || nat_eq byte BAR || nat_eq byte OPEN_PARENTHESIS || nat_eq byte CLOSE_PARENTHESIS || nat_eq byte OPEN_BRACKET
     || nat_eq byte CLOSE_BRACKET || nat_eq byte BACKSLASH
+
+-- a byte that can mean more than itself inside double quotes, or where they aren't open
+abbrev pub can_mean : Bool → ℕ → Bool
+can_mean quoted byte =
+    nat_eq byte BACKSLASH || nat_eq byte DOLLAR || nat_eq byte DOUBLE_QUOTE || nat_eq byte BACKQUOTE || nat_eq byte CLOSE_BRACE
+    || not quoted && (nat_eq byte SINGLE_QUOTE || nat_eq byte HASH || is_space_byte byte)
+
+-- how many bytes at the front can't
+abbrev pub plain_length : Bool → List ℕ → ℕ
+plain_length quoted [] = 0
+plain_length quoted (byte ∷ bytes) = if can_mean quoted byte then 0 else plain_length quoted bytes + 1
 
 -- how many bytes at the front belong to a name that has begun
 abbrev pub name_length : List ℕ → ℕ

@@ -1,7 +1,7 @@
 -- What stands at the front of a text, by its first bytes and the rules in force.
-use Rattle.std.specs.Prelude.{ℕ, ◌+◌, ◌-◌, ◌<◌, ◌≤◌, List, [], ◌∷◌, if◌then◌else◌, nat_eq, Bool, false, not, ◌&&◌, ◌||◌, min, length, drop, Option, Some, None}
+use Rattle.std.specs.Prelude.{ℕ, zero, suc, ◌+◌, ◌-◌, ◌<◌, ◌≤◌, List, [], ◌∷◌, if◌then◌else◌, nat_eq, Bool, false, not, ◌&&◌, ◌||◌, min, length, drop, Option, Some, None}
 use Rattle.pm_bytes.specs.Letter.{is_digit_byte, is_name_start, is_space_byte}
-use Rattle.pm_subst.specs.Bytes.{name_length, quote_length, command_length}
+use Rattle.pm_subst.specs.Bytes.{plain_length, name_length, quote_length, command_length}
 use Rattle.pm_bytes.specs.Alphabet.{BACKSLASH, DOLLAR, DOUBLE_QUOTE, SINGLE_QUOTE, OPEN_BRACE, CLOSE_BRACE, NEWLINE, HASH, COLON, MINUS, PLUS, BACKQUOTE, UNDERSCORE, QUESTION, EQUALS, ZERO}
 use Rattle.pm_subst.specs.declared.kinds.Rule.{Rule}
 use Rattle.pm_subst.specs.declared.kinds.Front.{Front}
@@ -116,6 +116,15 @@ front_of rule (byte ∷ bytes) =
     if nat_eq byte BACKQUOTE then piece Command 1 (command_length false bytes + 1) (min (command_length false bytes + 2) (length bytes + 1)) else
     if nat_eq byte CLOSE_BRACE && rule.ends_form then piece FormClose 0 0 1 else
     if rule.quoted then itself else unquoted_front rule (byte ∷ bytes)
+
+-- so many plain bytes at once, or a front where there are none
+abbrev pub all_or : ℕ → Front → Front
+all_or zero front = front
+all_or (suc n) front = piece Text 0 (suc n) (suc n)
+
+-- plain bytes at once, or what stands at the front
+abbrev pub turn_of : Rule → List ℕ → Front
+turn_of rule text = all_or (plain_length rule.quoted text) (front_of rule text)
 
 -- a front takes something, and lies within a text of this length
 pub record Within (front : Front) (length : ℕ) : Type 0 where

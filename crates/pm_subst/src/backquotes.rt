@@ -4,7 +4,7 @@ ghost use Rattle.pm_subst.specs.Commands.{commands_in, command_of, command_text}
 
 use crate::frames::{Frames, fresh_behind};
 use crate::kinds::{Kind, Mode};
-use crate::reading::front_at;
+use crate::reading::turn_at;
 use pm_bytes::{BACKQUOTE, BACKSLASH, Blob, Memory};
 use std::alloc::Global;
 
@@ -19,7 +19,7 @@ pub fn commands(alloc: Global, text: &[u8], mode: Mode) -> Result<Vec<Blob>, Mem
     while at < text.len() {
         let rest = &text[at..];
         let rule = frames.rule(mode, fresh);
-        let front = front_at(rule, rest);
+        let front = turn_at(rule, rest);
         push_command(
             alloc,
             &mut commands,

@@ -1,10 +1,11 @@
-//! How far names, quotes and commands reach, and the operators of expressions.
+//! How far plain bytes, names, quotes and commands reach, and the operators of expressions.
 ghost use Rattle.std.specs.Prelude.{◌≡◌, ◌≤◌, ◌+◌, length, count_by, false};
-ghost use Rattle.pm_subst.specs.Bytes.{is_operator, name_length, quote_length, command_length};
+ghost use Rattle.pm_subst.specs.Bytes.{is_operator, can_mean, plain_length, name_length, quote_length, command_length};
 
 use pm_bytes::{
-    BACKQUOTE, BACKSLASH, BAR, CARET, CLOSE_BRACKET, CLOSE_PARENTHESIS, DOLLAR, DOT, OPEN_BRACKET,
-    OPEN_PARENTHESIS, PLUS, QUESTION, SINGLE_QUOTE, STAR, continues_name,
+    BACKQUOTE, BACKSLASH, BAR, CARET, CLOSE_BRACE, CLOSE_BRACKET, CLOSE_PARENTHESIS, DOLLAR, DOT,
+    DOUBLE_QUOTE, HASH, OPEN_BRACKET, OPEN_PARENTHESIS, PLUS, QUESTION, SINGLE_QUOTE, STAR,
+    continues_name, is_space,
 };
 
 /// A byte that means more than itself in an expression.
@@ -23,6 +24,29 @@ pub fn operators(text: &[u8]) -> usize
     ensures { result ≡ count_by is_operator text.now }
 {
     text.iter().filter(|byte| is_operator_byte(**byte)).count()
+}
+
+/// How many bytes at the front can't mean more than themselves, inside double quotes or not.
+pub fn plain_front(quoted: bool, text: &[u8]) -> usize
+    ensures length { result ≡ plain_length quoted text.now }
+    ensures within { result ≤ length text.now }
+{
+    for (i, byte) in text.iter().enumerate() {
+        if may_mean(quoted, *byte) {
+            return i;
+        }
+    }
+    text.len()
+}
+
+fn may_mean(quoted: bool, byte: u8) -> bool
+    ensures { result ≡ can_mean quoted byte }
+{
+    match byte {
+        BACKSLASH | DOLLAR | DOUBLE_QUOTE | BACKQUOTE | CLOSE_BRACE => true,
+        SINGLE_QUOTE | HASH => !quoted,
+        _ => !quoted && is_space(byte),
+    }
 }
 
 /// How many bytes at the front belong to a name that has begun.

@@ -12,7 +12,7 @@ ghost use Rattle.pm_subst.specs.Words.{first_output, outputs_after};
 use crate::buffer::{Buffer, MOST_LENGTH};
 use crate::frames::{Frames, fresh_behind};
 use crate::kinds::{Kind, Mode};
-use crate::reading::front_at;
+use crate::reading::turn_at;
 use crate::values::{
     is_text_used, push_form_value, push_literal, push_parameter, push_variable, without_newlines,
 };
@@ -98,7 +98,7 @@ fn fill(
     while at < text.len() {
         let rest = &text[at..];
         let rule = frames.rule(mode, fresh);
-        let front = front_at(rule, rest);
+        let front = turn_at(rule, rest);
         let part = &rest[front.from..front.to];
         let output = first_of(outputs);
         push_used(

@@ -1,9 +1,9 @@
 //! What stands at the front of a text.
 ghost use Rattle.std.specs.Prelude.{◌≡◌, ◌<◌, ◌+◌, ◌^◌, length};
 ghost use Rattle.pm_subst.specs.Front.{front_of, unquoted_front, itself, quotes_of, escaped, is_escaped_in_quotes};
-ghost use Rattle.pm_subst.specs.Front.{Within};
+ghost use Rattle.pm_subst.specs.Front.{turn_of, Within};
 
-use crate::bytes::{until_backquote, until_single};
+use crate::bytes::{plain_front, until_backquote, until_single};
 use crate::forms::behind_dollar;
 use crate::kinds::{Front, Kind, Rule};
 use pm_bytes::{
@@ -22,7 +22,26 @@ pub fn plain_byte() -> Front
     }
 }
 
-pub fn front_at(rule: Rule, text: &[u8]) -> Front
+/// All plain bytes at the front, or what stands there.
+pub fn turn_at(rule: Rule, text: &[u8]) -> Front
+    requires some { 0 < length text.now }
+    requires room { length text.now < 2 ^ 63 }
+    ensures turn { result ≡ turn_of rule text.now }
+    ensures within { Within result (length text.now) }
+{
+    let plain = plain_front(rule.quoted, text);
+    if plain == 0 {
+        return front_at(rule, text);
+    }
+    Front {
+        kind: Kind::Text,
+        from: 0,
+        to: plain,
+        taken: plain,
+    }
+}
+
+fn front_at(rule: Rule, text: &[u8]) -> Front
     requires some { 0 < length text.now }
     requires room { length text.now < 2 ^ 63 }
     ensures front { result ≡ front_of rule text.now }
