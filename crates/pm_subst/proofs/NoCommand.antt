@@ -1,6 +1,8 @@
 -- A text without a backquote has no command.
-use Rattle.std.proofs.Common.{◌≡◌, ◌+◌, ◌-◌, ℕ, suc, zero, Bool, true, false, not, ◌&&◌, ◌||◌, cond, nat_eq, List, [], ◌∷◌, ◌++◌, refl, ap, ◌∙◌, drop, Some, None, Option}
+use Rattle.std.proofs.Common.{◌≡◌, ◌+◌, ◌-◌, ◌==◌, ℕ, suc, zero, Bool, true, false, not, ◌&&◌, ◌||◌, cond, nat_eq, List, [], ◌∷◌, ◌++◌, refl, ap, ◌∙◌, length, drop, Some, None, Option, arith}
 use Rattle.std.proofs.lemmas.Bool.{true≢false, and_parts}
+use Rattle.std.proofs.lemmas.Bool.Decides.{nat_tests}
+use Rattle.memchr.specs.Find.{Nowhere, Passes, is_byte}
 use Rattle.pm_bytes.specs.Alphabet.{BACKSLASH, DOLLAR, DOUBLE_QUOTE, SINGLE_QUOTE, OPEN_BRACE, CLOSE_BRACE, NEWLINE, HASH, COLON, MINUS, PLUS, BACKQUOTE, UNDERSCORE}
 use Rattle.pm_bytes.specs.Letter.{is_name_start, is_space_byte}
 use Rattle.pm_subst.specs.declared.kinds.Mode.{Mode}
@@ -106,3 +108,15 @@ no-commands mode zero frames fresh (byte ∷ bytes) h =
 
 pub no-command : NoCommand
 no-command mode text h = no-commands mode 0 [] true text h
+
+same-byte : (byte other : ℕ) → nat_eq other byte ≡ true → (other == byte) ≡ true
+same-byte byte other h = grind (arith, nat_tests)
+
+-- a byte that a search finds nowhere
+pub lacks-nowhere : (byte : ℕ) (text : List ℕ) → Nowhere (Passes (is_byte byte) text) 0 (length text) → lacks byte text ≡ true
+lacks-nowhere byte [] h = refl
+lacks-nowhere byte (other ∷ rest) h =
+    elim (nat_eq other byte) as (λ b. nat_eq other byte ≡ b → (not b && lacks byte rest) ≡ true) [
+      | true ↦ λ e. absurd (h 0 (omega arith) (omega arith) (same-byte byte other e))
+      | false ↦ λ e. lacks-nowhere byte rest (λ k low less. h (suc k) (omega arith) (omega (arith, less)))
+    ] refl

@@ -46,10 +46,6 @@ tokens-turn mode frames fresh (byte ∷ bytes) front h is some =
     ∷ tokens mode zero (frames_after front.kind quoted frames) (fresh_after front.kind fresh) (drop front.taken (byte ∷ bytes)) in
     subst Q is (at front some)
 
-same-both : {A : Type 0} (b : Bool) (x : A) → cond b x x ≡ x
-same-both true x = refl
-same-both false x = refl
-
 -- outside double quotes
 plain-outside : (rule : Rule) (byte : ℕ) (bytes : List ℕ) → (nat_eq byte SINGLE_QUOTE || nat_eq byte HASH || is_space_byte byte) ≡ false
     → unquoted_front rule (byte ∷ bytes) ≡ itself

@@ -5,11 +5,21 @@ ghost use Rattle.pm_subst.specs.Commands.{commands_in, command_of, command_text}
 use crate::frames::{Frames, fresh_behind};
 use crate::kinds::{Kind, Mode};
 use crate::reading::turn_at;
+use memchr::memchr;
 use pm_bytes::{BACKQUOTE, BACKSLASH, Blob, Memory};
 use std::alloc::Global;
 
 /// The commands of a text from left to right, also those in texts of forms that aren't used.
 pub fn commands(alloc: Global, text: &[u8], mode: Mode) -> Result<Vec<Blob>, Memory>
+    ensures { IfOk result (λ commands. commands.items ≡ commands_in mode text.now) }
+{
+    match memchr(BACKQUOTE, text) {
+        None => Ok(Vec::new(alloc)),
+        Some(_) => read_commands(alloc, text, mode),
+    }
+}
+
+fn read_commands(alloc: Global, text: &[u8], mode: Mode) -> Result<Vec<Blob>, Memory>
     ensures { IfOk result (λ commands. commands.items ≡ commands_in mode text.now) }
 {
     let mut commands = Vec::new(alloc);

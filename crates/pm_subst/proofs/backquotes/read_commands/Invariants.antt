@@ -1,7 +1,7 @@
 use Rattle.std.proofs.Common.{◌≡◌, ◌≤◌, ◌++◌, ◌-◌, length, drop, zero}
 use Rattle.pm_subst.specs.Commands.{commands_in, commands_of}
 use Rattle.pm_subst.specs.Tokens.{tokens}
-use Rattle.pm_subst.proofs.backquotes.commands.Given as goal
+use Rattle.pm_subst.proofs.backquotes.read_commands.Given as goal
 
 abbrev pub invariant-loop-at : goal.invariant-loop-at
 invariant-loop-at l = record {
