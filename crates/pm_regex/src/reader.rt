@@ -15,6 +15,9 @@ use std::mem;
 /// The greatest number of parentheses that are open at one place.
 const MAX_DEPTH: usize = 200;
 
+/// How many operators have room from the start: those of most expressions.
+const ROOM: usize = 64;
+
 /// What was read so far: the operators left of the cut and those after it, and the open groups.
 #[derive(Drop)]
 pub struct Reader {
@@ -33,7 +36,7 @@ impl Reader {
     pub fn new(alloc: Global) -> Result<Reader, Memory>
         ensures { IfOk result (λ r. ReaderIs r opening) }
     {
-        let mut ops = Vec::new(alloc);
+        let mut ops = Vec::with_capacity(alloc, ROOM)?;
         ops.push(Op::Nothing)?;
         Ok(Reader {
             left: None,
