@@ -1,10 +1,11 @@
 //! The file that was opened last. It is kept open for the calls that follow on the same name, so that all of an append
 //! goes to one file, also where another one is put at its name meanwhile.
-ghost use Rattle.std.specs.Prelude.{◌≡◌, ◌≤◌, ◌<◌, ◌⊎◌, true, None, Some, length, take, IfSome, IfOk, IsOk, IsErr, IsSome};
-ghost use Rattle.std.specs.Prelude.{MatchResult};
+ghost use Rattle.std.specs.Prelude.{◌≡◌, ◌≤◌, ◌<◌, ◌⊎◌, true, None, Some, length, take};
+ghost use Rattle.std.specs.Prelude.{IfSome, IfOk, IsOk, IsErr, IsSome, MatchResult};
 ghost use Rattle.pm_real.specs.declared.mode.Mode.TheVariants.{Reading, Appending};
 ghost use Rattle.pm_real.specs.Kept.{just_opened, is_open, in_use, is_open_target, made_target};
-ghost use Rattle.pm_real.specs.Calls.{state_of, IsAfterRead, IsAfterCut, IsEmptied, IsMade, IsUsed, Adds, AddedTo, Stays};
+ghost use Rattle.pm_real.specs.Calls.{state_of, IsAfterRead, IsAfterCut, IsEmptied, IsMade, IsUsed};
+ghost use Rattle.pm_real.specs.Calls.{Adds, AddedTo, Stays};
 
 use crate::limit::SizeLimit;
 use crate::mode::Mode;

@@ -89,7 +89,7 @@ fn read_entry<E: Entries>(
 }
 
 /// The name before the first equals sign and the value after it, where each can be a `Name`.
-#[tactic(auto, using(crate::proofs::Machine::unusable_name, crate::proofs::Machine::unusable_value, crate::proofs::Variables::no_pair, crate::proofs::Variables::bad_name, crate::proofs::Variables::bad_value, crate::proofs::Variables::good_pair))]
+#[tactic(auto, using(crate::proofs::Machine::unusable_name, crate::proofs::Machine::unusable_value))]
 pub fn read_pair(alloc: Global, entry: &[u8]) -> Result<Option<Pair>, Memory>
     ensures pair { IfOk result (λ found. IfSome found (λ pair. IsEntry entry.now pair.name pair.value)) }
     ensures none { IfOk result (λ found. found ≡ None → Lacks 61 entry.now ⊎ HasUnusable entry.now) }
