@@ -1,5 +1,6 @@
 pub mod Variables
 pub mod Held
 pub mod Table
+pub mod Values
 pub mod View
 pub mod Examples

@@ -2,9 +2,11 @@
 //! `$$`, `$?`, `$=` and `$_`.
 #![tactic(auto)]
 
+mod environment;
 mod held;
 mod laws;
 mod marks;
+mod values;
 mod vars;
 
 pub use laws::examples;

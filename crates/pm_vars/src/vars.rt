@@ -1,14 +1,11 @@
 //! The variables of a process, in the order in which their names came.
 ghost use Rattle.std.specs.Prelude.{◌≡◌, [], ◌∷◌, ◌++◌, IfOk, OnOk, OnErr, drop, length, option_copied, pos, filter};
-ghost use Rattle.std.specs.Prelude.{map, Some, None, if◌then◌else◌};
-ghost use Rattle.pm_bytes.specs.Name.{is_usable};
-ghost use Rattle.pm_vars.specs.Held.{variable_of_held};
+ghost use Rattle.std.specs.Prelude.{map, codes};
 ghost use Rattle.pm_vars.specs.Variables.{value_of, with_value, without, argument_of, is_exported, variable_of};
 
 use crate::Marks;
-use crate::held::Held;
-use indexmap::IndexMap;
-use pm_bytes::{Blob, Memory, Name, NameRefused, Pair};
+use crate::values::Values;
+use pm_bytes::{Blob, Memory, Name, Pair};
 use std::alloc::Global;
 use std::marker::Model;
 
@@ -16,7 +13,7 @@ use std::marker::Model;
 #[derive(Drop)]
 pub struct Vars {
     alloc: Global,
-    variables: IndexMap<Vec<u8>, Held>,
+    variables: Values,
     arguments: Vec<Blob>,
     marks: Marks,
 }
@@ -43,7 +40,7 @@ impl Vars {
     {
         Vars {
             alloc,
-            variables: IndexMap::new(alloc),
+            variables: Values::new(alloc),
             arguments: Vec::new(alloc),
             marks: Marks {
                 pid,
@@ -57,10 +54,7 @@ impl Vars {
     pub fn get(&self, name: &[u8]) -> Option<&Blob>
         ensures { option_copied result ≡ value_of name.now self.now.variables }
     {
-        match self.variables.get(name) {
-            None => None,
-            Some(held) => Some(&held.value),
-        }
+        self.variables.get(name)
     }
 
     pub fn set(&mut self, name: &[u8], value: Blob) -> Result<(), Memory>
@@ -68,19 +62,20 @@ impl Vars {
             (self.new ≡ record self.old { variables = with_value name.now value self.old.variables }) }
         ensures err { OnErr result (self.new ≡ self.old) }
     {
-        let owned = owned_name(self.alloc, name)?;
-        let held = Held {
-            alloc: self.alloc,
-            value,
-        };
-        self.variables.insert(owned, held)?;
-        Ok(())
+        self.variables.set(name, value)
+    }
+
+    /// Sets LASTFOLDER, and takes no memory.
+    pub fn set_last_folder(&mut self, value: Blob)
+        ensures { self.new ≡ record self.old { variables = with_value (codes "LASTFOLDER") value self.old.variables } }
+    {
+        self.variables.set_last_folder(value);
     }
 
     pub fn unset(&mut self, name: &[u8])
         ensures { self.new ≡ record self.old { variables = without name.now self.old.variables } }
     {
-        let _ = self.variables.shift_remove(name);
+        self.variables.unset(name);
     }
 
     /// The argument `$number`, from 1 on.
@@ -151,7 +146,7 @@ impl Vars {
     pub fn copy(&self, alloc: Global) -> Result<Vars, Memory>
         ensures { IfOk result (λ copy. copy ≡ self.now) }
     {
-        let variables = copy_held(&self.variables)?;
+        let variables = self.variables.copy()?;
         let arguments = copy_all(alloc, &self.arguments)?;
         let marks = self.marks.copy(alloc)?;
         Ok(Vars {
@@ -166,19 +161,8 @@ impl Vars {
     pub fn export(&self, alloc: Global) -> Result<Vec<Pair>, Memory>
         ensures { IfOk result (λ pairs. map variable_of pairs.items ≡ filter is_exported self.now.variables) }
     {
-        let mut pairs = Vec::new(alloc);
-        for (name, held) in &self.variables {
-            push_exported(alloc, &mut pairs, name, held.value.as_slice())?;
-        }
-        Ok(pairs)
+        self.variables.export(alloc)
     }
-}
-
-fn owned_name(alloc: Global, name: &[u8]) -> Result<Vec<u8>, Memory>
-    ensures { IfOk result (λ owned. owned.items ≡ name.now) }
-{
-    let owned = name.to_vec(alloc)?;
-    Ok(owned)
 }
 
 fn copy_all(alloc: Global, blobs: &[Blob]) -> Result<Vec<Blob>, Memory>
@@ -189,41 +173,4 @@ fn copy_all(alloc: Global, blobs: &[Blob]) -> Result<Vec<Blob>, Memory>
         copies.push(blob.copy(alloc)?)?;
     }
     Ok(copies)
-}
-
-fn copy_held(held: &IndexMap<Vec<u8>, Held>) -> Result<IndexMap<Vec<u8>, Held>, Memory>
-    ensures { IfOk result (λ copy. map variable_of_held copy.entries ≡ map variable_of_held held.now.entries) }
-{
-    let copy = held.clone()?;
-    Ok(copy)
-}
-
-fn usable(alloc: Global, bytes: &[u8]) -> Result<Option<Name>, Memory>
-    ensures { IfOk result (λ name. name ≡ (if is_usable bytes.now then Some bytes.now else None)) }
-{
-    match Name::read(alloc, bytes) {
-        Ok(name) => Ok(Some(name)),
-        Err(NameRefused::Unusable) => Ok(None),
-        Err(NameRefused::Memory) => Err(Memory),
-    }
-}
-
-// Adds the pair of a variable, where programs get it.
-fn push_exported(
-    alloc: Global,
-    pairs: &mut Vec<Pair>,
-    name: &[u8],
-    value: &[u8],
-) -> Result<(), Memory>
-    ensures { IfOk result (λ _. map variable_of pairs.new.items
-        ≡ map variable_of pairs.old.items ++ filter is_exported (record { name = name.now; value = value.now } ∷ [])) }
-{
-    let Some(name) = usable(alloc, name)? else {
-        return Ok(());
-    };
-    let Some(value) = usable(alloc, value)? else {
-        return Ok(());
-    };
-    pairs.push(Pair { name, value })?;
-    Ok(())
 }

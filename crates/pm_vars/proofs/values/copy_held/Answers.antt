@@ -1,5 +1,5 @@
 use Rattle.pm_vars.proofs.Entries.{entries-clone, bytes-clone}
-use Rattle.pm_vars.proofs.vars.copy_held.Goals as goal
+use Rattle.pm_vars.proofs.values.copy_held.Goals as goal
 
 pub returns : goal.returns
 returns c =

@@ -1,0 +1,7 @@
+use Rattle.pm_vars.proofs.Entries.{with_value-entries}
+use Rattle.pm_vars.proofs.values.put.Goals as goal
+
+pub returns-clause-ok : goal.returns-clause-ok
+returns-clause-ok c =
+    rw (c.in_ok-insert.ensures.entries, ← c.in_ok-owned.ensures)
+    (with_value-entries (λ k. k.items) (λ held. held.value) c.in_ok-owned.owned _ c.args.held.now.entries)
