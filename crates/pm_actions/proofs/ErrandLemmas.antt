@@ -34,29 +34,29 @@ acted act f reply end x y a b n e =
     (subst (λ d. Executes (Ends (f reply)) d y y b b) (sym e) (executes_nothing (f reply) y y b refl))
 
 kept_then_code : (b : Bool) (folder : List ℕ) (size code : ℕ) (p : Mind)
-    → with_exit_code code (if b then with_kept (remembered folder size p.vars) p else p) ≡ (if b then stored_in folder size (with_exit_code code p) else with_exit_code code p)
+    → with_exit_code code (if b then with_kept (remembered folder size) p else p) ≡ (if b then stored_in folder size (with_exit_code code p) else with_exit_code code p)
 kept_then_code true folder size code p = refl
 kept_then_code false folder size code p = refl
 
-kept_alone : (b : Bool) (folder : List ℕ) (size : ℕ) (p : Mind) → (if b then with_kept (remembered folder size p.vars) p else p) ≡ (if b then stored_in folder size p else p)
+kept_alone : (b : Bool) (folder : List ℕ) (size : ℕ) (p : Mind) → (if b then with_kept (remembered folder size) p else p) ≡ (if b then stored_in folder size p else p)
 kept_alone true folder size p = refl
 kept_alone false folder size p = refl
 
 -- a program was fed
 pub was_fed : (flags : Flags) (folder : List ℕ) (command : Command) (input : List ℕ) (count : ℕ) (kept : Kept) (end : RunEnd) (outcome : Outcome) (p q r : Mind) (x y : JournalState) (a b : View) → count ≡ length input
-    → kept ≡ remembered folder (length input) p.vars → NotesRun command input false end x y a b → outcome ≡ feed_outcome flags count end → q ≡ kept_if outcome kept p → r ≡ with_exit_code (code_of end) q
+    → kept ≡ remembered folder (length input) → NotesRun command input false end x y a b → outcome ≡ feed_outcome flags count end → q ≡ kept_if outcome kept p → r ≡ with_exit_code (code_of end) q
     → Executes (feed flags folder command input p) (tried_of outcome r) x y a b
 was_fed flags folder command input count kept end outcome p q r x y a b len is n came keeps codes_it =
     let o = feed_outcome flags (length input) end in
     let same : outcome ≡ o = came ∙ ap (λ l. feed_outcome flags l end) len in
-    let mind : r ≡ with_exit_code (code_of end) (kept_if o (remembered folder (length input) p.vars) p) =
+    let mind : r ≡ with_exit_code (code_of end) (kept_if o (remembered folder (length input)) p) =
     codes_it ∙ ap (with_exit_code (code_of end)) (keeps ∙ ap (λ u. kept_if u kept p) same ∙ ap (λ k. kept_if o k p) is) in
     let all : tried_of outcome r ≡ fed flags folder (length input) end p =
     ap (λ u. tried_of u r) same ∙ ap (tried_of o) (mind ∙ kept_then_code (is_fine o) folder (length input) (code_of end) p) in
     acted (Run command input false) (λ reply. fed flags folder (length input) (run_end reply) p) n.reply (tried_of outcome r) x y a b n.notes (all ∙ ap (λ e. fed flags folder (length input) e p) n.end_is)
 
 -- a piece was written
-pub was_written : (piece : List ℕ) (kept : Kept) (end : WriteEnd) (outcome : Outcome) (p q : Mind) (x y : JournalState) (a b : View) → kept ≡ remembered (codes "|") (length piece) p.vars
+pub was_written : (piece : List ℕ) (kept : Kept) (end : WriteEnd) (outcome : Outcome) (p q : Mind) (x y : JournalState) (a b : View) → kept ≡ remembered (codes "|") (length piece)
     → NotesAct (WriteOut piece) (say_reply end) x y a b → outcome ≡ write_outcome (say_reply end) → q ≡ kept_if outcome kept p → Executes (write piece p) (tried_of outcome q) x y a b
 was_written piece kept end outcome p q x y a b is n came keeps =
     let o = write_outcome (say_reply end) in

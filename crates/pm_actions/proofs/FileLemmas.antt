@@ -20,14 +20,13 @@ use Rattle.pm_journal.proofs.FirstActs.{first_act, first_act_out}
 use Rattle.pm_journal.proofs.PlanLeads.{leads_itself, leads_on, leads_to_end, leads_to_want}
 use Rattle.pm_journal.proofs.WantsMemory.{executes_nothing, out_front}
 use Rattle.pm_recipe.specs.declared.tree.Flags.{Flags}
-use Rattle.pm_vars.specs.Table.{Table}
 use Rattle.pm_meaning.specs.Delivering.{Filing, feed_of, folder_piece, mailbox_piece, is_stored, in_folder, plain_prefix, in_plain, appended_by, to_file, file_as, file_one, file_all}
 use Rattle.pm_meaning.specs.Locks.{is_nothing}
 use Rattle.pm_meaning.specs.Minds.{Mind}
 use Rattle.pm_meaning.specs.declared.process.Destination.{Destination}
 use Rattle.pm_meaning.specs.declared.process.Filed.{Filed}
 use Rattle.pm_meaning.specs.declared.process.Filed.TheVariants.{Stored, Unnamed}
-use Rattle.pm_meaning.proofs.OneFiled.{StaysSo, remembering, one_filed}
+use Rattle.pm_meaning.proofs.OneFiled.{StaysSo, one_filed}
 use Rattle.pm_actions.specs.Copies.{copy_as, copy_for, file_copy, filing_of, with_kept, IsShown, AllShown}
 use Rattle.pm_actions.specs.Filing.{is_folder_there, filed_by, mind_after}
 use Rattle.pm_actions.specs.Names.{prefix_of}
@@ -57,15 +56,15 @@ size_with flags name message =
     if is_nothing name then length (piece_of message (feed_of flags) Other flags.raw) else length (piece_of message (feed_of flags) MailboxFile flags.raw)
 
 -- what is wanted stays the same while the process delivers
-abbrev file_with : Flags → List ℕ → List ℕ → Message → Table → Copy
-file_with flags name base message vars = ToFile (record { name = full_name base name; shown = full_name base name; piece = if is_nothing (full_name base name) then [] else piece_of message (feed_of flags) MailboxFile flags.raw; kept = record { vars = vars; stored = record { folder = name; size = size_with flags (full_name base name) message } } })
+abbrev file_with : Flags → List ℕ → List ℕ → Message → Copy
+file_with flags name base message = ToFile (record { name = full_name base name; shown = full_name base name; piece = if is_nothing (full_name base name) then [] else piece_of message (feed_of flags) MailboxFile flags.raw; kept = record { last_folder = name; stored = record { folder = name; size = size_with flags (full_name base name) message } } })
 
 abbrev folder_with : FolderKind → Flags → List ℕ → List ℕ → Message → Copy
 folder_with kind flags name base message = ToFolder (record { kind = kind; folder = full_name base name; shown = full_name base name; prefix = []; piece = piece_of message (feed_of flags) Other flags.raw })
 
 same_as : (kind : Option FolderKind) (flags : Flags) (name : List ℕ) (p q : Mind) → StaysSo p q → copy_as kind flags q name ≡ copy_as kind flags p name
 same_as None flags name p q s =
-    ap (λ b. file_with flags name b q.message (remembering name q)) s.base ∙ (ap (λ m. file_with flags name p.base m (remembering name q)) s.message ∙ ap (λ v. file_with flags name p.base p.message v) (s.vars name))
+    ap (λ b. file_with flags name b q.message) s.base ∙ ap (λ m. file_with flags name p.base m) s.message
 same_as (Some kind) flags name p q s = ap (λ b. folder_with kind flags name b q.message) s.base ∙ ap (λ m. folder_with kind flags name p.base m) s.message
 
 same_copies : (flags : Flags) (ds : List Destination) (p q : Mind) → StaysSo p q → map (copy_for flags q) ds ≡ map (copy_for flags p) ds

@@ -2,7 +2,6 @@
 use Rattle.std.proofs.Common.{◌≡◌, ◌⊎◌, inl, inr, Bool, true, false, List, ℕ, [], ◌∷◌, ◌++◌, Option, Some, None, Result, Ok, Err, OnErr, length, refl, sym, ap, ◌∙◌, subst, append_assoc}
 use Rattle.std.specs.Prelude.{◌&&◌, ◌||◌, not, nat_lt, codes, if◌then◌else◌}
 use Rattle.pm_recipe.specs.declared.tree.Flags.{Flags}
-use Rattle.pm_vars.specs.Table.{Table}
 use Rattle.pm_journal.specs.JournalState.{JournalState}
 use Rattle.pm_journal.specs.Entries.{View}
 use Rattle.pm_journal.specs.Executed.{OutOfMemory}
@@ -129,25 +128,25 @@ tried_quiet flags work act g line (Some name) p (e ∷ es) done is agrees h free
 filter_calm : (flags : Flags) (work : Mind → Plan Tried) (w : Mind → Plan Tried) → work ≡ w → ((q : Mind) → IsCalm flags (w q)) → (q : Mind) → IsCalm flags (work q)
 filter_calm flags work w is calm q = subst (λ (v : Mind → Plan Tried). IsCalm flags (v q)) (sym is) (calm q)
 
-pub errand_quiet : (flags : Flags) (errand : Errand) (vars : Table) (work : Mind → Plan Tried) (line : List ℕ) (lock : Option (List ℕ)) (p : Mind) (es : List Entry) (done : Trying) → IsWork flags errand vars work
+pub errand_quiet : (flags : Flags) (errand : Errand) (work : Mind → Plan Tried) (line : List ℕ) (lock : Option (List ℕ)) (p : Mind) (es : List Entry) (done : Trying) → IsWork flags errand work
     → Plays (try_under lock work p) es done → any_hinders es ≡ false → Quiet flags es (trial_lines flags line done.trial)
-errand_quiet flags (Feed command input kept) vars work line lock p es done is h free =
+errand_quiet flags (Feed command input kept) work line lock p es done is h free =
     tried_quiet flags work (Run command input false) (λ q reply. fed flags is.0 (length input) (run_end reply) q) line lock p es done (λ q. ap (λ (w : Mind → Plan Tried). w q) is.2) (λ q reply. refl) h free
-errand_quiet flags (Write piece kept) vars work line lock p es done is h free =
+errand_quiet flags (Write piece kept) work line lock p es done is h free =
     tried_quiet flags work (WriteOut piece) (λ q reply. record { outcome = write_outcome reply; mind = stored_if (write_outcome reply) (codes "|") (length piece) q }) line lock p es done (λ q. ap (λ (w : Mind → Plan Tried). w q) is.1) (λ q reply. refl) h free
-errand_quiet flags (Filter command input) vars work line lock p es done is h free =
+errand_quiet flags (Filter command input) work line lock p es done is h free =
     inl (calm_plays flags (try_under lock work p) es done (calm_under flags lock work p (filter_calm flags work (filter_mail flags command input) is (λ q reply. (refl, tt)))) h)
-errand_quiet flags (Capture command input name) vars work line lock p es done is h free =
+errand_quiet flags (Capture command input name) work line lock p es done is h free =
     inl (calm_plays flags (try_under lock work p) es done (calm_under flags lock work p (filter_calm flags work (capture flags name command input) is (λ q reply. (refl, tt)))) h)
 
 -- memory was wanting while it was tried
-pub errand_sure : (flags : Flags) (errand : Errand) (vars : Table) (work : Mind → Plan Tried) (lock : Option (List ℕ)) (p : Mind) (x y : JournalState) (a b : View) → IsWork flags errand vars work
+pub errand_sure : (flags : Flags) (errand : Errand) (work : Mind → Plan Tried) (lock : Option (List ℕ)) (p : Mind) (x y : JournalState) (a b : View) → IsWork flags errand work
     → (is_for_good errand ≡ true → y.entries ≡ x.entries) → OutOfMemory (try_under lock work p) x y a b → Undelivered flags x y
-errand_sure flags (Feed command input kept) vars work lock p x y a b is same out = sure_none flags x y (same refl)
-errand_sure flags (Write piece kept) vars work lock p x y a b is same out = sure_none flags x y (same refl)
-errand_sure flags (Filter command input) vars work lock p x y a b is same out =
+errand_sure flags (Feed command input kept) work lock p x y a b is same out = sure_none flags x y (same refl)
+errand_sure flags (Write piece kept) work lock p x y a b is same out = sure_none flags x y (same refl)
+errand_sure flags (Filter command input) work lock p x y a b is same out =
     calm_sure flags x y (calm_out flags (try_under lock work p) x y a b (calm_under flags lock work p (filter_calm flags work (filter_mail flags command input) is (λ q reply. (refl, tt)))) out)
-errand_sure flags (Capture command input name) vars work lock p x y a b is same out =
+errand_sure flags (Capture command input name) work lock p x y a b is same out =
     calm_sure flags x y (calm_out flags (try_under lock work p) x y a b (calm_under flags lock work p (filter_calm flags work (capture flags name command input) is (λ q reply. (refl, tt)))) out)
 
 -- mailboxes and folders

@@ -11,7 +11,6 @@ use Rattle.pm_meaning.specs.declared.process.Attempt.{Attempt}
 use Rattle.pm_meaning.specs.declared.process.Destination.{Destination}
 use Rattle.pm_meaning.specs.declared.process.Filed.{Filed}
 use Rattle.pm_recipe.specs.declared.tree.Flags.{Flags}
-use Rattle.pm_vars.specs.Table.{Table}
 use Rattle.pm_vars.specs.Variables.{with_value}
 use Rattle.pm_actions.specs.declared.filing.Copy.{Copy}
 use Rattle.pm_actions.specs.declared.filing.Copy.TheVariants.{ToFile, ToFolder}
@@ -19,12 +18,9 @@ use Rattle.pm_actions.specs.declared.filing.FileCopy.{FileCopy}
 use Rattle.pm_actions.specs.declared.kept.Kept.{Kept}
 use Rattle.pm_actions.specs.declared.placing.FolderCopy.{FolderCopy}
 
--- what a process with these variables remembers once so many bytes of the mail are at this destination
-abbrev pub remembered : List ℕ → ℕ → Table → Kept
-remembered word size vars = record {
-  vars = record vars { variables = with_value (codes "LASTFOLDER") word vars.variables };
-  stored = record { folder = word; size = size };
-}
+-- what a process remembers once so many bytes of the mail are at this destination
+abbrev pub remembered : List ℕ → ℕ → Kept
+remembered word size = record { last_folder = word; stored = record { folder = word; size = size } }
 
 -- what a file of this name gets: to `/dev/null` nothing is written
 abbrev pub file_piece : List ℕ → Flags → Mind → List ℕ
@@ -36,7 +32,7 @@ file_copy_for flags p name = record {
   name = full_name p.base name;
   shown = full_name p.base name;
   piece = file_piece (full_name p.base name) flags p;
-  kept = remembered name (file_size (full_name p.base name) flags p) p.vars;
+  kept = remembered name (file_size (full_name p.base name) flags p);
 }
 
 -- a folder with its name and its piece; no name in it begins in a way of its own
@@ -73,7 +69,10 @@ IsFreeLock (Some name) names = holds_name names name ≡ false
 
 -- the process that remembers so
 abbrev pub with_kept : Kept → Mind → Mind
-with_kept kept p = record p { vars = kept.vars; stored = kept.stored }
+with_kept kept p = record p {
+  vars = record p.vars { variables = with_value (codes "LASTFOLDER") kept.last_folder p.vars.variables };
+  stored = kept.stored;
+}
 
 -- the copy goes to its destination
 abbrev pub file_copy : Flags → Copy → Mind → Plan Filing

@@ -2,7 +2,6 @@
 use Rattle.std.specs.Prelude.{Bool, ◌≡◌, ℕ, false, true, not, ◌||◌, List, [], length, Option, codes, if◌then◌else◌}
 use Rattle.pm_recipe.specs.declared.tree.Flags.{Flags}
 use Rattle.pm_subst.specs.Words.{words_in}
-use Rattle.pm_vars.specs.Table.{Table}
 use Rattle.pm_journal.specs.Plan.{Plan}
 use Rattle.pm_meaning.specs.Assigning.{first_word}
 use Rattle.pm_meaning.specs.Locks.{is_lock_word, full_lock, is_taken}
@@ -45,12 +44,12 @@ trying_of trial p = record { trial = trial; mind = p }
 abbrev pub kept_if : Outcome → Kept → Mind → Mind
 kept_if outcome kept p = if is_fine outcome then with_kept kept p else p
 
--- with these variables the errand is this work
-abbrev pub IsWork : Flags → Errand → Table → (Mind → Plan Tried) → Type 0
-IsWork flags (Feed command input kept) vars work = (folder : List ℕ) × (kept ≡ remembered folder (length input) vars) × (work ≡ feed flags folder command input)
-IsWork flags (Filter command input) vars work = work ≡ filter_mail flags command input
-IsWork flags (Capture command input name) vars work = work ≡ capture flags name command input
-IsWork flags (Write piece kept) vars work = (kept ≡ remembered (codes "|") (length piece) vars) × (work ≡ write piece)
+-- the errand is this work
+abbrev pub IsWork : Flags → Errand → (Mind → Plan Tried) → Type 0
+IsWork flags (Feed command input kept) work = (folder : List ℕ) × (kept ≡ remembered folder (length input)) × (work ≡ feed flags folder command input)
+IsWork flags (Filter command input) work = work ≡ filter_mail flags command input
+IsWork flags (Capture command input name) work = work ≡ capture flags name command input
+IsWork flags (Write piece kept) work = (kept ≡ remembered (codes "|") (length piece)) × (work ≡ write piece)
 
 -- the text of the lock file, with these outputs of its commands, gives so much
 abbrev pub IsLockText : Task → List (List ℕ) → Mind → LockText → Type 0

@@ -57,13 +57,13 @@ pub fn errand_for(
     process: &Process,
 ) -> Result<Errand, Memory>
     ensures { let flags = task.now.flags in let p = mind_of process.now in
-        IfOk result (λ errand. IsWork flags errand p.vars
+        IfOk result (λ errand. IsWork flags errand
         (work_of (purpose_of task.now.purpose) flags (ProgramActions.fed_piece flags p) command)) }
 {
     let input = fed_piece(alloc, task.flags, process)?;
     match task.purpose {
         Purpose::Delivers(folder) => {
-            let kept = remembering(alloc, folder, input.len() as u64, &process.vars)?;
+            let kept = remembering(alloc, folder, input.len() as u64)?;
             Ok(Errand::Feed {
                 command,
                 input,
@@ -85,10 +85,10 @@ pub fn errand_for(
 /// The mail, as the flags feed it, goes to standard output.
 pub fn write_errand(alloc: Global, flags: Flags, process: &Process) -> Result<Errand, Memory>
     ensures { let p = mind_of process.now in
-        IfOk result (λ errand. IsWork flags errand p.vars (ProgramActions.write (ProgramActions.fed_piece flags p))) }
+        IfOk result (λ errand. IsWork flags errand (ProgramActions.write (ProgramActions.fed_piece flags p))) }
 {
     let piece = fed_piece(alloc, flags, process)?;
-    let kept = remembering(alloc, b"|", piece.len() as u64, &process.vars)?;
+    let kept = remembering(alloc, b"|", piece.len() as u64)?;
     Ok(Errand::Write { piece, kept })
 }
 
@@ -107,7 +107,7 @@ pub fn carry<D: Effects>(
     flags: Flags,
 ) -> Result<Outcome, Memory>
     requires room { length run.old.process.locks.names + 1 ≤ run.old.journal.room }
-    ensures carries { (work : Mind → Plan Tried) → IsWork flags errand run.old.process.vars work
+    ensures carries { (work : Mind → Plan Tried) → IsWork flags errand work
         → Carries (work (mind_of run.old.process))
         (λ outcome. tried_of outcome (mind_of run.new.process)) result
         run.old.journal run.new.journal (D.told run.old.outside) (D.told run.new.outside) }
@@ -139,7 +139,7 @@ fn feed<D: Effects>(
     flags: Flags,
 ) -> Outcome
     requires room { length run.old.process.locks.names + 1 ≤ run.old.journal.room }
-    ensures feeds { (folder : List ℕ) → kept ≡ remembered folder (length input) run.old.process.vars
+    ensures feeds { (folder : List ℕ) → kept ≡ remembered folder (length input)
         → Executes (ProgramActions.feed flags folder command input (mind_of run.old.process))
         (tried_of result (mind_of run.new.process))
         run.old.journal run.new.journal (D.told run.old.outside) (D.told run.new.outside) }
@@ -159,7 +159,7 @@ fn feed<D: Effects>(
 
 fn write<D: Effects>(run: &mut Run<D>, piece: Blob, kept: Kept) -> Outcome
     requires room { length run.old.process.locks.names + 1 ≤ run.old.journal.room }
-    ensures writes { kept ≡ remembered (codes "|") (length piece) run.old.process.vars
+    ensures writes { kept ≡ remembered (codes "|") (length piece)
         → Executes (ProgramActions.write piece (mind_of run.old.process)) (tried_of result (mind_of run.new.process))
         run.old.journal run.new.journal (D.told run.old.outside) (D.told run.new.outside) }
     ensures locks { run.new.process.locks ≡ run.old.process.locks }

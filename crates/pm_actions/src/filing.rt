@@ -107,7 +107,7 @@ fn file_copy_with(
 {
     let shown = name.copy(alloc)?;
     let size = file_size(flags, &name, &piece, process);
-    let kept = remembering(alloc, word.as_str().as_bytes(), size, &process.vars)?;
+    let kept = remembering(alloc, word.as_str().as_bytes(), size)?;
     Ok(FileCopy {
         name,
         shown,

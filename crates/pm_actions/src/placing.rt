@@ -124,7 +124,7 @@ fn remember_file(
     let name = last_file(journal).as_str().as_bytes();
     let folder = Blob::from_slice(alloc, name)?;
     let value = Blob::from_slice(alloc, name)?;
-    process.vars.set(b"LASTFOLDER", value)?;
+    process.vars.set_last_folder(value);
     process.stored = Stored { folder, size };
     Ok(())
 }

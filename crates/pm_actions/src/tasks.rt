@@ -147,11 +147,11 @@ pub fn do_named<D: Effects>(
     word: Option<Blob>,
     errand: Errand,
 ) -> Result<Option<End>, Memory>
-    ensures carries { (work : Mind → Plan Tried) → IsWork task.now.flags errand run.old.process.vars work
+    ensures carries { (work : Mind → Plan Tried) → IsWork task.now.flags errand work
         → Carries (ProgramActions.do_named (task_of task.now) word work (mind_of run.old.process))
         (λ end. turn_of end (mind_of run.new.process)) result
         run.old.journal run.new.journal (D.told run.old.outside) (D.told run.new.outside) }
-    ensures sure { (work : Mind → Plan Tried) → IsWork task.now.flags errand run.old.process.vars work
+    ensures sure { (work : Mind → Plan Tried) → IsWork task.now.flags errand work
         → OnErr result (Undelivered task.now.flags run.old.journal run.new.journal) }
 {
     match lock_file(alloc, word, &run.process)? {
@@ -196,12 +196,12 @@ fn do_free<D: Effects>(
     errand: Errand,
 ) -> Result<Option<End>, Memory>
     requires free { IsFreeLock lock run.old.process.locks.names }
-    ensures carries { (work : Mind → Plan Tried) → IsWork task.now.flags errand run.old.process.vars work
+    ensures carries { (work : Mind → Plan Tried) → IsWork task.now.flags errand work
         → let t = task_of task.now in let p = mind_of run.old.process in
         Carries (told_first t p (ProgramActions.try_and_say t lock work p))
         (λ end. turn_of end (mind_of run.new.process)) result
         run.old.journal run.new.journal (D.told run.old.outside) (D.told run.new.outside) }
-    ensures sure { (work : Mind → Plan Tried) → IsWork task.now.flags errand run.old.process.vars work
+    ensures sure { (work : Mind → Plan Tried) → IsWork task.now.flags errand work
         → OnErr result (Undelivered task.now.flags run.old.journal run.new.journal) }
 {
     tell_first(alloc, run, task)?;
@@ -240,11 +240,11 @@ fn try_and_say<D: Effects>(
     errand: Errand,
 ) -> Result<Option<End>, Memory>
     requires free { IsFreeLock lock run.old.process.locks.names }
-    ensures carries { (work : Mind → Plan Tried) → IsWork task.now.flags errand run.old.process.vars work
+    ensures carries { (work : Mind → Plan Tried) → IsWork task.now.flags errand work
         → Carries (ProgramActions.try_and_say (task_of task.now) lock work (mind_of run.old.process))
         (λ end. turn_of end (mind_of run.new.process)) result
         run.old.journal run.new.journal (D.told run.old.outside) (D.told run.new.outside) }
-    ensures sure { (work : Mind → Plan Tried) → IsWork task.now.flags errand run.old.process.vars work
+    ensures sure { (work : Mind → Plan Tried) → IsWork task.now.flags errand work
         → OnErr result (Undelivered task.now.flags run.old.journal run.new.journal) }
 {
     let trial = try_under(alloc, run, lock, errand, task.flags)?;

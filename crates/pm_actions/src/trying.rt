@@ -39,7 +39,7 @@ pub fn try_under<D: Effects>(
     flags: Flags,
 ) -> Result<Trial, Memory>
     requires free { IsFreeLock lock run.old.process.locks.names }
-    ensures carries { (work : Mind → Plan Tried) → IsWork flags errand run.old.process.vars work
+    ensures carries { (work : Mind → Plan Tried) → IsWork flags errand work
         → Carries (ProgramActions.try_under lock work (mind_of run.old.process))
         (λ trial. trying_of trial (mind_of run.new.process)) result
         run.old.journal run.new.journal (D.told run.old.outside) (D.told run.new.outside) }
@@ -64,7 +64,7 @@ fn try_free<D: Effects>(
     errand: Errand,
     flags: Flags,
 ) -> Result<Trial, Memory>
-    ensures carries { (work : Mind → Plan Tried) → IsWork flags errand run.old.process.vars work
+    ensures carries { (work : Mind → Plan Tried) → IsWork flags errand work
         → Carries (ProgramActions.try_under None work (mind_of run.old.process))
         (λ trial. trying_of trial (mind_of run.new.process)) result
         run.old.journal run.new.journal (D.told run.old.outside) (D.told run.new.outside) }
@@ -112,7 +112,7 @@ fn try_locked<D: Effects>(
     requires free { holds_name run.old.process.locks.names request.name ≡ false }
     requires space { 0 < run.old.process.locks.room }
     requires room { length run.old.process.locks.names + 3 ≤ run.old.journal.room }
-    ensures carries { (work : Mind → Plan Tried) → IsWork flags errand run.old.process.vars work
+    ensures carries { (work : Mind → Plan Tried) → IsWork flags errand work
         → Carries (ProgramActions.try_under (Some request.name) work (mind_of run.old.process))
         (λ trial. trying_of trial (mind_of run.new.process)) result
         run.old.journal run.new.journal (D.told run.old.outside) (D.told run.new.outside) }

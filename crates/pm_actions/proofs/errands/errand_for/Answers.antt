@@ -8,10 +8,9 @@ use Rattle.pm_actions.proofs.errands.errand_for.Goals as goal
 pub returns-in_ok-kept-in-Delivers : goal.returns-in_ok-kept-in-Delivers
 returns-in_ok-kept-in-Delivers c =
     let flags = c.args.task.now.flags in
-    let folder = c.in-Delivers.folder.now in
-    let vars = c.args.process.now.vars in (
+    let folder = c.in-Delivers.folder.now in (
       folder,
-      c.in_ok-kept-in-Delivers.ensures ∙ ap (λ size. remembered folder size vars) c.len.ensures,
+      c.in_ok-kept-in-Delivers.ensures ∙ ap (λ size. remembered folder size) c.len.ensures,
       ap (λ purpose. work_of (purpose_of purpose) flags (fed_piece flags (mind_of c.args.process.now)) c.args.command) c.in-Delivers.is
           ∙ ap (λ bytes. feed flags folder c.args.command bytes) (sym c.in_ok-input.ensures),
     )

@@ -47,4 +47,4 @@ returns-clause-sure g c =
     let flags = c.args.task.now.flags in
     let whole = told_first t p (Ends (GoesOn p)) in
     let calm = calm_if flags (lacks_lock t) (and_then (log (no_lock_line t.text) p) (λ done. Ends (GoesOn p))) (Ends (GoesOn p)) (calm_said flags p (no_lock_line t.text) (GoesOn p)) tt in
-    λ work is. err_map c.try_and_say.result _ _ (sure_after flags c.args.run.now.journal c.tell_first.new.run.journal c.try_and_say.new.run.journal (calm_lead flags whole (GoesOn p) c.args.run.now.journal c.tell_first.new.run.journal _ _ calm (c.in_ok-tell_first.ensures.told (Ends (GoesOn p))))) ((rw c.tell_first.ensures.same at c.try_and_say.ensures.sure) work is)
+    λ work is. err_map c.try_and_say.result _ _ (sure_after flags c.args.run.now.journal c.tell_first.new.run.journal c.try_and_say.new.run.journal (calm_lead flags whole (GoesOn p) c.args.run.now.journal c.tell_first.new.run.journal _ _ calm (c.in_ok-tell_first.ensures.told (Ends (GoesOn p))))) (c.try_and_say.ensures.sure work is)

@@ -45,7 +45,7 @@ returns-clause-carries g c =
 
 pub returns-in_err-trial-clause-sure : goal.returns-in_err-trial-clause-sure
 returns-in_err-trial-clause-sure g c = λ work is.
-    on_err _ _ (errand_sure c.args.task.now.flags c.args.errand c.args.run.now.process.vars work c.args.lock (mind_of c.args.run.now.process) c.args.run.now.journal c.try_under.new.run.journal _ _ is c.in_err-trial.ensures.sure (c.in_err-trial.ensures.carries work is).1)
+    on_err _ _ (errand_sure c.args.task.now.flags c.args.errand work c.args.lock (mind_of c.args.run.now.process) c.args.run.now.journal c.try_under.new.run.journal _ _ is c.in_err-trial.ensures.sure (c.in_err-trial.ensures.carries work is).1)
 
 pub returns-in_err-lines-clause-sure : goal.returns-in_err-lines-clause-sure
 returns-in_err-lines-clause-sure g c =
@@ -55,7 +55,7 @@ returns-in_err-lines-clause-sure g c =
     let y = c.try_under.new.run.journal in
     λ work is.
     let tried = (c.in_ok-trial.ensures.carries work is).0 in
-    let quiet = errand_quiet flags c.args.errand c.args.run.now.process.vars work c.args.task.now.text.now c.args.lock (mind_of c.args.run.now.process) tried.more done is tried.plays in
+    let quiet = errand_quiet flags c.args.errand work c.args.task.now.text.now c.args.lock (mind_of c.args.run.now.process) tried.more done is tried.plays in
     let first = trial_lines flags c.args.task.now.text.now c.in_ok-trial.trial in
     on_err _ _ (sure_told flags first x y y tried.more tried.entries quiet (calm_none flags y y refl) (λ final. told_some first c.in_err-lines.ensures.sure))
 
@@ -67,7 +67,7 @@ returns-in_err-push_copy-clause-sure g c =
     let y = c.try_under.new.run.journal in
     λ work is.
     let tried = (c.in_ok-trial.ensures.carries work is).0 in
-    let quiet = errand_quiet flags c.args.errand c.args.run.now.process.vars work c.args.task.now.text.now c.args.lock (mind_of c.args.run.now.process) tried.more done is tried.plays in
+    let quiet = errand_quiet flags c.args.errand work c.args.task.now.text.now c.args.lock (mind_of c.args.run.now.process) tried.more done is tried.plays in
     let first = trial_lines flags c.args.task.now.text.now c.in_ok-trial.trial in
     on_err _ _ (sure_told flags first x y y tried.more tried.entries quiet (calm_none flags y y refl) (copy_some flags first c.in_err-push_copy.ensures.sure))
 
@@ -79,7 +79,7 @@ returns-clause-sure g c =
     let y = c.try_under.new.run.journal in
     λ work is.
     let tried = (c.in_ok-trial.ensures.carries work is).0 in
-    let quiet = errand_quiet flags c.args.errand c.args.run.now.process.vars work c.args.task.now.text.now c.args.lock (mind_of c.args.run.now.process) tried.more done is tried.plays in
+    let quiet = errand_quiet flags c.args.errand work c.args.task.now.text.now c.args.lock (mind_of c.args.run.now.process) tried.more done is tried.plays in
     let first = trial_lines flags c.args.task.now.text.now c.in_ok-trial.trial in
     let q = mind_of c.settle.new.process in
     let all = c.push_copy.new.lines.items in
