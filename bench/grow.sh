@@ -27,8 +27,6 @@ done
 # What is known to grow faster, with the most that it may: `bound DIMENSION`.
 bound() {
     case $1 in
-        # Before a file gets the mail, all variables are copied, as they are once it has it.
-        copies_with_variables) echo 2.1 ;;
         # The variables behind one that goes move up, and so do the arguments behind one that is shifted.
         unset | shift) echo 2.1 ;;
         # A variable of the environment is asked for by its number, and the library counts to it.
@@ -76,8 +74,12 @@ prepare() {
         unset) { rows "$2" 'NAME%d=value'; rows "$2" 'NAME%d'; echo "$last"; } > rc ;;
         copies) { rows "$2" ':0 c\n/dev/null\n'; echo "$last"; } | sed 's/\\n/\n/g' > rc ;;
         destinations) { echo ':0'; rows "$2" 'box%d' | tr '\n' ' '; echo; } > rc ;;
+        recipe_chain) { echo ':0 c'; echo mbox; rows "$2" ':0 Ac\n/dev/null\n'; echo "$last"; } | sed 's/\\n/\n/g' > rc ;;
         copies_with_variables)
             { rows "$2" 'NAME%d=value'; rows "$2" ':0 c\n/dev/null\n'; echo "$last"; } | sed 's/\\n/\n/g' > rc ;;
+        destinations_with_variables)
+            { rows "$2" 'NAME%d=value'; echo ':0'; rows "$2" 'box%d' | tr '\n' ' '; echo; } > rc ;;
+        plain_value) { printf 'NAME="'; rows "$2" 'some plain words of a value'; printf '"\n%s' "$last"; } > rc ;;
         log_lines) { echo 'LOGFILE=log'; rows "$2" 'LOG="%d"'; echo "$last"; } > rc ;;
         comments) { rows "$2" '# a comment about what comes next'; echo "$last"; } > rc ;;
         long_line) { printf 'NAME='; rows "$2" 'word\' ; printf 'end\n%s' "$last"; } > rc ;;
@@ -164,10 +166,13 @@ weights 20
 variables 20
 chains 20
 value 20
+plain_value 20
 unset 20
 copies 20
 destinations 5
+recipe_chain 20
 copies_with_variables 20
+destinations_with_variables 5
 log_lines 20
 comments 50
 long_line 50
