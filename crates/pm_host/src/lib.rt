@@ -6,6 +6,7 @@ pub mod answers;
 pub mod calls;
 pub mod command;
 pub mod host;
+mod laws;
 pub mod nodes;
 pub mod streams;
 
@@ -16,5 +17,6 @@ pub use answers::{
 pub use calls::{Answer, Call, Logged};
 pub use command::{ChildInput, Command, Script};
 pub use host::Host;
+pub use laws::examples;
 pub use nodes::{Change, File, Node};
 pub use streams::{Sink, Source};
