@@ -1,17 +1,10 @@
 //! Forms of calls of formail: the cache, mailboxes and what is written.
 ghost use Rattle.std.specs.Prelude.{◌≡◌, ◌++◌, IfOk, OnOk};
 ghost use Rattle.std.specs.List.{list_any};
-ghost use Rattle.check_moving.specs.Kept.{kept as kept_of};
-ghost use Rattle.check_moving.specs.Options.{behind_call as behind};
-ghost use Rattle.check_moving.specs.Calls.{call_of, calls_in, called, is_suffix as suffix, is_cache_of as cache_of};
-ghost use Rattle.check_moving.specs.Calls.{locks_cache as cache_locked};
-ghost use Rattle.check_moving.specs.Calls.{has_edit as edits, has_other as others};
-ghost use Rattle.check_moving.specs.Calls.{has_cache_options as cache_options, is_bad_length as bad_length};
-ghost use Rattle.check_moving.specs.Calls.{is_bad_cache as bad_cache, has_old as old, is_used as used};
-ghost use Rattle.check_moving.specs.Calls.{is_appended as appended};
-ghost use Rattle.check_moving.specs.Calls.{is_program_word as program_word, has_program as program};
-ghost use Rattle.check_moving.specs.Calls.{is_split_output as split_output};
-ghost use Rattle.check_moving.specs.Calls.{is_from_appended as from_appended};
+ghost use Rattle.check_moving.specs.Kept;
+ghost use Rattle.check_moving.specs.Options;
+ghost use Rattle.check_moving.specs.Calls;
+ghost use Rattle.check_moving.specs.Calls.{call_of, calls_in, called};
 
 use crate::form::{Form, ProgramForm};
 use crate::kept::kept;
@@ -49,7 +42,7 @@ fn put_call(alloc: Global, lock: &[u8], words: &[Blob], forms: &mut Vec<Form>) -
 }
 
 fn behind_call(words: &[Blob]) -> &[Blob]
-    ensures { result.now ≡ behind words.now }
+    ensures { result.now ≡ Options.behind_call words.now }
 {
     let mut rest = words;
     while let Some((word, after)) = rest.split_first() {
@@ -67,7 +60,7 @@ fn called_forms(
     options: &[Given],
     behind: &[Blob],
 ) -> Result<Vec<Form>, Memory>
-    ensures { IfOk result (λ forms. forms.items ≡ kept_of (called lock.now options.now behind.now)) }
+    ensures { IfOk result (λ forms. forms.items ≡ Kept.kept (called lock.now options.now behind.now)) }
 {
     let reasons = [
         (
@@ -97,13 +90,13 @@ fn called_forms(
 }
 
 fn is_suffix(text: &[u8]) -> bool
-    ensures { result ≡ suffix text.now }
+    ensures { result ≡ Calls.is_suffix text.now }
 {
     is(text, b".lock") || is(text, b"$LOCKEXT") || is(text, b"${LOCKEXT}")
 }
 
 fn is_cache_of(lock: &[u8], one: &Given) -> bool
-    ensures { result ≡ cache_of lock.now one.now }
+    ensures { result ≡ Calls.is_cache_of lock.now one.now }
 {
     one.letter == b'C'
         && lock.starts_with(one.argument.as_slice())
@@ -111,13 +104,13 @@ fn is_cache_of(lock: &[u8], one: &Given) -> bool
 }
 
 fn locks_cache(lock: &[u8], options: &[Given]) -> bool
-    ensures { result ≡ cache_locked lock.now options.now }
+    ensures { result ≡ Calls.locks_cache lock.now options.now }
 {
     options.iter().any(|one| is_cache_of(lock, one))
 }
 
 fn has_edit(options: &[Given]) -> bool
-    ensures { result ≡ edits options.now }
+    ensures { result ≡ Calls.has_edit options.now }
 {
     has(b'a', options)
         || has(b'A', options)
@@ -129,7 +122,7 @@ fn has_edit(options: &[Given]) -> bool
 }
 
 fn has_other(options: &[Given]) -> bool
-    ensures { result ≡ others options.now }
+    ensures { result ≡ Calls.has_other options.now }
 {
     has(b'x', options)
         || has(b'X', options)
@@ -141,13 +134,13 @@ fn has_other(options: &[Given]) -> bool
 }
 
 fn has_cache_options(options: &[Given]) -> bool
-    ensures { result ≡ cache_options options.now }
+    ensures { result ≡ Calls.has_cache_options options.now }
 {
     has(b'D', options) && (has_edit(options) || has_other(options))
 }
 
 fn is_bad_length(number: Option<u64>) -> bool
-    ensures { result ≡ bad_length number }
+    ensures { result ≡ Calls.is_bad_length number }
 {
     match number {
         None => false,
@@ -156,19 +149,19 @@ fn is_bad_length(number: Option<u64>) -> bool
 }
 
 fn is_bad_cache(one: &Given) -> bool
-    ensures { result ≡ bad_cache one.now }
+    ensures { result ≡ Calls.is_bad_cache one.now }
 {
     one.letter == b'D' && is_bad_length(read_count(one.argument.as_slice()))
 }
 
 fn has_bad_cache(options: &[Given]) -> bool
-    ensures { result ≡ list_any bad_cache options.now }
+    ensures { result ≡ list_any Calls.is_bad_cache options.now }
 {
     options.iter().any(|one| is_bad_cache(one))
 }
 
 fn has_old(options: &[Given]) -> bool
-    ensures { result ≡ old options.now }
+    ensures { result ≡ Calls.has_old options.now }
 {
     has(b'e', options)
         || has(b'q', options)
@@ -181,7 +174,7 @@ fn has_old(options: &[Given]) -> bool
 }
 
 fn is_used(behind: &[Blob]) -> bool
-    ensures { result ≡ used behind.now }
+    ensures { result ≡ Calls.is_used behind.now }
 {
     match behind {
         [] => false,
@@ -192,7 +185,7 @@ fn is_used(behind: &[Blob]) -> bool
 }
 
 fn is_appended(behind: &[Blob]) -> bool
-    ensures { result ≡ appended behind.now }
+    ensures { result ≡ Calls.is_appended behind.now }
 {
     match behind {
         [one, other, ..] => is(one.as_slice(), b">") && is(other.as_slice(), b">"),
@@ -201,25 +194,25 @@ fn is_appended(behind: &[Blob]) -> bool
 }
 
 fn is_program_word(one: &Given) -> bool
-    ensures { result ≡ program_word one.now }
+    ensures { result ≡ Calls.is_program_word one.now }
 {
     one.letter == b's' && !is(one.argument.as_slice(), b"")
 }
 
 fn has_program(options: &[Given]) -> bool
-    ensures { result ≡ program options.now }
+    ensures { result ≡ Calls.has_program options.now }
 {
     options.iter().any(|one| is_program_word(one))
 }
 
 fn is_split_output(options: &[Given], behind: &[Blob]) -> bool
-    ensures { result ≡ split_output options.now behind.now }
+    ensures { result ≡ Calls.is_split_output options.now behind.now }
 {
     has_program(options) && is_used(behind)
 }
 
 fn is_from_appended(options: &[Given], behind: &[Blob]) -> bool
-    ensures { result ≡ from_appended options.now behind.now }
+    ensures { result ≡ Calls.is_from_appended options.now behind.now }
 {
     has(b'f', options)
         && is_appended(behind)

@@ -1,19 +1,10 @@
 //! Forms of conditions: weights, and what stands before an expression.
 ghost use Rattle.std.specs.Prelude.{◌≡◌, IfOk, pos};
-ghost use Rattle.check_moving.specs.Kept.{kept as kept_of};
+ghost use Rattle.check_moving.specs.Kept;
 ghost use Rattle.check_moving.specs.Leads.{front_in};
-ghost use Rattle.check_moving.specs.Conditions.{conditioned, is_weight as weighs, is_greatest as greatest_of};
-ghost use Rattle.check_moving.specs.Conditions.{is_above as above, is_late as late};
-ghost use Rattle.check_moving.specs.Conditions.{begins_number as number_at, behind_sign, behind_variable};
-ghost use Rattle.check_moving.specs.Conditions.{is_power as power};
-ghost use Rattle.check_moving.specs.Conditions.{gives_weight as weight_given, is_variable_weight as variable_weight};
-ghost use Rattle.check_moving.specs.Conditions.{begins_variable as variable_at, is_variable as variable};
-ghost use Rattle.check_moving.specs.Conditions.{is_variable_condition as variable_condition};
-ghost use Rattle.check_moving.specs.Conditions.{is_after as after_greatest, is_size as size};
-ghost use Rattle.check_moving.specs.Conditions.{is_size_weight as size_weight, is_joined as joined};
-ghost use Rattle.check_moving.specs.Conditions.{is_continued as continued, begins_digit as digit_at};
-ghost use Rattle.check_moving.specs.Conditions.{is_below_zero as below_zero};
-ghost use Rattle.check_moving.specs.Conditions.{is_signal_code as signal_code};
+ghost use Rattle.check_moving.specs.Conditions;
+ghost use Rattle.check_moving.specs.Conditions.{conditioned};
+ghost use Rattle.check_moving.specs.Conditions.{behind_sign, behind_variable};
 
 use crate::form::{ConditionForm, Form};
 use crate::kept::kept;
@@ -31,7 +22,8 @@ pub fn condition_forms(
     weight: Weight,
     lead: &Lead<'_>,
 ) -> Result<Vec<Form>, Memory>
-    ensures { IfOk result (λ forms. forms.items ≡ kept_of (conditioned greatest text.now weight (front_in lead.now))) }
+    ensures { IfOk result (λ forms. forms.items
+        ≡ Kept.kept (conditioned greatest text.now weight (front_in lead.now))) }
 {
     let late = is_late(alloc, lead)?;
     let reasons = [
@@ -66,7 +58,7 @@ pub fn condition_forms(
 
 /// Whether there is a weight, maybe one that can't be read.
 pub fn is_weight(weight: Weight) -> bool
-    ensures { result ≡ weighs weight }
+    ensures { result ≡ Conditions.is_weight weight }
 {
     match weight {
         Weight::None => false,
@@ -76,7 +68,7 @@ pub fn is_weight(weight: Weight) -> bool
 
 /// Whether it is the greatest weight.
 pub fn is_greatest(weight: Weight) -> bool
-    ensures { result ≡ greatest_of weight }
+    ensures { result ≡ Conditions.is_greatest weight }
 {
     match weight {
         Weight::Some { w, .. } => w >= 2_147_483_647,
@@ -86,7 +78,7 @@ pub fn is_greatest(weight: Weight) -> bool
 
 /// Whether the exponent is above this one.
 pub fn is_above(power: i32, weight: Weight) -> bool
-    ensures { result ≡ above power weight }
+    ensures { result ≡ Conditions.is_above power weight }
 {
     match weight {
         Weight::Some { x, .. } => x > power,
@@ -95,7 +87,7 @@ pub fn is_above(power: i32, weight: Weight) -> bool
 }
 
 fn is_late(alloc: Global, lead: &Lead<'_>) -> Result<bool, Memory>
-    ensures { IfOk result (λ is. is ≡ late (front_in lead.now)) }
+    ensures { IfOk result (λ is. is ≡ Conditions.is_late (front_in lead.now)) }
 {
     if !(lead.expands || lead.named) {
         return Ok(false);
@@ -105,7 +97,7 @@ fn is_late(alloc: Global, lead: &Lead<'_>) -> Result<bool, Memory>
 }
 
 fn begins_number(text: &[u8]) -> bool
-    ensures { result ≡ number_at text.now }
+    ensures { result ≡ Conditions.begins_number text.now }
 {
     match text {
         [] => false,
@@ -138,31 +130,31 @@ fn past_variable(text: &[u8]) -> &[u8]
 }
 
 fn is_power(text: &[u8]) -> bool
-    ensures { result ≡ power text.now }
+    ensures { result ≡ Conditions.is_power text.now }
 {
     text.starts_with(b"^") && begins_number(past_blanks(past(1, text)))
 }
 
 fn gives_weight(text: &[u8]) -> bool
-    ensures { result ≡ weight_given text.now }
+    ensures { result ≡ Conditions.gives_weight text.now }
 {
     text.starts_with(b"$") && is_power(past_blanks(past_variable(past(1, text))))
 }
 
 fn is_variable_weight(lead: &Lead<'_>) -> bool
-    ensures { result ≡ variable_weight (front_in lead.now) }
+    ensures { result ≡ Conditions.is_variable_weight (front_in lead.now) }
 {
     lead.expands && gives_weight(past_sign(lead.text))
 }
 
 fn begins_variable(text: &[u8]) -> bool
-    ensures { result ≡ variable_at text.now }
+    ensures { result ≡ Conditions.begins_variable text.now }
 {
     begins_with_name(text) || text.starts_with(b"{")
 }
 
 fn is_variable(text: &[u8]) -> bool
-    ensures { result ≡ variable text.now }
+    ensures { result ≡ Conditions.is_variable text.now }
 {
     text.starts_with(b"$")
         && begins_variable(past(1, text))
@@ -170,44 +162,44 @@ fn is_variable(text: &[u8]) -> bool
 }
 
 fn is_variable_condition(lead: &Lead<'_>) -> bool
-    ensures { result ≡ variable_condition (front_in lead.now) }
+    ensures { result ≡ Conditions.is_variable_condition (front_in lead.now) }
 {
     lead.expands && !lead.named && is_variable(lead.text)
 }
 
 fn is_after(greatest: bool, weight: Weight) -> bool
-    ensures { result ≡ after_greatest greatest weight }
+    ensures { result ≡ Conditions.is_after greatest weight }
 {
     greatest && !is_weight(weight)
 }
 
 /// Whether it asks for a size.
 pub fn is_size(text: &[u8]) -> bool
-    ensures { result ≡ size text.now }
+    ensures { result ≡ Conditions.is_size text.now }
 {
     text.starts_with(b"<") || text.starts_with(b">")
 }
 
 fn is_size_weight(weight: Weight, text: &[u8]) -> bool
-    ensures { result ≡ size_weight weight text.now }
+    ensures { result ≡ Conditions.is_size_weight weight text.now }
 {
     is_above(3, weight) && is_size(text)
 }
 
 fn is_joined(text: &[u8]) -> bool
-    ensures { result ≡ joined text.now }
+    ensures { result ≡ Conditions.is_joined text.now }
 {
     has_part(b"\\\n ", text) || has_part(b"\\\n\t", text)
 }
 
 fn is_continued(lead: &Lead<'_>, text: &[u8]) -> bool
-    ensures { result ≡ continued (front_in lead.now) text.now }
+    ensures { result ≡ Conditions.is_continued (front_in lead.now) text.now }
 {
     lead.expands && is_joined(text)
 }
 
 fn begins_digit(text: &[u8]) -> bool
-    ensures { result ≡ digit_at text.now }
+    ensures { result ≡ Conditions.begins_digit text.now }
 {
     match text {
         [] => false,
@@ -216,14 +208,14 @@ fn begins_digit(text: &[u8]) -> bool
 }
 
 fn is_below_zero(text: &[u8]) -> bool
-    ensures { result ≡ below_zero text.now }
+    ensures { result ≡ Conditions.is_below_zero text.now }
 {
     (text.starts_with(b"-") && begins_digit(past(1, text)))
         || (text.starts_with(b"^^-") && begins_digit(past(3, text)))
 }
 
 fn is_signal_code(lead: &Lead<'_>) -> bool
-    ensures { result ≡ signal_code (front_in lead.now) }
+    ensures { result ≡ Conditions.is_signal_code (front_in lead.now) }
 {
     lead.named && is_below_zero(lead.text) && !has_part(b" ", lead.text)
 }

@@ -1,6 +1,6 @@
 //! Forms of what is expanded: parameters, `${}` and commands.
 ghost use Rattle.std.specs.Prelude.{◌≡◌, IfOk};
-ghost use Rattle.check_moving.specs.Kept.{kept as kept_of};
+ghost use Rattle.check_moving.specs.Kept;
 ghost use Rattle.check_moving.specs.Expanded.{stands, has_mark, has_score, begins_with_name, expanded};
 ghost use Rattle.check_moving.specs.Expanded.{brace_form, after_name, command_first, is_arguments, is_underscore};
 ghost use Rattle.check_moving.specs.Expanded.{is_brace, is_command};
@@ -15,7 +15,7 @@ use std::alloc::Global;
 
 /// The forms of a text that is expanded. `weighted` says that the last recipe has a weight.
 pub fn expanded_forms(alloc: Global, weighted: bool, text: &[u8]) -> Result<Vec<Form>, Memory>
-    ensures { IfOk result (λ forms. forms.items ≡ kept_of (expanded weighted text.now)) }
+    ensures { IfOk result (λ forms. forms.items ≡ Kept.kept (expanded weighted text.now)) }
 {
     let reasons = [
         (

@@ -1,6 +1,6 @@
 //! Forms by the reasons for them.
 ghost use Rattle.std.specs.Prelude.{◌≡◌, IfOk};
-ghost use Rattle.check_moving.specs.Kept.{kept as kept_of};
+ghost use Rattle.check_moving.specs.Kept;
 
 use crate::form::Form;
 use pm_bytes::Memory;
@@ -8,7 +8,7 @@ use std::alloc::Global;
 
 /// The forms for which there is a reason.
 pub fn kept(alloc: Global, reasons: &[(bool, Form)]) -> Result<Vec<Form>, Memory>
-    ensures { IfOk result (λ forms. forms.items ≡ kept_of reasons.now) }
+    ensures { IfOk result (λ forms. forms.items ≡ Kept.kept reasons.now) }
 {
     let mut forms = Vec::new(alloc);
     let mut rest = reasons;

@@ -1,8 +1,9 @@
 //! What stands before an expression: `!`, `$`, and names with `??`.
 ghost use Rattle.std.specs.Prelude.{◌≡◌};
-ghost use Rattle.check_moving.specs.Leads.{front_in, asks as asks_in, is_dollar as dollar, goes_on as going_on};
-ghost use Rattle.check_moving.specs.Leads.{next as next_of, front_of};
-ghost use Rattle.check_moving.specs.Leads.{begins_name_at, unread as unread_of};
+ghost use Rattle.check_moving.specs.Leads;
+ghost use Rattle.check_moving.specs.Leads.{front_in};
+ghost use Rattle.check_moving.specs.Leads.{front_of};
+ghost use Rattle.check_moving.specs.Leads.{begins_name_at};
 
 use crate::text::{past, past_blanks, past_name};
 use pm_bytes::begins_name;
@@ -37,7 +38,7 @@ pub fn read_lead(text: &[u8]) -> Lead<'_>
 }
 
 fn unread(text: &[u8]) -> Lead<'_>
-    ensures { front_in result ≡ unread_of text.now }
+    ensures { front_in result ≡ Leads.unread text.now }
 {
     Lead {
         expands: false,
@@ -58,25 +59,25 @@ pub fn begins_with_name(text: &[u8]) -> bool
 }
 
 fn asks(text: &[u8]) -> bool
-    ensures { result ≡ asks_in text.now }
+    ensures { result ≡ Leads.asks text.now }
 {
     begins_with_name(text) && past_blanks(past_name(text)).starts_with(b"??")
 }
 
 fn is_dollar(lead: &Lead<'_>) -> bool
-    ensures { result ≡ dollar (front_in lead.now) }
+    ensures { result ≡ Leads.is_dollar (front_in lead.now) }
 {
     !lead.expands && lead.text.starts_with(b"$")
 }
 
 fn goes_on(lead: &Lead<'_>) -> bool
-    ensures { result ≡ going_on (front_in lead.now) }
+    ensures { result ≡ Leads.goes_on (front_in lead.now) }
 {
     lead.text.starts_with(b"!") || is_dollar(lead) || asks(lead.text)
 }
 
 fn next<'a>(lead: &Lead<'a>) -> Lead<'a>
-    ensures { front_in result ≡ next_of (front_in lead.now) }
+    ensures { front_in result ≡ Leads.next (front_in lead.now) }
 {
     if lead.text.starts_with(b"!") {
         return Lead {

@@ -1,12 +1,8 @@
 //! Forms of mailboxes.
 ghost use Rattle.std.specs.Prelude.{◌≡◌, IfOk};
-ghost use Rattle.check_moving.specs.Kept.{kept as kept_of};
-ghost use Rattle.check_moving.specs.Mailboxes.{filed, filed_by, is_folder as folder, is_maildir as maildir, first_of};
-ghost use Rattle.check_moving.specs.Mailboxes.{is_several as several};
-ghost use Rattle.check_moving.specs.Mailboxes.{has_hash as hash, has_match as match_named};
-ghost use Rattle.check_moving.specs.Mailboxes.{is_first_maildir as first_maildir};
-ghost use Rattle.check_moving.specs.Mailboxes.{is_own_lock as own_lock, is_automatic as automatic};
-ghost use Rattle.check_moving.specs.Mailboxes.{is_folder_lock as folder_lock};
+ghost use Rattle.check_moving.specs.Kept;
+ghost use Rattle.check_moving.specs.Mailboxes;
+ghost use Rattle.check_moving.specs.Mailboxes.{filed, filed_by, first_of};
 
 use crate::form::{Form, MailboxForm};
 use crate::kept::kept;
@@ -23,7 +19,7 @@ pub fn mailbox_forms(
     told: bool,
     text: &[u8],
 ) -> Result<Vec<Form>, Memory>
-    ensures { IfOk result (λ forms. forms.items ≡ kept_of (filed_by colon.now told text.now)) }
+    ensures { IfOk result (λ forms. forms.items ≡ Kept.kept (filed_by colon.now told text.now)) }
 {
     let lock = read_lock(alloc, colon)?;
     let words = words(alloc, text)?;
@@ -45,7 +41,7 @@ fn forms_of(
     text: &[u8],
     words: &[Blob],
 ) -> Result<Vec<Form>, Memory>
-    ensures { IfOk result (λ forms. forms.items ≡ kept_of (filed raw lock.now told text.now words.now)) }
+    ensures { IfOk result (λ forms. forms.items ≡ Kept.kept (filed raw lock.now told text.now words.now)) }
 {
     let first = first_of(words);
     let reasons = [
@@ -67,7 +63,7 @@ fn forms_of(
 }
 
 fn is_folder(name: &[u8]) -> bool
-    ensures { result ≡ folder name.now }
+    ensures { result ≡ Mailboxes.is_folder name.now }
 {
     let name = unquoted(name);
     name.ends_with(b"/") || name.ends_with(b"/.")
@@ -75,7 +71,7 @@ fn is_folder(name: &[u8]) -> bool
 
 /// Whether the name is that of a maildir.
 pub fn is_maildir(name: &[u8]) -> bool
-    ensures { result ≡ maildir name.now }
+    ensures { result ≡ Mailboxes.is_maildir name.now }
 {
     let name = unquoted(name);
     name.ends_with(b"/") && !name.ends_with(b"/./")
@@ -91,7 +87,7 @@ fn first_of(words: &[Blob]) -> &[u8]
 }
 
 fn is_several(words: &[Blob]) -> bool
-    ensures { result ≡ several words.now }
+    ensures { result ≡ Mailboxes.is_several words.now }
 {
     match words {
         [one, other, ..] => !is_folder(one.as_slice()) && !other.as_slice().starts_with(b"#"),
@@ -100,25 +96,25 @@ fn is_several(words: &[Blob]) -> bool
 }
 
 fn has_hash(name: &[u8]) -> bool
-    ensures { result ≡ hash name.now }
+    ensures { result ≡ Mailboxes.has_hash name.now }
 {
     has_part(b"#", name) && !has_part(b"\"", name) && !has_part(b"'", name)
 }
 
 fn has_match(text: &[u8]) -> bool
-    ensures { result ≡ match_named text.now }
+    ensures { result ≡ Mailboxes.has_match text.now }
 {
     (has_part(b"$MATCH", text) || has_part(b"${MATCH", text)) && !has_part(b"\"", text)
 }
 
 fn is_first_maildir(told: bool, name: &[u8]) -> bool
-    ensures { result ≡ first_maildir told name.now }
+    ensures { result ≡ Mailboxes.is_first_maildir told name.now }
 {
     !told && is_maildir(name)
 }
 
 fn is_own_lock(lock: &Option<Blob>, name: &[u8]) -> bool
-    ensures { result ≡ own_lock lock.now name.now }
+    ensures { result ≡ Mailboxes.is_own_lock lock.now name.now }
 {
     match lock {
         None => false,
@@ -128,7 +124,7 @@ fn is_own_lock(lock: &Option<Blob>, name: &[u8]) -> bool
 
 /// Whether it is a lock file without a name.
 pub fn is_automatic(lock: &Option<Blob>) -> bool
-    ensures { result ≡ automatic lock.now }
+    ensures { result ≡ Mailboxes.is_automatic lock.now }
 {
     match lock {
         None => false,
@@ -137,7 +133,7 @@ pub fn is_automatic(lock: &Option<Blob>) -> bool
 }
 
 fn is_folder_lock(lock: &Option<Blob>, name: &[u8]) -> bool
-    ensures { result ≡ folder_lock lock.now name.now }
+    ensures { result ≡ Mailboxes.is_folder_lock lock.now name.now }
 {
     is_automatic(lock) && is_folder(name)
 }

@@ -1,9 +1,8 @@
 //! The options of a call of formail, as formail 3.22 reads them.
 ghost use Rattle.std.specs.Prelude.{◌≡◌, ◌++◌, [], ◌∷◌, IfOk, OnOk};
-ghost use Rattle.check_moving.specs.Options.{given, given_from, takes_word as taking, letters_of};
-ghost use Rattle.check_moving.specs.Options.{wanted_next as next_wanted, wanted_with as with_wanted};
-ghost use Rattle.check_moving.specs.Options.{wanted_of, is_group as grouped, group_of, has as has_in};
-ghost use Rattle.check_moving.specs.Options.{is_formail as formail};
+ghost use Rattle.check_moving.specs.Options;
+ghost use Rattle.check_moving.specs.Options.{given, given_from, letters_of};
+ghost use Rattle.check_moving.specs.Options.{wanted_of, group_of};
 
 use crate::text::past;
 use crate::words::is_break;
@@ -68,7 +67,7 @@ fn put_letters(alloc: Global, group: &[u8], options: &mut Vec<Given>) -> Result<
 }
 
 fn takes_word(letter: u8) -> bool
-    ensures { result ≡ taking letter }
+    ensures { result ≡ Options.takes_word letter }
 {
     matches!(
         letter,
@@ -77,7 +76,7 @@ fn takes_word(letter: u8) -> bool
 }
 
 fn wanted_next(letter: u8) -> u8
-    ensures { result ≡ next_wanted letter }
+    ensures { result ≡ Options.wanted_next letter }
 {
     match letter {
         b'D' => b'C',
@@ -88,7 +87,7 @@ fn wanted_next(letter: u8) -> u8
 }
 
 fn wanted_with(letter: u8, rest: &[u8]) -> u8
-    ensures { result ≡ with_wanted letter rest.now }
+    ensures { result ≡ Options.wanted_with letter rest.now }
 {
     match rest {
         [] => letter,
@@ -110,7 +109,7 @@ fn wanted_by(group: &[u8]) -> u8
 }
 
 fn is_group(word: &[u8]) -> bool
-    ensures { result ≡ grouped word.now }
+    ensures { result ≡ Options.is_group word.now }
 {
     match word {
         [sign, letter, ..] => *sign == MINUS && !is_digit(*letter),
@@ -126,14 +125,14 @@ fn group_of(word: &[u8]) -> &[u8]
 
 /// Whether a letter is among the options.
 pub fn has(letter: u8, options: &[Given]) -> bool
-    ensures { result ≡ has_in letter options.now }
+    ensures { result ≡ Options.has letter options.now }
 {
     options.iter().any(|one| one.letter == letter)
 }
 
 /// Whether the word names formail, or is a variable that does.
 pub fn is_formail(word: &[u8]) -> bool
-    ensures { result ≡ formail word.now }
+    ensures { result ≡ Options.is_formail word.now }
 {
     word.ends_with(b"formail")
         || word.ends_with(b"FORMAIL")

@@ -1,6 +1,7 @@
 //! Quotes in values and program lines.
 ghost use Rattle.std.specs.Prelude.{◌≡◌};
-ghost use Rattle.check_moving.specs.Quotes.{quote_after, plain_after, expands_in, is_plain as is_plain_in};
+ghost use Rattle.check_moving.specs.Quotes;
+ghost use Rattle.check_moving.specs.Quotes.{quote_after, plain_after, expands_in};
 
 use pm_bytes::{BACKQUOTE, BACKSLASH, DOUBLE_QUOTE, SINGLE_QUOTE};
 
@@ -48,7 +49,7 @@ impl Quote {
 
     /// Whether a blank ends a word here.
     pub fn is_plain(self) -> bool
-        ensures { result ≡ is_plain_in self }
+        ensures { result ≡ Quotes.is_plain self }
     {
         matches!(self, Quote::Plain)
     }

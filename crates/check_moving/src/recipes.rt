@@ -1,9 +1,8 @@
 //! Forms of colon lines and of blocks.
 ghost use Rattle.std.specs.Prelude.{◌≡◌, IfOk};
-ghost use Rattle.check_moving.specs.Kept.{kept as kept_of};
-ghost use Rattle.check_moving.specs.Recipes.{begun, opened, is_first_chain as first_chain};
-ghost use Rattle.check_moving.specs.Recipes.{is_after_block as after_block};
-ghost use Rattle.check_moving.specs.Recipes.{is_lock as lock_is, is_named as named, is_block_lock as block_lock};
+ghost use Rattle.check_moving.specs.Kept;
+ghost use Rattle.check_moving.specs.Recipes;
+ghost use Rattle.check_moving.specs.Recipes.{begun, opened};
 
 use crate::form::{Form, RecipeForm};
 use crate::kept::kept;
@@ -22,7 +21,7 @@ pub fn colon_forms(
     held: &[u8],
     colon: &[u8],
 ) -> Result<Vec<Form>, Memory>
-    ensures { IfOk result (λ forms. forms.items ≡ kept_of (begun fresh closed held.now colon.now)) }
+    ensures { IfOk result (λ forms. forms.items ≡ Kept.kept (begun fresh closed held.now colon.now)) }
 {
     let flags = read_flags(colon);
     let lock = read_lock(alloc, colon)?;
@@ -42,7 +41,7 @@ pub fn colon_forms(
 
 /// The forms of a block under this colon line.
 pub fn block_forms(alloc: Global, colon: &[u8]) -> Result<Vec<Form>, Memory>
-    ensures { IfOk result (λ forms. forms.items ≡ kept_of (opened colon.now)) }
+    ensures { IfOk result (λ forms. forms.items ≡ Kept.kept (opened colon.now)) }
 {
     let flags = read_flags(colon);
     let lock = read_lock(alloc, colon)?;
@@ -58,19 +57,19 @@ pub fn block_forms(alloc: Global, colon: &[u8]) -> Result<Vec<Form>, Memory>
 }
 
 fn is_first_chain(fresh: bool, flags: Flags) -> bool
-    ensures { result ≡ first_chain fresh flags }
+    ensures { result ≡ Recipes.is_first_chain fresh flags }
 {
     fresh && (flags.and_chain || flags.and_ok || flags.on_error)
 }
 
 fn is_after_block(closed: bool, flags: Flags) -> bool
-    ensures { result ≡ after_block closed flags }
+    ensures { result ≡ Recipes.is_after_block closed flags }
 {
     closed && (flags.and_ok || flags.on_error)
 }
 
 fn is_lock(name: &[u8], lock: &Option<Blob>) -> bool
-    ensures { result ≡ lock_is name.now lock.now }
+    ensures { result ≡ Recipes.is_lock name.now lock.now }
 {
     match lock {
         None => false,
@@ -79,7 +78,7 @@ fn is_lock(name: &[u8], lock: &Option<Blob>) -> bool
 }
 
 fn is_named(lock: &Option<Blob>) -> bool
-    ensures { result ≡ named lock.now }
+    ensures { result ≡ Recipes.is_named lock.now }
 {
     match lock {
         None => false,
@@ -88,7 +87,7 @@ fn is_named(lock: &Option<Blob>) -> bool
 }
 
 fn is_block_lock(flags: Flags, lock: &Option<Blob>) -> bool
-    ensures { result ≡ block_lock flags lock.now }
+    ensures { result ≡ Recipes.is_block_lock flags lock.now }
 {
     is_named(lock) && !flags.copy
 }

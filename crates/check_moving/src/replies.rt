@@ -1,13 +1,9 @@
 //! Forms of calls of formail: what is done with fields.
 ghost use Rattle.std.specs.Prelude.{◌≡◌, IfOk};
 ghost use Rattle.std.specs.List.{list_any};
-ghost use Rattle.check_moving.specs.Kept.{kept as kept_of};
-ghost use Rattle.check_moving.specs.Calls.{replied, is_reply_field as reply_field, is_reply_keep as reply_keep};
-ghost use Rattle.check_moving.specs.Calls.{is_trust_alone as trust_alone};
-ghost use Rattle.check_moving.specs.Calls.{is_empty_field as empty_field, is_from_line as from_line};
-ghost use Rattle.check_moving.specs.Calls.{removes_from as from_removed_by};
-ghost use Rattle.check_moving.specs.Calls.{is_from_removed as from_removed, adds_from as from_added, is_made as made};
-ghost use Rattle.check_moving.specs.Calls.{is_partial as partial};
+ghost use Rattle.check_moving.specs.Kept;
+ghost use Rattle.check_moving.specs.Calls;
+ghost use Rattle.check_moving.specs.Calls.{replied};
 
 use crate::form::{Form, ReplyForm};
 use crate::kept::kept;
@@ -18,7 +14,7 @@ use std::alloc::Global;
 
 /// The forms of a call with these options.
 pub fn reply_forms(alloc: Global, options: &[Given]) -> Result<Vec<Form>, Memory>
-    ensures { IfOk result (λ forms. forms.items ≡ kept_of (replied options.now)) }
+    ensures { IfOk result (λ forms. forms.items ≡ Kept.kept (replied options.now)) }
 {
     let reasons = [
         (is_reply_field(options), Form::Reply(ReplyForm::ReplyField)),
@@ -37,74 +33,74 @@ pub fn reply_forms(alloc: Global, options: &[Given]) -> Result<Vec<Form>, Memory
 }
 
 fn is_reply_field(options: &[Given]) -> bool
-    ensures { result ≡ reply_field options.now }
+    ensures { result ≡ Calls.is_reply_field options.now }
 {
     has(b'r', options) && (has(b'x', options) || has(b'X', options) || has(b'R', options))
 }
 
 fn is_reply_keep(options: &[Given]) -> bool
-    ensures { result ≡ reply_keep options.now }
+    ensures { result ≡ Calls.is_reply_keep options.now }
 {
     has(b'r', options) && has(b'k', options) && !has(b'b', options)
 }
 
 fn is_trust_alone(options: &[Given]) -> bool
-    ensures { result ≡ trust_alone options.now }
+    ensures { result ≡ Calls.is_trust_alone options.now }
 {
     has(b't', options) && !has(b'r', options)
 }
 
 fn is_empty_field(one: &Given) -> bool
-    ensures { result ≡ empty_field one.now }
+    ensures { result ≡ Calls.is_empty_field one.now }
 {
     (one.letter == b'X' || one.letter == b'I')
         && (is(one.argument.as_slice(), b"\"\"") || is(one.argument.as_slice(), b"''"))
 }
 
 fn has_empty_field(options: &[Given]) -> bool
-    ensures { result ≡ list_any empty_field options.now }
+    ensures { result ≡ list_any Calls.is_empty_field options.now }
 {
     options.iter().any(|one| is_empty_field(one))
 }
 
 fn is_from_line(argument: &[u8]) -> bool
-    ensures { result ≡ from_line argument.now }
+    ensures { result ≡ Calls.is_from_line argument.now }
 {
     is(argument, b"\"From \"") || is(argument, b"'From '")
 }
 
 fn removes_from(one: &Given) -> bool
-    ensures { result ≡ from_removed_by one.now }
+    ensures { result ≡ Calls.removes_from one.now }
 {
     one.letter == b'I' && is_from_line(one.argument.as_slice())
 }
 
 fn has_from_line(options: &[Given]) -> bool
-    ensures { result ≡ list_any from_removed_by options.now }
+    ensures { result ≡ list_any Calls.removes_from options.now }
 {
     options.iter().any(|one| removes_from(one))
 }
 
 fn is_from_removed(options: &[Given]) -> bool
-    ensures { result ≡ from_removed options.now }
+    ensures { result ≡ Calls.is_from_removed options.now }
 {
     has_from_line(options) && !has(b'f', options)
 }
 
 fn adds_from(one: &Given) -> bool
-    ensures { result ≡ from_added one.now }
+    ensures { result ≡ Calls.adds_from one.now }
 {
     one.letter == b'a' && is_from_line(one.argument.as_slice())
 }
 
 fn has_from_added(options: &[Given]) -> bool
-    ensures { result ≡ list_any from_added options.now }
+    ensures { result ≡ list_any Calls.adds_from options.now }
 {
     options.iter().any(|one| adds_from(one))
 }
 
 fn is_made(one: &Given) -> bool
-    ensures { result ≡ made one.now }
+    ensures { result ≡ Calls.is_made one.now }
 {
     let name = one.argument.as_slice();
     one.letter == b'a'
@@ -112,13 +108,13 @@ fn is_made(one: &Given) -> bool
 }
 
 fn has_made(options: &[Given]) -> bool
-    ensures { result ≡ list_any made options.now }
+    ensures { result ≡ list_any Calls.is_made options.now }
 {
     options.iter().any(|one| is_made(one))
 }
 
 fn is_partial(one: &Given) -> bool
-    ensures { result ≡ partial one.now }
+    ensures { result ≡ Calls.is_partial one.now }
 {
     let name = one.argument.as_slice();
     (one.letter == b'u' || one.letter == b'U')
@@ -128,7 +124,7 @@ fn is_partial(one: &Given) -> bool
 }
 
 fn has_partial(options: &[Given]) -> bool
-    ensures { result ≡ list_any partial options.now }
+    ensures { result ≡ list_any Calls.is_partial options.now }
 {
     options.iter().any(|one| is_partial(one))
 }

@@ -1,16 +1,9 @@
 //! Forms of expressions.
 ghost use Rattle.std.specs.Prelude.{◌≡◌, IfOk};
-ghost use Rattle.check_moving.specs.Kept.{kept as kept_of};
+ghost use Rattle.check_moving.specs.Kept;
 ghost use Rattle.check_moving.specs.Leads.{front_in};
-ghost use Rattle.check_moving.specs.Searches.{searched, searched_by, is_counted as counted, is_search as searching};
-ghost use Rattle.check_moving.specs.Searches.{is_quoted as quoted, matches as matching};
-ghost use Rattle.check_moving.specs.Searches.{is_inverted_match as inverted_match, is_match_end as match_end};
-ghost use Rattle.check_moving.specs.Searches.{is_weighted_match as weighted_match};
-ghost use Rattle.check_moving.specs.Searches.{is_two_anchors as two_anchors, is_two_blanks as two_blanks};
-ghost use Rattle.check_moving.specs.Searches.{is_repeated as repeated};
-ghost use Rattle.check_moving.specs.Searches.{has_blanks as blanks, is_plain as plain};
-ghost use Rattle.check_moving.specs.Searches.{is_empty as empty, is_empty_match as empty_match};
-ghost use Rattle.check_moving.specs.Searches.{is_line_count as line_count};
+ghost use Rattle.check_moving.specs.Searches;
+ghost use Rattle.check_moving.specs.Searches.{searched, searched_by};
 
 use crate::conditions::{is_above, is_size};
 use crate::form::{Form, SearchForm};
@@ -23,7 +16,7 @@ use std::alloc::Global;
 
 /// The forms of the expression of a condition with this weight and lead.
 pub fn search_forms(alloc: Global, weight: Weight, lead: &Lead<'_>) -> Result<Vec<Form>, Memory>
-    ensures { IfOk result (λ forms. forms.items ≡ kept_of (searched_by weight (front_in lead.now))) }
+    ensures { IfOk result (λ forms. forms.items ≡ Kept.kept (searched_by weight (front_in lead.now))) }
 {
     if is_search(lead.text) {
         forms_of(alloc, weight, lead)
@@ -33,7 +26,7 @@ pub fn search_forms(alloc: Global, weight: Weight, lead: &Lead<'_>) -> Result<Ve
 }
 
 fn forms_of(alloc: Global, weight: Weight, lead: &Lead<'_>) -> Result<Vec<Form>, Memory>
-    ensures { IfOk result (λ forms. forms.items ≡ kept_of (searched weight (front_in lead.now))) }
+    ensures { IfOk result (λ forms. forms.items ≡ Kept.kept (searched weight (front_in lead.now))) }
 {
     let text = lead.text;
     let reasons = [
@@ -63,73 +56,73 @@ fn forms_of(alloc: Global, weight: Weight, lead: &Lead<'_>) -> Result<Vec<Form>,
 }
 
 fn is_counted(weight: Weight) -> bool
-    ensures { result ≡ counted weight }
+    ensures { result ≡ Searches.is_counted weight }
 {
     is_above(0, weight)
 }
 
 fn is_search(text: &[u8]) -> bool
-    ensures { result ≡ searching text.now }
+    ensures { result ≡ Searches.is_search text.now }
 {
     !is_size(text) && !text.starts_with(b"?")
 }
 
 fn is_quoted(lead: &Lead<'_>) -> bool
-    ensures { result ≡ quoted (front_in lead.now) }
+    ensures { result ≡ Searches.is_quoted (front_in lead.now) }
 {
     lead.expands && has_part(b"\"", lead.text) && !has_part(b"\\\"", lead.text)
 }
 
 fn matches(text: &[u8]) -> bool
-    ensures { result ≡ matching text.now }
+    ensures { result ≡ Searches.matches text.now }
 {
     has_part(b"\\/", text)
 }
 
 fn is_inverted_match(lead: &Lead<'_>) -> bool
-    ensures { result ≡ inverted_match (front_in lead.now) }
+    ensures { result ≡ Searches.is_inverted_match (front_in lead.now) }
 {
     lead.inverted && matches(lead.text)
 }
 
 fn is_match_end(text: &[u8]) -> bool
-    ensures { result ≡ match_end text.now }
+    ensures { result ≡ Searches.is_match_end text.now }
 {
     matches(text) && text.ends_with(b"$") && !text.ends_with(b"\\$")
 }
 
 fn is_weighted_match(weight: Weight, text: &[u8]) -> bool
-    ensures { result ≡ weighted_match weight text.now }
+    ensures { result ≡ Searches.is_weighted_match weight text.now }
 {
     is_counted(weight) && matches(text)
 }
 
 fn is_two_anchors(text: &[u8]) -> bool
-    ensures { result ≡ two_anchors text.now }
+    ensures { result ≡ Searches.is_two_anchors text.now }
 {
     has_part(b"$^", text) && !has_part(b"\\$^", text) && !text.ends_with(b"$^^")
 }
 
 fn has_blanks(text: &[u8]) -> bool
-    ensures { result ≡ blanks text.now }
+    ensures { result ≡ Searches.has_blanks text.now }
 {
     has_part(b"  ", text) || has_part(b"\t", text)
 }
 
 fn is_plain(text: &[u8]) -> bool
-    ensures { result ≡ plain text.now }
+    ensures { result ≡ Searches.is_plain text.now }
 {
     !has_part(b"[", text) && !has_part(b"??", text) && !has_part(b"^0", text)
 }
 
 fn is_two_blanks(lead: &Lead<'_>) -> bool
-    ensures { result ≡ two_blanks (front_in lead.now) }
+    ensures { result ≡ Searches.is_two_blanks (front_in lead.now) }
 {
     !lead.named && has_blanks(lead.text) && is_plain(lead.text)
 }
 
 fn is_repeated(text: &[u8]) -> bool
-    ensures { result ≡ repeated text.now }
+    ensures { result ≡ Searches.is_repeated text.now }
 {
     match text {
         [byte, sign] => *byte != BACKSLASH && (*sign == STAR || *sign == QUESTION),
@@ -138,19 +131,19 @@ fn is_repeated(text: &[u8]) -> bool
 }
 
 fn is_empty(text: &[u8]) -> bool
-    ensures { result ≡ empty text.now }
+    ensures { result ≡ Searches.is_empty text.now }
 {
     is(text, b"") || is(text, b"()") || is_repeated(text)
 }
 
 fn is_empty_match(weight: Weight, text: &[u8]) -> bool
-    ensures { result ≡ empty_match weight text.now }
+    ensures { result ≡ Searches.is_empty_match weight text.now }
 {
     is_counted(weight) && is_empty(text)
 }
 
 fn is_line_count(weight: Weight, text: &[u8]) -> bool
-    ensures { result ≡ line_count weight text.now }
+    ensures { result ≡ Searches.is_line_count weight text.now }
 {
     is_counted(weight) && text.ends_with(b"^.*$")
 }

@@ -2,7 +2,7 @@
 ghost use Rattle.std.specs.Prelude.{◌≡◌, ◌≤◌, ◌++◌, IfOk, IfErr, OnOk, length};
 ghost use Rattle.pm_recipe.specs.Refusal.{IsRefusal, most_length};
 ghost use Rattle.check_moving.specs.Found.{AreForms, at_span, found_from, of_span};
-ghost use Rattle.check_moving.specs.Standing.{begin as begin_of, after as after_span};
+ghost use Rattle.check_moving.specs.Standing.{after, begin};
 
 use crate::finding::Finding;
 use crate::form::Form;
@@ -24,7 +24,7 @@ pub fn find_forms(alloc: Global, text: &[u8]) -> Result<Vec<Finding>, RcRefused>
 }
 
 fn found_in(alloc: Global, spans: &[Span<'_>]) -> Result<Vec<Finding>, Memory>
-    ensures { IfOk result (λ findings. findings.items ≡ found_from (begin_of spans.now) spans.now) }
+    ensures { IfOk result (λ findings. findings.items ≡ found_from (begin spans.now) spans.now) }
 {
     let mut findings = Vec::new(alloc);
     let mut standing = begin(alloc, spans);
@@ -41,7 +41,7 @@ fn step(
     standing: Standing,
     findings: &mut Vec<Finding>,
 ) -> Result<Standing, Memory>
-    ensures next { IfOk result (λ next. next ≡ after_span span.now standing) }
+    ensures next { IfOk result (λ next. next ≡ after span.now standing) }
     ensures found { OnOk result (findings.new.items
         ≡ findings.old.items ++ at_span span.now (of_span standing span.now)) }
 {

@@ -1,15 +1,10 @@
 //! The forms of a span, by its kind.
 ghost use Rattle.std.specs.Prelude.{◌≡◌, ◌++◌, IfOk, OnOk};
-ghost use Rattle.check_moving.specs.Kept.{kept as kept_of};
+ghost use Rattle.check_moving.specs.Kept;
 ghost use Rattle.check_moving.specs.Leads.{front_in};
-ghost use Rattle.check_moving.specs.Found.{of_assign as assign, defaulted, unset as unset_in};
-ghost use Rattle.check_moving.specs.Found.{expanded_in as expanded_of, program_in as program_of};
-ghost use Rattle.check_moving.specs.Found.{of_read, of_front as front, is_default_maildir as default_maildir};
-ghost use Rattle.check_moving.specs.Found.{programmed as programmed_in};
-ghost use Rattle.check_moving.specs.Found.{is_standard_error as standard_error, has_shell_byte as shell_byte};
-ghost use Rattle.check_moving.specs.Found.{expanded_line as line_expanded};
-ghost use Rattle.check_moving.specs.Found.{lock_held as held_lock, of_program as program, of_mailbox as mailbox};
-ghost use Rattle.check_moving.specs.Found.{of_span as span_forms};
+ghost use Rattle.check_moving.specs.Found;
+ghost use Rattle.check_moving.specs.Found.{defaulted};
+ghost use Rattle.check_moving.specs.Found.{of_read};
 ghost use Rattle.pm_recipe.specs.Colon.{lock_of};
 ghost use Rattle.pm_recipe.specs.Weights.{condition_of};
 ghost use Rattle.check_moving.specs.Calls.{calls_in};
@@ -34,7 +29,7 @@ use std::alloc::Global;
 
 /// The forms of a span.
 pub fn forms_of(alloc: Global, standing: &Standing, span: &Span<'_>) -> Result<Vec<Form>, Memory>
-    ensures { IfOk result (λ forms. forms.items ≡ span_forms standing.now span.now) }
+    ensures { IfOk result (λ forms. forms.items ≡ Found.of_span standing.now span.now) }
 {
     let text = span.text;
     match span.kind {
@@ -71,13 +66,13 @@ fn calls_of(alloc: Global, lock: &[u8], text: &[u8]) -> Result<Vec<Form>, Memory
 }
 
 fn is_default_maildir(told: bool, name: &[u8], value: &[u8]) -> bool
-    ensures { result ≡ default_maildir told name.now value.now }
+    ensures { result ≡ Found.is_default_maildir told name.now value.now }
 {
     !told && names_maildir(name, value)
 }
 
 fn default_forms(alloc: Global, told: bool, name: &[u8], value: &[u8]) -> Result<Vec<Form>, Memory>
-    ensures { IfOk result (λ forms. forms.items ≡ kept_of (defaulted told name.now value.now)) }
+    ensures { IfOk result (λ forms. forms.items ≡ Kept.kept (defaulted told name.now value.now)) }
 {
     let reasons = [(
         is_default_maildir(told, name, value),
@@ -92,7 +87,7 @@ fn of_assign(
     name: &[u8],
     value: &[u8],
 ) -> Result<Vec<Form>, Memory>
-    ensures { IfOk result (λ forms. forms.items ≡ assign standing.now name.now value.now) }
+    ensures { IfOk result (λ forms. forms.items ≡ Found.of_assign standing.now name.now value.now) }
 {
     let mut forms = assigned_forms(alloc, name, value)?;
     let defaulted = default_forms(alloc, standing.told, name, value)?;
@@ -105,20 +100,20 @@ fn of_assign(
 }
 
 fn of_unset(alloc: Global, name: &[u8]) -> Result<Vec<Form>, Memory>
-    ensures { IfOk result (λ forms. forms.items ≡ kept_of (unset_in name.now)) }
+    ensures { IfOk result (λ forms. forms.items ≡ Kept.kept (Found.unset name.now)) }
 {
     let reasons = [(is(name, b"HOST"), Form::Variable(VariableForm::Host))];
     kept(alloc, &reasons)
 }
 
 fn expanded_in<'a>(lead: &Lead<'a>) -> &'a [u8]
-    ensures { result.now ≡ expanded_of (front_in lead.now) }
+    ensures { result.now ≡ Found.expanded_in (front_in lead.now) }
 {
     if lead.expands { lead.text } else { &[] }
 }
 
 fn program_in<'a>(lead: &Lead<'a>) -> &'a [u8]
-    ensures { result.now ≡ program_of (front_in lead.now) }
+    ensures { result.now ≡ Found.program_in (front_in lead.now) }
 {
     if lead.text.starts_with(b"?") {
         lead.text
@@ -153,7 +148,7 @@ fn of_front(
     weight: Weight,
     lead: &Lead<'_>,
 ) -> Result<Vec<Form>, Memory>
-    ensures { IfOk result (λ forms. forms.items ≡ front standing.now text.now weight (front_in lead.now)) }
+    ensures { IfOk result (λ forms. forms.items ≡ Found.of_front standing.now text.now weight (front_in lead.now)) }
 {
     let mut forms = condition_forms(alloc, standing.greatest, text, weight, lead)?;
     let searched = search_forms(alloc, weight, lead)?;
@@ -166,13 +161,13 @@ fn of_front(
 }
 
 fn is_standard_error(text: &[u8]) -> bool
-    ensures { result ≡ standard_error text.now }
+    ensures { result ≡ Found.is_standard_error text.now }
 {
     has_part(b">&2", text) && !has_part(b"2>", text)
 }
 
 fn programmed(alloc: Global, text: &[u8]) -> Result<Vec<Form>, Memory>
-    ensures { IfOk result (λ forms. forms.items ≡ kept_of (programmed_in text.now)) }
+    ensures { IfOk result (λ forms. forms.items ≡ Kept.kept (Found.programmed text.now)) }
 {
     let reasons = [(
         is_standard_error(text),
@@ -183,7 +178,7 @@ fn programmed(alloc: Global, text: &[u8]) -> Result<Vec<Form>, Memory>
 
 // Bytes by which procmail leaves a line to the shell.
 fn has_shell_byte(text: &[u8]) -> bool
-    ensures { result ≡ shell_byte text.now }
+    ensures { result ≡ Found.has_shell_byte text.now }
 {
     has_part(b"|", text)
         || has_part(b"&", text)
@@ -197,13 +192,13 @@ fn has_shell_byte(text: &[u8]) -> bool
 }
 
 fn expanded_line(text: &[u8]) -> &[u8]
-    ensures { result.now ≡ line_expanded text.now }
+    ensures { result.now ≡ Found.expanded_line text.now }
 {
     if has_shell_byte(text) { &[] } else { text }
 }
 
 fn lock_held<'a>(lock: &'a Option<Blob>, held: &'a [u8]) -> &'a [u8]
-    ensures { result.now ≡ held_lock lock.now held.now }
+    ensures { result.now ≡ Found.lock_held lock.now held.now }
 {
     match lock {
         None => held,
@@ -216,7 +211,7 @@ fn lock_held<'a>(lock: &'a Option<Blob>, held: &'a [u8]) -> &'a [u8]
 }
 
 fn of_program(alloc: Global, standing: &Standing, text: &[u8]) -> Result<Vec<Form>, Memory>
-    ensures { IfOk result (λ forms. forms.items ≡ program standing.now text.now) }
+    ensures { IfOk result (λ forms. forms.items ≡ Found.of_program standing.now text.now) }
 {
     let lock = read_lock(alloc, standing.colon.as_slice())?;
     let mut forms = programmed(alloc, text)?;
@@ -228,7 +223,7 @@ fn of_program(alloc: Global, standing: &Standing, text: &[u8]) -> Result<Vec<For
 }
 
 fn of_mailbox(alloc: Global, standing: &Standing, text: &[u8]) -> Result<Vec<Form>, Memory>
-    ensures { IfOk result (λ forms. forms.items ≡ mailbox standing.now text.now) }
+    ensures { IfOk result (λ forms. forms.items ≡ Found.of_mailbox standing.now text.now) }
 {
     let mut forms = mailbox_forms(alloc, standing.colon.as_slice(), standing.told, text)?;
     let expanded = expanded_forms(alloc, standing.weighted, text)?;

@@ -1,11 +1,8 @@
 //! What is known where a span stands, by the spans before it.
 ghost use Rattle.std.specs.Prelude.{◌≡◌, IfOk};
 ghost use Rattle.std.specs.List.{list_any};
-ghost use Rattle.check_moving.specs.Standing.{strips as stripping, is_stripped as stripped, begin as begin_of};
-ghost use Rattle.check_moving.specs.Standing.{after_colon as colon_after, after_weight as weight_after};
-ghost use Rattle.check_moving.specs.Standing.{after_brace as brace_after, held_after, names_maildir as maildir_named};
-ghost use Rattle.check_moving.specs.Standing.{after_value as value_after};
-ghost use Rattle.check_moving.specs.Standing.{after_mailbox as mailbox_after, after as after_span};
+ghost use Rattle.check_moving.specs.Standing.{after, after_brace, after_colon, after_mailbox, after_value};
+ghost use Rattle.check_moving.specs.Standing.{after_weight, begin, held_after, is_stripped, names_maildir, strips};
 
 use crate::conditions::{is_greatest, is_weight};
 use crate::mailboxes::is_maildir;
@@ -35,7 +32,7 @@ pub struct Standing {
 
 /// Before all spans.
 pub fn begin(alloc: Global, spans: &[Span<'_>]) -> Standing
-    ensures { result ≡ begin_of spans.now }
+    ensures { result ≡ begin spans.now }
 {
     Standing {
         colon: Blob::empty(alloc),
@@ -49,26 +46,26 @@ pub fn begin(alloc: Global, spans: &[Span<'_>]) -> Standing
 }
 
 fn strips(text: &[u8]) -> bool
-    ensures { result ≡ stripping text.now }
+    ensures { result ≡ strips text.now }
 {
     has_part(b"formail", text) && has_part(b"-I", text) && has_part(b"From ", text)
 }
 
 fn is_stripped(span: &Span<'_>) -> bool
-    ensures { result ≡ stripped span.now }
+    ensures { result ≡ is_stripped span.now }
 {
     strips(span.text)
 }
 
 fn has_stripped(spans: &[Span<'_>]) -> bool
-    ensures { result ≡ list_any stripped spans.now }
+    ensures { result ≡ list_any is_stripped spans.now }
 {
     spans.iter().any(|span| is_stripped(span))
 }
 
 /// After a span.
 pub fn after(alloc: Global, span: &Span<'_>, standing: Standing) -> Result<Standing, Memory>
-    ensures { IfOk result (λ next. next ≡ after_span span.now standing) }
+    ensures { IfOk result (λ next. next ≡ after span.now standing) }
 {
     match span.kind {
         Kind::Colon => after_colon(alloc, span.text, standing),
@@ -86,7 +83,7 @@ pub fn after(alloc: Global, span: &Span<'_>, standing: Standing) -> Result<Stand
 }
 
 fn after_colon(alloc: Global, text: &[u8], standing: Standing) -> Result<Standing, Memory>
-    ensures { IfOk result (λ next. next ≡ colon_after text.now standing) }
+    ensures { IfOk result (λ next. next ≡ after_colon text.now standing) }
 {
     Ok(Standing {
         colon: Blob::from_slice(alloc, text)?,
@@ -99,7 +96,7 @@ fn after_colon(alloc: Global, text: &[u8], standing: Standing) -> Result<Standin
 }
 
 fn after_weight(weight: Weight, standing: Standing) -> Standing
-    ensures { result ≡ weight_after weight standing }
+    ensures { result ≡ after_weight weight standing }
 {
     Standing {
         weighted: standing.weighted || is_weight(weight),
@@ -109,7 +106,7 @@ fn after_weight(weight: Weight, standing: Standing) -> Standing
 }
 
 fn after_brace(opens: bool, standing: Standing) -> Standing
-    ensures { result ≡ brace_after opens standing }
+    ensures { result ≡ after_brace opens standing }
 {
     Standing {
         fresh: opens,
@@ -130,7 +127,7 @@ fn held_after(alloc: Global, name: &[u8], value: &[u8], held: Blob) -> Result<Bl
 
 /// Whether DEFAULT or ORGMAIL is a maildir.
 pub fn names_maildir(name: &[u8], value: &[u8]) -> bool
-    ensures { result ≡ maildir_named name.now value.now }
+    ensures { result ≡ names_maildir name.now value.now }
 {
     is_mailbox(name) && is_maildir(value)
 }
@@ -141,7 +138,7 @@ fn after_value(
     value: &[u8],
     standing: Standing,
 ) -> Result<Standing, Memory>
-    ensures { IfOk result (λ next. next ≡ value_after name.now value.now standing) }
+    ensures { IfOk result (λ next. next ≡ after_value name.now value.now standing) }
 {
     let told = standing.told || names_maildir(name, value);
     Ok(Standing {
@@ -156,7 +153,7 @@ fn after_value(
 }
 
 fn after_mailbox(text: &[u8], standing: Standing) -> Standing
-    ensures { result ≡ mailbox_after text.now standing }
+    ensures { result ≡ after_mailbox text.now standing }
 {
     Standing {
         told: standing.told || is_maildir(text),

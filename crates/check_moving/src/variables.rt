@@ -1,6 +1,6 @@
 //! Forms of assignments.
 ghost use Rattle.std.specs.Prelude.{◌≡◌, IfOk};
-ghost use Rattle.check_moving.specs.Kept.{kept as kept_of};
+ghost use Rattle.check_moving.specs.Kept;
 ghost use Rattle.check_moving.specs.Variables.{assigned, is_idle, has_zero, delivers_otherwise, logs_otherwise};
 ghost use Rattle.check_moving.specs.Variables.{is_program};
 ghost use Rattle.check_moving.specs.Variables.{is_mailbox, names_program, locks, is_open};
@@ -13,7 +13,7 @@ use std::alloc::Global;
 
 /// The forms of an assignment of this value, as it stands in the text.
 pub fn assigned_forms(alloc: Global, name: &[u8], value: &[u8]) -> Result<Vec<Form>, Memory>
-    ensures { IfOk result (λ forms. forms.items ≡ kept_of (assigned name.now value.now)) }
+    ensures { IfOk result (λ forms. forms.items ≡ Kept.kept (assigned name.now value.now)) }
 {
     let reasons = [
         (is(name, b"UMASK"), Form::Variable(VariableForm::Umask)),

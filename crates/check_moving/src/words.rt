@@ -1,7 +1,8 @@
 //! The words of a program's line, with their quotes, and the bytes that end a command.
 ghost use Rattle.std.specs.Prelude.{◌≡◌, ◌++◌, [], ◌∷◌, IfOk, OnOk};
-ghost use Rattle.check_moving.specs.Words.{is_break_byte as breaking, ends_word as ending, with_word, with_break};
-ghost use Rattle.check_moving.specs.Words.{words_of, is_break as is_break_in};
+ghost use Rattle.check_moving.specs.Words;
+ghost use Rattle.check_moving.specs.Words.{with_word, with_break};
+ghost use Rattle.check_moving.specs.Words.{words_of};
 
 use crate::quotes::Quote;
 use pm_bytes::{BACKQUOTE, BAR, Blob, Memory, NEWLINE, is_blank};
@@ -53,7 +54,7 @@ fn put_break(alloc: Global, byte: u8, words: &mut Vec<Blob>) -> Result<(), Memor
 }
 
 fn is_break_byte(byte: u8) -> bool
-    ensures { result ≡ breaking byte }
+    ensures { result ≡ Words.is_break_byte byte }
 {
     byte == BAR
         || byte == b';'
@@ -67,7 +68,7 @@ fn is_break_byte(byte: u8) -> bool
 }
 
 fn ends_word(quote: Quote, byte: u8) -> bool
-    ensures { result ≡ ending quote byte }
+    ensures { result ≡ Words.ends_word quote byte }
 {
     match quote {
         Quote::Plain => is_blank(byte) || is_break_byte(byte),
@@ -78,7 +79,7 @@ fn ends_word(quote: Quote, byte: u8) -> bool
 
 /// Whether the word is a byte that ends a command.
 pub fn is_break(word: &[u8]) -> bool
-    ensures { result ≡ is_break_in word.now }
+    ensures { result ≡ Words.is_break word.now }
 {
     match word {
         [byte] => is_break_byte(*byte),
