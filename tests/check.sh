@@ -271,6 +271,9 @@ X=${Y:-1}\n
 brace-form
 X=${Y%z}\n
 X='${Y%z}'\n
+brace-form
+X=${$Y:-z}\n
+X=${Y:-$Z}\n
 brace-command
 X=${Y:-`date`}\n
 X=`date`${Y:-z}\n
@@ -349,6 +352,18 @@ empty-match
 line-count
 :0:\n* 1^1 B ?? ^.*$\nmbox\n
 :0:\n* 1^1 B ?? ^\nmbox\n
+range
+S='[/-,. ]+'\n
+S='[-/,. ]+'\n
+range
+:0:\n* $ ^Subject: [z-a]$X\nmbox\n
+:0:\n* $ ^Subject: [a-z]$X\nmbox\n
+range
+:0:\n* ^Subject: [a-c-e]\nmbox\n
+:0:\n* ^Subject: [a-c-]\\[z-a\nmbox\n
+range
+:0:\n* ^Subject: []-A]\nmbox\n
+:0:\n* $ ^Subject: []-a$X-$Y]\nmbox\n
 mailboxes
 :0:\nmy mail\n
 :0:\n"my mail"\n

@@ -45,7 +45,7 @@ const CONDITION: [ConditionForm; 7] = [
     ConditionForm::SignalCode,
 ];
 
-const SEARCH: [SearchForm; 9] = [
+const SEARCH: [SearchForm; 10] = [
     SearchForm::Backslash,
     SearchForm::Quote,
     SearchForm::InvertedMatch,
@@ -55,6 +55,7 @@ const SEARCH: [SearchForm; 9] = [
     SearchForm::TwoBlanks,
     SearchForm::EmptyMatch,
     SearchForm::LineCount,
+    SearchForm::Range,
 ];
 
 const MAILBOX: [MailboxForm; 7] = [

@@ -1,5 +1,5 @@
 -- Which forms short texts have, as procmailrc(5), procmailsc(5) and formail(1) tell them apart.
-use Rattle.std.specs.Prelude.{◌≡◌, ℕ, Bool, true, false, List, [], ◌∷◌, codes, None, Some}
+use Rattle.std.specs.Prelude.{◌≡◌, ℕ, Bool, true, false, List, [], ◌∷◌, ◌++◌, codes, None, Some}
 use Rattle.pm_recipe.specs.Weights.{condition_of}
 use Rattle.check_moving.specs.Calls.{calls_in}
 use Rattle.check_moving.specs.Conditions.{conditioned}
@@ -9,7 +9,7 @@ use Rattle.check_moving.specs.Leads.{front_of}
 use Rattle.check_moving.specs.Mailboxes.{filed_by}
 use Rattle.check_moving.specs.Recipes.{begun, opened}
 use Rattle.check_moving.specs.Searches.{searched_by}
-use Rattle.check_moving.specs.Variables.{assigned}
+use Rattle.check_moving.specs.Variables.{assigned, valued}
 use Rattle.check_moving.specs.Words.{words_of}
 use Rattle.check_moving.specs.declared.form.Form.{Form}
 use Rattle.check_moving.specs.declared.form.Form.TheVariants as any
@@ -24,7 +24,7 @@ use Rattle.check_moving.specs.declared.form.ReplyForm.TheVariants as reply
 
 -- the forms of an assignment
 abbrev pub of_value : List ℕ → List ℕ → List Form
-of_value name value = kept (assigned name value)
+of_value name value = kept (assigned name value) ++ kept (valued name value)
 
 -- the forms of a text that is expanded, after a recipe without weights
 abbrev pub of_text : List ℕ → List Form
@@ -56,6 +56,9 @@ pub record OfVariables : Type 0 where
   pub no_lock : of_value (codes "LOCKFILE") [] ≡ []
   -- a blank ends the value
   pub unclosed : of_value (codes "X") (codes "${Y:-") ≡ any.Variable variable.OpenBrace ∷ []
+  pub range : of_value (codes "S") (codes "'[/-,. ]+'") ≡ any.Search search.Range ∷ []
+  pub text : of_value (codes "LOG") (codes "\"[z-a]\"") ≡ []
+  pub output : of_value (codes "X") (codes "`tr '[z-a]' x`") ≡ []
 
 -- what is expanded
 pub record OfExpanded : Type 0 where
@@ -64,6 +67,8 @@ pub record OfExpanded : Type 0 where
   pub single : of_text (codes "'$@' \\$@") ≡ []
   pub underscore : of_text (codes "$_x") ≡ any.Expanded expanded_form.Underscore ∷ []
   pub digit : of_text (codes "${1}") ≡ any.Expanded expanded_form.Brace ∷ []
+  pub dollar : of_text (codes "${$A:-x}") ≡ any.Expanded expanded_form.Brace ∷ []
+  pub length : of_text (codes "${#A}") ≡ any.Expanded expanded_form.Brace ∷ []
   pub percent : of_text (codes "${A%x}") ≡ any.Expanded expanded_form.Brace ∷ []
   pub default : of_text (codes "${A:-x}${B:+y}${C}") ≡ []
   pub command : of_text (codes "${A:-`date`}") ≡ any.Expanded expanded_form.Command ∷ []
@@ -92,6 +97,16 @@ pub record OfConditions : Type 0 where
   pub in_a_set : of_search (codes " ^X: a[  ]b") ≡ []
   pub empty : of_search (codes " 1^1 x*") ≡ any.Search search.EmptyMatch ∷ []
   pub lines : of_search (codes " 1^1 B ?? ^.*$") ≡ any.Search search.LineCount ∷ []
+  pub down : of_search (codes " ^X: [z-a]") ≡ any.Search search.Range ∷ []
+  pub negated : of_search (codes " $ ^X: [^/-,. ]$Y") ≡ any.Search search.Range ∷ []
+  pub once_more : of_search (codes " ^X: [a-c-e]") ≡ any.Search search.Range ∷ []
+  pub up : of_search (codes " ^X: [a-cx-z0-9]") ≡ []
+  pub one_byte : of_search (codes " ^X: [a-a]") ≡ []
+  pub last : of_search (codes " ^X: [a-c-][z-]") ≡ []
+  pub bracket : of_search (codes " ^X: []-a][]-A]") ≡ any.Search search.Range ∷ []
+  pub escaped : of_search (codes " ^X: \\[z-a\\]") ≡ []
+  pub unclosed : of_search (codes " ^X: [z-a") ≡ []
+  pub by_variable : of_search (codes " $ ^X: [$A-$B]") ≡ []
   -- a program's line and a size are none
   pub program : of_search (codes " ? test  \\$^") ≡ []
 

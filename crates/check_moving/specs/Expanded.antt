@@ -2,7 +2,7 @@
 use Rattle.std.specs.Prelude.{ℕ, Bool, true, false, not, ◌||◌, ◌&&◌, List, [], ◌∷◌, drop, nat_eq, if◌then◌else◌, codes}
 use Rattle.std.specs.List.{starts_with}
 use Rattle.pm_bytes.specs.Alphabet.{BACKQUOTE, CLOSE_BRACE, DOLLAR}
-use Rattle.pm_bytes.specs.Letter.{is_digit_byte, is_name_byte, is_name_start}
+use Rattle.pm_bytes.specs.Letter.{is_name_byte, is_name_start}
 use Rattle.check_moving.specs.Quotes.{expands_in, quote_after}
 use Rattle.check_moving.specs.Text.{behind_name}
 use Rattle.check_moving.specs.declared.form.ExpandedForm.{ExpandedForm}
@@ -23,10 +23,10 @@ after_name text =
     starts_with nat_eq text (codes "%") || starts_with nat_eq text (codes "#") || starts_with nat_eq text (codes "=")
     || starts_with nat_eq text (codes "?") || starts_with nat_eq text (codes ":=") || starts_with nat_eq text (codes ":?")
 
--- what stands after `${` where it isn't expanded: a digit, a `#`, or one of these after the name
+-- what stands after `${` where it isn't expanded: what begins no name, or one of these after the name
 abbrev pub brace_form : List ℕ → Bool
 brace_form [] = false
-brace_form (byte ∷ rest) = if is_name_start byte then after_name (behind_name (byte ∷ rest)) else (is_digit_byte byte || nat_eq byte 35)
+brace_form (byte ∷ rest) = if is_name_start byte then after_name (behind_name (byte ∷ rest)) else true
 
 -- a backquote before a closing brace, and before another variable
 abbrev pub command_first : List ℕ → Bool

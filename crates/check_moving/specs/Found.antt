@@ -20,7 +20,7 @@ use Rattle.check_moving.specs.Recipes.{begun, opened}
 use Rattle.check_moving.specs.Searches.{searched_by}
 use Rattle.check_moving.specs.Standing.{begin, after, names_maildir}
 use Rattle.check_moving.specs.Text.{has_part}
-use Rattle.check_moving.specs.Variables.{assigned}
+use Rattle.check_moving.specs.Variables.{assigned, valued}
 use Rattle.check_moving.specs.Words.{words_of}
 use Rattle.check_moving.specs.declared.finding.Finding.{Finding}
 use Rattle.check_moving.specs.declared.form.Form.{Form}
@@ -41,7 +41,7 @@ defaulted told name value = (is_default_maildir told name value, Mailbox mailbox
 -- the forms of an assignment
 abbrev pub of_assign : Standing → List ℕ → List ℕ → List Form
 of_assign standing name value =
-    kept (assigned name value) ++ kept (defaulted standing.told name value) ++ kept (expanded standing.weighted value)
+    kept (assigned name value) ++ kept (valued name value) ++ kept (defaulted standing.told name value) ++ kept (expanded standing.weighted value)
     ++ calls_in [] (words_of value)
 
 -- HOST alone

@@ -2,6 +2,7 @@ pub mod Kept
 pub mod Text
 pub mod Quotes
 pub mod Expanded
+pub mod Ranges
 pub mod Variables
 pub mod Leads
 pub mod Conditions

@@ -71,6 +71,7 @@ search_code search.TwoAnchors = codes "two-anchors"
 search_code search.TwoBlanks = codes "two-blanks"
 search_code search.EmptyMatch = codes "empty-match"
 search_code search.LineCount = codes "line-count"
+search_code search.Range = codes "range"
 
 -- codes of forms of this kind
 abbrev pub mailbox_code : MailboxForm → List ℕ
@@ -167,6 +168,7 @@ search_text search.TwoAnchors = codes "$ and ^ need one newline together, and no
 search_text search.TwoBlanks = codes "a newline in a folded field and the blank after it match one blank"
 search_text search.EmptyMatch = codes "a match of no bytes counts once at each byte, and not 2147483647"
 search_text search.LineCount = codes "the lines are counted, and not one more"
+search_text search.Range = codes "a range goes up to a greater byte, and a - right after it is a byte like others"
 
 -- what is said of forms of this kind
 abbrev pub mailbox_text : MailboxForm → List ℕ

@@ -5,6 +5,7 @@ use Rattle.std.specs.Str.{bytes_eq}
 use Rattle.pm_recipe.specs.declared.tree.Weight.{Weight}
 use Rattle.check_moving.specs.Conditions.{is_above, is_size}
 use Rattle.check_moving.specs.Leads.{Front}
+use Rattle.check_moving.specs.Ranges.{has_set}
 use Rattle.check_moving.specs.Text.{has_part}
 use Rattle.check_moving.specs.declared.form.Form.{Form}
 use Rattle.check_moving.specs.declared.form.Form.TheVariants.{Search}
@@ -84,6 +85,7 @@ searched worth front =
     ∷ (is_two_blanks front, Search form.TwoBlanks)
     ∷ (is_empty_match worth front.text, Search form.EmptyMatch)
     ∷ (is_line_count worth front.text, Search form.LineCount)
+    ∷ (has_set false front.text, Search form.Range)
     ∷ []
 
 -- those of a condition: none, where it asks for something else

@@ -1,10 +1,12 @@
 -- Forms of assignments (procmailrc(5), "Variables").
-use Rattle.std.specs.Prelude.{ℕ, Bool, not, ◌||◌, ◌&&◌, List, [], ◌∷◌, nat_eq, codes}
+use Rattle.std.specs.Prelude.{ℕ, Bool, false, not, ◌||◌, ◌&&◌, List, [], ◌∷◌, nat_eq, codes}
 use Rattle.std.specs.List.{starts_with}
 use Rattle.std.specs.Str.{bytes_eq}
+use Rattle.check_moving.specs.Ranges.{has_set}
 use Rattle.check_moving.specs.Text.{has_part, without_quotes}
 use Rattle.check_moving.specs.declared.form.Form.{Form}
-use Rattle.check_moving.specs.declared.form.Form.TheVariants.{Variable}
+use Rattle.check_moving.specs.declared.form.Form.TheVariants.{Search, Variable}
+use Rattle.check_moving.specs.declared.form.SearchForm.TheVariants as search
 use Rattle.check_moving.specs.declared.form.VariableForm.TheVariants as form
 
 -- variables of 3.22 without an effect
@@ -48,6 +50,14 @@ locks name value = bytes_eq name (codes "LOCKFILE") && not (bytes_eq (without_qu
 -- a `${` that isn't closed
 abbrev pub is_open : List ℕ → Bool
 is_open value = has_part (codes "${") value && not (has_part (codes "}") value)
+
+-- a set whose ranges mean something else, in a value that can be an expression
+abbrev pub gives_set : List ℕ → List ℕ → Bool
+gives_set name value = not (bytes_eq name (codes "LOG")) && not (has_part (codes "`") value) && has_set false value
+
+-- the form of a value, and whether it has it
+abbrev pub valued : List ℕ → List ℕ → List (Bool × Form)
+valued name value = (gives_set name value, Search search.Range) ∷ []
 
 -- the forms of an assignment, and whether it has them
 abbrev pub assigned : List ℕ → List ℕ → List (Bool × Form)

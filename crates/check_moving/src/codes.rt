@@ -94,6 +94,7 @@ fn search_code(form: SearchForm) -> &'static str
         SearchForm::TwoBlanks => "two-blanks",
         SearchForm::EmptyMatch => "empty-match",
         SearchForm::LineCount => "line-count",
+        SearchForm::Range => "range",
     }
 }
 

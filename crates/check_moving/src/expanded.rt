@@ -10,7 +10,7 @@ use crate::form::{ExpandedForm, Form};
 use crate::kept::kept;
 use crate::quotes::Quote;
 use crate::text::past_name;
-use pm_bytes::{BACKQUOTE, CLOSE_BRACE, DOLLAR, Memory, begins_name, continues_name, is_digit};
+use pm_bytes::{BACKQUOTE, CLOSE_BRACE, DOLLAR, Memory, begins_name, continues_name};
 use std::alloc::Global;
 
 /// The forms of a text that is expanded. `weighted` says that the last recipe has a weight.
@@ -113,13 +113,7 @@ fn is_brace_form(text: &[u8]) -> bool
 {
     match text {
         [] => false,
-        [byte, ..] => {
-            if begins_name(*byte) {
-                is_after_name(past_name(text))
-            } else {
-                is_digit(*byte) || *byte == b'#'
-            }
-        }
+        [byte, ..] => !begins_name(*byte) || is_after_name(past_name(text)),
     }
 }
 

@@ -48,7 +48,7 @@ pub enum ExpandedForm {
     Arguments,
     /// `$_` before a name.
     Underscore,
-    /// `${` before a digit or `#`, or with `#`, `%`, `=` or `?` after the name.
+    /// `${` before what begins no name, or with `#`, `%`, `=` or `?` after the name.
     Brace,
     /// A command in `${`.
     Command,
@@ -113,6 +113,8 @@ pub enum SearchForm {
     EmptyMatch,
     /// `^.*$`, counted.
     LineCount,
+    /// A range down to a lesser byte, or a `-` right after a range.
+    Range,
 }
 
 /// Mailboxes.

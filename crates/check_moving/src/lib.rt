@@ -15,6 +15,7 @@ mod mailboxes;
 mod messages;
 mod options;
 mod quotes;
+mod ranges;
 mod recipes;
 mod replies;
 mod searches;

@@ -132,6 +132,9 @@ fn search_text(form: SearchForm) -> &'static str
             "a match of no bytes counts once at each byte, and not 2147483647"
         }
         SearchForm::LineCount => "the lines are counted, and not one more",
+        SearchForm::Range => {
+            "a range goes up to a greater byte, and a - right after it is a byte like others"
+        }
     }
 }
 

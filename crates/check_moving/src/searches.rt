@@ -9,6 +9,7 @@ use crate::conditions::{is_above, is_size};
 use crate::form::{Form, SearchForm};
 use crate::kept::kept;
 use crate::leads::Lead;
+use crate::ranges::has_set;
 use crate::text::{has_part, is};
 use pm_bytes::{BACKSLASH, Memory, QUESTION, STAR};
 use pm_recipe::Weight;
@@ -51,6 +52,7 @@ fn forms_of(alloc: Global, weight: Weight, lead: &Lead<'_>) -> Result<Vec<Form>,
             is_line_count(weight, text),
             Form::Search(SearchForm::LineCount),
         ),
+        (has_set(text), Form::Search(SearchForm::Range)),
     ];
     kept(alloc, &reasons)
 }

@@ -21,7 +21,7 @@ use crate::recipes::{block_forms, colon_forms};
 use crate::searches::search_forms;
 use crate::standing::{Standing, names_maildir};
 use crate::text::{has_part, is};
-use crate::variables::assigned_forms;
+use crate::variables::{assigned_forms, value_forms};
 use crate::words::words;
 use pm_bytes::{Blob, Memory};
 use pm_recipe::{Condition, Kind, Span, Weight, read_condition, read_lock};
@@ -90,9 +90,11 @@ fn of_assign(
     ensures { IfOk result (λ forms. forms.items ≡ Found.of_assign standing.now name.now value.now) }
 {
     let mut forms = assigned_forms(alloc, name, value)?;
+    let valued = value_forms(alloc, name, value)?;
     let defaulted = default_forms(alloc, standing.told, name, value)?;
     let expanded = expanded_forms(alloc, standing.weighted, value)?;
     let called = calls_of(alloc, &[], value)?;
+    put(valued.as_slice(), &mut forms)?;
     put(defaulted.as_slice(), &mut forms)?;
     put(expanded.as_slice(), &mut forms)?;
     put(called.as_slice(), &mut forms)?;

@@ -3,10 +3,11 @@ ghost use Rattle.std.specs.Prelude.{◌≡◌, IfOk};
 ghost use Rattle.check_moving.specs.Kept;
 ghost use Rattle.check_moving.specs.Variables.{assigned, is_idle, has_zero, delivers_otherwise, logs_otherwise};
 ghost use Rattle.check_moving.specs.Variables.{is_program};
-ghost use Rattle.check_moving.specs.Variables.{is_mailbox, names_program, locks, is_open};
+ghost use Rattle.check_moving.specs.Variables.{is_mailbox, names_program, locks, is_open, gives_set, valued};
 
-use crate::form::{Form, VariableForm};
+use crate::form::{Form, SearchForm, VariableForm};
 use crate::kept::kept;
+use crate::ranges::has_set;
 use crate::text::{has_part, is, unquoted};
 use pm_bytes::Memory;
 use std::alloc::Global;
@@ -39,6 +40,14 @@ pub fn assigned_forms(alloc: Global, name: &[u8], value: &[u8]) -> Result<Vec<Fo
         (locks(name, value), Form::Variable(VariableForm::LockFile)),
         (is_open(value), Form::Variable(VariableForm::OpenBrace)),
     ];
+    kept(alloc, &reasons)
+}
+
+/// The form of a value that can be an expression.
+pub fn value_forms(alloc: Global, name: &[u8], value: &[u8]) -> Result<Vec<Form>, Memory>
+    ensures { IfOk result (λ forms. forms.items ≡ Kept.kept (valued name.now value.now)) }
+{
+    let reasons = [(gives_set(name, value), Form::Search(SearchForm::Range))];
     kept(alloc, &reasons)
 }
 
@@ -102,4 +111,11 @@ fn is_open(value: &[u8]) -> bool
     ensures { result ≡ is_open value.now }
 {
     has_part(b"${", value) && !has_part(b"}", value)
+}
+
+// The text of LOG and what programs write are no expressions, mostly.
+fn gives_set(name: &[u8], value: &[u8]) -> bool
+    ensures { result ≡ gives_set name.now value.now }
+{
+    !is(name, b"LOG") && !has_part(b"`", value) && has_set(value)
 }

@@ -14,6 +14,9 @@ returns-clause-variables c = record {
   lock = refl;
   no_lock = refl;
   unclosed = refl;
+  range = refl;
+  text = refl;
+  output = refl;
 }
 
 pub returns-clause-expanded : goal.returns-clause-expanded
@@ -22,6 +25,8 @@ returns-clause-expanded c = record {
   single = refl;
   underscore = refl;
   digit = refl;
+  dollar = refl;
+  length = refl;
   percent = refl;
   default = refl;
   command = refl;
@@ -50,6 +55,16 @@ returns-clause-conditions c = record {
   in_a_set = refl;
   empty = refl;
   lines = refl;
+  down = refl;
+  negated = refl;
+  once_more = refl;
+  up = refl;
+  one_byte = refl;
+  last = refl;
+  bracket = refl;
+  escaped = refl;
+  unclosed = refl;
+  by_variable = refl;
   program = refl;
 }
 
