@@ -1,8 +1,8 @@
 //! Values with a blank within `${` that are brought over.
 ghost use Rattle.std.specs.Prelude.{◌≡◌, ◌++◌, OnOk};
-ghost use Rattle.check_fix.specs.Braces.{is_skipped as skipped, from_close, in_quotes as quoted_text};
-ghost use Rattle.check_fix.specs.Braces.{ends_word as word_ends, is_quoted as quoted, opens_brace as brace_opens};
-ghost use Rattle.check_fix.specs.Braces.{close_edits, rest_edits, requoted, is_cut as cut, brace_edits};
+ghost use Rattle.check_fix.specs.Braces;
+ghost use Rattle.check_fix.specs.Braces.{from_close};
+ghost use Rattle.check_fix.specs.Braces.{close_edits, rest_edits, requoted, brace_edits};
 
 use crate::edits::{Edit, put};
 use crate::parts::{before, from_part, has_part, past};
@@ -13,7 +13,7 @@ use std::alloc::Global;
 
 /// Whether a span of this kind is a line that isn't understood.
 pub fn is_skipped(kind: Kind) -> bool
-    ensures { result ≡ skipped kind }
+    ensures { result ≡ Braces.is_skipped kind }
 {
     match kind {
         Kind::Skipped => true,
@@ -28,13 +28,13 @@ fn from_close(rest: &[u8]) -> &[u8]
 }
 
 fn in_quotes(rest: &[u8]) -> &[u8]
-    ensures { result.now ≡ quoted_text rest.now }
+    ensures { result.now ≡ Braces.in_quotes rest.now }
 {
     before(past(1, rest), from_close(rest))
 }
 
 fn ends_word(text: &[u8]) -> bool
-    ensures { result ≡ word_ends text.now }
+    ensures { result ≡ Braces.ends_word text.now }
 {
     match text {
         [] => true,
@@ -43,7 +43,7 @@ fn ends_word(text: &[u8]) -> bool
 }
 
 fn is_quoted(rest: &[u8]) -> bool
-    ensures { result ≡ quoted rest.now }
+    ensures { result ≡ Braces.is_quoted rest.now }
 {
     rest.starts_with(b"\"")
         && from_close(rest).starts_with(b"\"}")
@@ -52,13 +52,13 @@ fn is_quoted(rest: &[u8]) -> bool
 }
 
 fn opens_brace(value: &[u8]) -> bool
-    ensures { result ≡ brace_opens value.now }
+    ensures { result ≡ Braces.opens_brace value.now }
 {
     value.starts_with(b"${") && !has_part(b"\"", value) && !has_part(b"'", value)
 }
 
 fn is_cut(value: &[u8], gap: &Span<'_>, rest: &Span<'_>) -> bool
-    ensures { result ≡ cut value.now gap.now rest.now }
+    ensures { result ≡ Braces.is_cut value.now gap.now rest.now }
 {
     opens_brace(value)
         && is_gap(gap.kind)

@@ -1,15 +1,15 @@
 //! Calls of formail that are brought over.
 ghost use Rattle.std.specs.Prelude.{◌≡◌, ◌++◌, ◌<◌, IfOk, IfSome, OnOk, length, not, position};
-ghost use Rattle.check_fix.specs.Calls.{whole_call as call_at, call_edits, header_edits, body_edits, empty_edits};
-ghost use Rattle.check_fix.specs.Calls.{is_reply_letter as reply_letter, behind_reply, begins_field as field_at};
-ghost use Rattle.check_fix.specs.Calls.{same_word as in_word, next_word as in_next, reply_of as reply_in, replied_by};
+ghost use Rattle.check_fix.specs.Calls;
+ghost use Rattle.check_fix.specs.Calls.{call_edits, header_edits, body_edits, empty_edits};
+ghost use Rattle.check_fix.specs.Calls.{behind_reply};
+ghost use Rattle.check_fix.specs.Calls.{replied_by};
 ghost use Rattle.check_fix.specs.Calls.{reply_edits};
-ghost use Rattle.check_fix.specs.Calls.{from_break as broken, renaming as renaming_of, is_renaming as renames};
 ghost use Rattle.check_fix.specs.Calls.{reply_start};
 ghost use Rattle.check_fix.specs.Calls.{split_edits, rename_edits};
-ghost use Rattle.check_moving.specs.Text.{has_part as part_in};
-ghost use Rattle.check_moving.specs.Words.{is_break_byte as breaks};
-ghost use Rattle.check_fix.specs.Calls.{option_at, removed_edits, cache_length as cache_number, length_edits};
+ghost use Rattle.check_moving.specs.Text;
+ghost use Rattle.check_moving.specs.Words;
+ghost use Rattle.check_fix.specs.Calls.{option_at, removed_edits, length_edits};
 ghost use Rattle.check_fix.specs.Calls.{appended_edits, trust_edits};
 ghost use Rattle.check_fix.specs.Edits.{edit_at};
 ghost use Rattle.std.specs.Prelude.{codes};
@@ -24,7 +24,7 @@ use pm_recipe::Span;
 use std::alloc::Global;
 
 fn whole_call<'a>(part: &[u8], text: &'a [u8]) -> &'a [u8]
-    ensures { result.now ≡ call_at part.now text.now }
+    ensures { result.now ≡ Calls.whole_call part.now text.now }
 {
     let call = from_part(part, text);
     if ends_command(past_blanks(past(part.len(), call))) {
@@ -106,13 +106,13 @@ pub fn put_empty(alloc: Global, span: &Span<'_>, edits: &mut Vec<Edit>) -> Resul
 }
 
 fn is_reply_letter(byte: u8) -> bool
-    ensures { result ≡ reply_letter byte }
+    ensures { result ≡ Calls.is_reply_letter byte }
 {
     byte == b'r' || byte == b't'
 }
 
 fn reply_end(text: &[u8]) -> Option<usize>
-    ensures place { result ≡ position (λ byte. not (reply_letter byte)) text.now }
+    ensures place { result ≡ position (λ byte. not (Calls.is_reply_letter byte)) text.now }
     ensures within { IfSome result (λ end. end < length text.now) }
 {
     text.iter().position(|byte| !is_reply_letter(*byte))
@@ -128,19 +128,19 @@ fn past_reply(text: &[u8]) -> &[u8]
 }
 
 fn begins_field(text: &[u8]) -> bool
-    ensures { result ≡ field_at text.now }
+    ensures { result ≡ Calls.begins_field text.now }
 {
     text.starts_with(b"z") || text.starts_with(b"x") || text.starts_with(b"X")
 }
 
 fn same_word(text: &[u8]) -> &[u8]
-    ensures { result.now ≡ in_word text.now }
+    ensures { result.now ≡ Calls.same_word text.now }
 {
     if begins_field(text) { text } else { &[] }
 }
 
 fn next_word(text: &[u8]) -> &[u8]
-    ensures { result.now ≡ in_next text.now }
+    ensures { result.now ≡ Calls.next_word text.now }
 {
     let word = past_blanks(text);
     if text.starts_with(b" ") && word.starts_with(b"-") && begins_field(past(1, word)) {
@@ -176,14 +176,14 @@ fn put_split(
 }
 
 fn break_place(text: &[u8]) -> Option<usize>
-    ensures place { result ≡ position (λ byte. breaks byte) text.now }
+    ensures place { result ≡ position (λ byte. Words.is_break_byte byte) text.now }
     ensures within { IfSome result (λ end. end < length text.now) }
 {
     text.iter().position(|byte| is_break_byte(*byte))
 }
 
 fn from_break(text: &[u8]) -> &[u8]
-    ensures { result.now ≡ broken text.now }
+    ensures { result.now ≡ Calls.from_break text.now }
 {
     match break_place(text) {
         None => &[],
@@ -192,13 +192,13 @@ fn from_break(text: &[u8]) -> &[u8]
 }
 
 fn renaming(text: &[u8]) -> &[u8]
-    ensures { result.now ≡ renaming_of text.now }
+    ensures { result.now ≡ Calls.renaming text.now }
 {
     before(text, from_break(text))
 }
 
 fn is_renaming(text: &[u8]) -> bool
-    ensures { result ≡ renames text.now }
+    ensures { result ≡ Calls.is_renaming text.now }
 {
     text.starts_with(b" -R ") && !has_part(b" -", past(3, renaming(text)))
 }
@@ -231,14 +231,14 @@ fn put_renamed(
 
 // What follows the letters of the reply that a call begins.
 fn reply_of<'a>(alloc: Global, program: &[u8], text: &'a [u8]) -> Result<&'a [u8], Memory>
-    ensures { IfOk result (λ rest. rest.now ≡ reply_in program.now text.now) }
+    ensures { IfOk result (λ rest. rest.now ≡ Calls.reply_of program.now text.now) }
 {
     let call = joined(alloc, program, b" -r")?;
     Ok(past_reply(past(program.len() + 3, from_part(call.as_slice(), text))))
 }
 
 fn has_path(alloc: Global, program: &[u8], text: &[u8]) -> Result<bool, Memory>
-    ensures { IfOk result (λ has. has ≡ part_in (codes "/" ++ program.now) text.now) }
+    ensures { IfOk result (λ has. has ≡ Text.has_part (codes "/" ++ program.now) text.now) }
 {
     let path = joined(alloc, b"/", program)?;
     Ok(has_part(path.as_slice(), text))
@@ -296,7 +296,7 @@ pub fn put_removed(alloc: Global, span: &Span<'_>, edits: &mut Vec<Edit>) -> Res
 }
 
 fn cache_length(text: &[u8]) -> &[u8]
-    ensures { result.now ≡ cache_number text.now }
+    ensures { result.now ≡ Calls.cache_length text.now }
 {
     past_blanks(past(3, from_part(b" -D", text)))
 }

@@ -3,7 +3,8 @@ ghost use Rattle.std.specs.Prelude.{◌≡◌, ◌≤◌, ◌+◌, ◌-◌, ◌+
 ghost use Rattle.std.specs.Prelude.{length, take, drop};
 ghost use Rattle.pm_recipe.specs.Refusal.{IsRefusal, most_length};
 ghost use Rattle.check_moving.specs.Found.{AreForms};
-ghost use Rattle.check_fix.specs.Changes.{fits as fitting, chosen, AreApart, AreChanges, rewritten};
+ghost use Rattle.check_fix.specs.Changes;
+ghost use Rattle.check_fix.specs.Changes.{chosen, AreApart, AreChanges, rewritten};
 
 use crate::edits::Edit;
 use crate::spans::edits_of;
@@ -46,7 +47,8 @@ pub fn look(alloc: Global, text: &[u8]) -> Result<Found, RcRefused>
 
 // The place of an edit in the text, if it fits.
 fn place_of(place: usize, size: usize, edit: &Edit) -> Option<usize>
-    ensures place { result ≡ (if fitting place size edit.now then Some (edit.now.first + edit.now.place) else None) }
+    ensures place { result
+        ≡ (if Changes.fits place size edit.now then Some (edit.now.first + edit.now.place) else None) }
     ensures within { IfSome result (λ first. first + edit.now.count ≤ size) }
 {
     if edit.first > size || edit.place > size - edit.first {

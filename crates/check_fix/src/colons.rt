@@ -1,9 +1,10 @@
 //! Colon lines that are brought over.
 ghost use Rattle.std.specs.Prelude.{◌≡◌, ◌++◌, ◌≤◌, OnOk, length};
 ghost use Rattle.pm_recipe.specs.Colon.{lock_of};
-ghost use Rattle.check_fix.specs.Colons.{from_colon, second_colon as second_colon_of, lock_name as lock_name_of};
-ghost use Rattle.check_fix.specs.Colons.{automatic_edits, own_lock_edits, lock_length as lock_length_of};
-ghost use Rattle.check_fix.specs.Colons.{cache_lock_edits, lacks_wait as waits_not, is_pipe as pipe, wait_edits};
+ghost use Rattle.check_fix.specs.Colons;
+ghost use Rattle.check_fix.specs.Colons.{from_colon};
+ghost use Rattle.check_fix.specs.Colons.{automatic_edits, own_lock_edits};
+ghost use Rattle.check_fix.specs.Colons.{cache_lock_edits, wait_edits};
 
 use crate::edits::{Edit, put};
 use crate::parts::{from_part, is, past, past_blanks};
@@ -28,13 +29,13 @@ fn colon_in(text: &[u8]) -> &[u8]
 }
 
 fn second_colon(text: &[u8]) -> &[u8]
-    ensures { result.now ≡ second_colon_of text.now }
+    ensures { result.now ≡ Colons.second_colon text.now }
 {
     colon_in(past(1, text))
 }
 
 fn lock_name(text: &[u8]) -> &[u8]
-    ensures { result.now ≡ lock_name_of text.now }
+    ensures { result.now ≡ Colons.lock_name text.now }
 {
     past_blanks(past(1, second_colon(text)))
 }
@@ -59,7 +60,7 @@ pub fn put_own_lock(alloc: Global, span: &Span<'_>, edits: &mut Vec<Edit>) -> Re
 }
 
 fn lock_length(text: &[u8], lock: &[u8]) -> usize
-    ensures { result ≡ lock_length_of text.now lock.now }
+    ensures { result ≡ Colons.lock_length text.now lock.now }
 {
     let lead = second_colon(text)
         .len()
@@ -86,13 +87,13 @@ pub fn put_cache_lock(alloc: Global, span: &Span<'_>, edits: &mut Vec<Edit>) -> 
 }
 
 fn lacks_wait(flags: Flags) -> bool
-    ensures { result ≡ waits_not flags }
+    ensures { result ≡ Colons.lacks_wait flags }
 {
     flags.filter && !flags.wait && !flags.wait_quiet
 }
 
 fn is_pipe(kind: Kind) -> bool
-    ensures { result ≡ pipe kind }
+    ensures { result ≡ Colons.is_pipe kind }
 {
     match kind {
         Kind::Pipe => true,

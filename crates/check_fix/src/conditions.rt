@@ -2,16 +2,16 @@
 ghost use Rattle.std.specs.Prelude.{◌≡◌, ◌++◌, IfOk, OnOk, codes, drop, false, length};
 ghost use Rattle.std.specs.List.{list_all};
 ghost use Rattle.pm_recipe.specs.Weights.{condition_of};
-ghost use Rattle.check_moving.specs.Conditions.{behind_sign, is_size as size};
-ghost use Rattle.check_fix.specs.Conditions.{behind_star, is_bad as bad, is_great as great, great_number as great_at};
-ghost use Rattle.check_fix.specs.Conditions.{great_edits, behind_bang, is_variable_size as variable_size, size_edits};
-ghost use Rattle.check_fix.specs.Conditions.{begins_weight as weight_begins, ends_lead as lead_ends};
-ghost use Rattle.check_fix.specs.Conditions.{is_lead_byte as lead_byte, weight_from, late_weight as late_weight_of};
-ghost use Rattle.check_fix.specs.Conditions.{word_of, is_weight_byte as weight_byte, is_whole as whole};
-ghost use Rattle.check_fix.specs.Conditions.{blank_before as blank_first, weight_first as weight_at_front};
+ghost use Rattle.check_moving.specs.Conditions.{behind_sign, is_size};
+ghost use Rattle.check_fix.specs.Conditions;
+ghost use Rattle.check_fix.specs.Conditions.{behind_star};
+ghost use Rattle.check_fix.specs.Conditions.{great_edits, behind_bang, size_edits};
+ghost use Rattle.check_fix.specs.Conditions.{weight_from};
+ghost use Rattle.check_fix.specs.Conditions.{word_of};
 ghost use Rattle.check_fix.specs.Edits.{edit_at};
-ghost use Rattle.check_fix.specs.Parts.{before as number_before, behind_digits};
-ghost use Rattle.check_fix.specs.Conditions.{late_length as late_count, late_edits, greatest_at, supreme_edits};
+ghost use Rattle.check_fix.specs.Parts;
+ghost use Rattle.check_fix.specs.Parts.{behind_digits};
+ghost use Rattle.check_fix.specs.Conditions.{late_edits, greatest_at, supreme_edits};
 
 use crate::edits::{Edit, put};
 use crate::parts::{
@@ -31,7 +31,7 @@ pub fn past_star(text: &[u8]) -> &[u8]
 }
 
 fn is_bad(weight: Weight) -> bool
-    ensures { result ≡ bad weight }
+    ensures { result ≡ Conditions.is_bad weight }
 {
     match weight {
         Weight::Bad => true,
@@ -50,20 +50,20 @@ fn past_sign(text: &[u8]) -> &[u8]
 }
 
 fn is_great(text: &[u8]) -> bool
-    ensures { result ≡ great text.now }
+    ensures { result ≡ Conditions.is_great text.now }
 {
     is_above(2_147_483_647, text) && past_digits(text).starts_with(b"^")
 }
 
 fn great_number(text: &[u8]) -> &[u8]
-    ensures { result.now ≡ great_at text.now }
+    ensures { result.now ≡ Conditions.great_number text.now }
 {
     let number = past_sign(past_star(text));
     if is_great(number) { number } else { &[] }
 }
 
 fn has_bad_weight(alloc: Global, text: &[u8]) -> Result<bool, Memory>
-    ensures { IfOk result (λ is. is ≡ bad (condition_of (drop 1 text.now)).weight) }
+    ensures { IfOk result (λ is. is ≡ Conditions.is_bad (condition_of (drop 1 text.now)).weight) }
 {
     let condition = read_condition(alloc, past(1, text))?;
     Ok(is_bad(condition.weight))
@@ -77,7 +77,7 @@ fn put_number(
     edits: &mut Vec<Edit>,
 ) -> Result<(), Memory>
     ensures { OnOk result (edits.new.items ≡ edits.old.items ++ edit_at span.now.first span.now.bytes.now number.now
-        (length (number_before number.now (behind_digits number.now))) (codes "2147483647")) }
+        (length (Parts.before number.now (behind_digits number.now))) (codes "2147483647")) }
 {
     let count = before(number, past_digits(number)).len();
     put(alloc, span, number, count, b"2147483647", edits)
@@ -105,13 +105,13 @@ fn past_bang(text: &[u8]) -> &[u8]
 }
 
 fn is_size(text: &[u8]) -> bool
-    ensures { result ≡ size text.now }
+    ensures { result ≡ is_size text.now }
 {
     text.starts_with(b"<") || text.starts_with(b">")
 }
 
 fn is_variable_size(text: &[u8]) -> bool
-    ensures { result ≡ variable_size text.now }
+    ensures { result ≡ Conditions.is_variable_size text.now }
 {
     is_size(text) && past_blanks(past(1, text)).starts_with(b"$")
 }
@@ -128,20 +128,20 @@ pub fn put_size(alloc: Global, span: &Span<'_>, edits: &mut Vec<Edit>) -> Result
 }
 
 fn begins_weight(byte: u8) -> bool
-    ensures { result ≡ weight_begins byte }
+    ensures { result ≡ Conditions.begins_weight byte }
 {
     is_digit(byte) || byte == PLUS || byte == MINUS
 }
 
 fn ends_lead(byte: u8) -> bool
-    ensures { result ≡ lead_ends byte }
+    ensures { result ≡ Conditions.ends_lead byte }
 {
     byte == DOLLAR || byte == BANG || byte == QUESTION
 }
 
 /// Whether it is a byte of what stands before an expression.
 pub fn is_lead_byte(byte: u8) -> bool
-    ensures { result ≡ lead_byte byte }
+    ensures { result ≡ Conditions.is_lead_byte byte }
 {
     continues_name(byte) || ends_lead(byte)
 }
@@ -169,7 +169,7 @@ fn weight_in(text: &[u8]) -> &[u8]
 }
 
 fn late_weight(text: &[u8]) -> &[u8]
-    ensures { result.now ≡ late_weight_of text.now }
+    ensures { result.now ≡ Conditions.late_weight text.now }
 {
     weight_in(past_star(text))
 }
@@ -182,25 +182,25 @@ fn first_word(text: &[u8]) -> &[u8]
 
 /// Whether it is a byte of a weight of whole numbers.
 pub fn is_weight_byte(byte: u8) -> bool
-    ensures { result ≡ weight_byte byte }
+    ensures { result ≡ Conditions.is_weight_byte byte }
 {
     begins_weight(byte) || byte == CARET
 }
 
 fn has_weight_bytes(word: &[u8]) -> bool
-    ensures { result ≡ list_all weight_byte word.now }
+    ensures { result ≡ list_all Conditions.is_weight_byte word.now }
 {
     word.iter().all(|byte| is_weight_byte(*byte))
 }
 
 fn is_whole(word: &[u8]) -> bool
-    ensures { result ≡ whole word.now }
+    ensures { result ≡ Conditions.is_whole word.now }
 {
     has_part(b"^", word) && has_weight_bytes(word)
 }
 
 fn blank_before(text: &[u8]) -> &[u8]
-    ensures { result.now ≡ blank_first text.now }
+    ensures { result.now ≡ Conditions.blank_before text.now }
 {
     if past(1, text).starts_with(b" ") {
         &[]
@@ -210,7 +210,7 @@ fn blank_before(text: &[u8]) -> &[u8]
 }
 
 fn weight_first(alloc: Global, text: &[u8]) -> Result<Blob, Memory>
-    ensures { IfOk result (λ first. first ≡ weight_at_front text.now) }
+    ensures { IfOk result (λ first. first ≡ Conditions.weight_first text.now) }
 {
     let weight = late_weight(text);
     let mut first = Blob::from_slice(alloc, blank_before(text))?;
@@ -221,7 +221,7 @@ fn weight_first(alloc: Global, text: &[u8]) -> Result<Blob, Memory>
 }
 
 fn late_length(text: &[u8]) -> usize
-    ensures { result ≡ late_count text.now }
+    ensures { result ≡ Conditions.late_length text.now }
 {
     let after = past_blanks(from_blank(late_weight(text)));
     past_star(text).len().saturating_sub(after.len())

@@ -1,8 +1,7 @@
 //! Counts of conditions that are brought over.
 ghost use Rattle.std.specs.Prelude.{◌≡◌, ◌++◌, ◌≤◌, OnOk};
-ghost use Rattle.check_fix.specs.Counts.{digit as digit_of, one_digit as one_digit_of, counted as counted_by};
-ghost use Rattle.check_fix.specs.Counts.{is_bare as bare, is_condition as condition, follow as conditions_follow};
-ghost use Rattle.check_fix.specs.Counts.{star_edits, count_length as length_of_count, numbered_edits, count_edits};
+ghost use Rattle.check_fix.specs.Counts;
+ghost use Rattle.check_fix.specs.Counts.{star_edits, numbered_edits, count_edits};
 
 use crate::braces::is_skipped;
 use crate::edits::{Edit, put};
@@ -13,7 +12,7 @@ use pm_recipe::Span;
 use std::alloc::Global;
 
 fn digit(byte: u8) -> usize
-    ensures { result ≡ digit_of byte }
+    ensures { result ≡ Counts.digit byte }
 {
     if 49 <= byte && byte <= 57 {
         (byte - 48) as usize
@@ -23,7 +22,7 @@ fn digit(byte: u8) -> usize
 }
 
 fn one_digit(text: &[u8]) -> usize
-    ensures { result ≡ one_digit_of text.now }
+    ensures { result ≡ Counts.one_digit text.now }
 {
     match text {
         [] => 0,
@@ -39,7 +38,7 @@ fn one_digit(text: &[u8]) -> usize
 }
 
 fn counted(text: &[u8]) -> usize
-    ensures { result ≡ counted_by text.now }
+    ensures { result ≡ Counts.counted text.now }
 {
     if is(text, b":") {
         1
@@ -51,19 +50,19 @@ fn counted(text: &[u8]) -> usize
 }
 
 fn is_bare(text: &[u8]) -> bool
-    ensures { result ≡ bare text.now }
+    ensures { result ≡ Counts.is_bare text.now }
 {
     !text.starts_with(b":") && !text.starts_with(b"*")
 }
 
 fn is_condition(span: &Span<'_>) -> bool
-    ensures { result ≡ condition span.now }
+    ensures { result ≡ Counts.is_condition span.now }
 {
     is_skipped(span.kind) && is_bare(span.bytes)
 }
 
 fn follow(count: usize, spans: &[Span<'_>]) -> bool
-    ensures { result ≡ conditions_follow count spans.now }
+    ensures { result ≡ Counts.follow count spans.now }
 {
     let mut left = count;
     for span in spans {
@@ -102,7 +101,7 @@ fn put_stars(
 }
 
 fn count_length(text: &[u8]) -> usize
-    ensures { result ≡ length_of_count text.now }
+    ensures { result ≡ Counts.count_length text.now }
 {
     if is(text, b":") { 1 } else { 2 }
 }

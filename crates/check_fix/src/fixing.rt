@@ -2,7 +2,7 @@
 ghost use Rattle.std.specs.Prelude.{◌≡◌, ◌≤◌, IfOk, IfErr, OnOk, length, false};
 ghost use Rattle.std.specs.List.{list_any};
 ghost use Rattle.pm_recipe.specs.Refusal.{most_length};
-ghost use Rattle.check_fix.specs.Fixes.{has_moving as moving_in, has_changes as changes_in, outcome_of as outcome};
+ghost use Rattle.check_fix.specs.Fixes;
 ghost use Rattle.check_fix.specs.Fixes.{IsFix, IsRefused};
 
 use crate::changes::{Change, Found, look, rewrite};
@@ -55,7 +55,7 @@ impl From<Memory> for FixRefused {
 /// Brings over what can be without asking. Only want of memory is free.
 pub fn bring_over(alloc: Global, text: &[u8]) -> Result<Fix, FixRefused>
     ensures fix { IfOk result (λ fix. IsFix text.now fix) }
-    ensures fixed { IfOk result (λ fix. fix.outcome ≡ Outcome.Fixed → moving_in fix.left.items ≡ false) }
+    ensures fixed { IfOk result (λ fix. fix.outcome ≡ Outcome.Fixed → Fixes.has_moving fix.left.items ≡ false) }
     ensures fits { OnOk result (length text.now ≤ most_length) }
     ensures refused { IfErr result (λ refused. IsRefused text.now refused) }
 {
@@ -80,13 +80,13 @@ pub fn bring_over(alloc: Global, text: &[u8]) -> Result<Fix, FixRefused>
 }
 
 fn has_moving(findings: &[Finding]) -> bool
-    ensures { result ≡ moving_in findings.now }
+    ensures { result ≡ Fixes.has_moving findings.now }
 {
     findings.iter().any(|finding| moves(finding.form))
 }
 
 fn has_changes(changes: &[Change]) -> bool
-    ensures { result ≡ changes_in changes.now }
+    ensures { result ≡ Fixes.has_changes changes.now }
 {
     match changes {
         [] => false,
@@ -95,7 +95,7 @@ fn has_changes(changes: &[Change]) -> bool
 }
 
 fn outcome_of(changes: &[Change], findings: &[Finding]) -> Outcome
-    ensures { result ≡ outcome changes.now findings.now }
+    ensures { result ≡ Fixes.outcome_of changes.now findings.now }
 {
     if has_changes(changes) || has_moving(findings) {
         Outcome::Left

@@ -1,8 +1,7 @@
 //! The lock of a cache by LOCKFILE that is brought over.
 ghost use Rattle.std.specs.Prelude.{◌≡◌, ◌++◌, ◌||◌, IfOk, OnOk, nat_eq};
-ghost use Rattle.check_fix.specs.Locks.{without_end, cache_of as cache_in, without_braces as braceless};
-ghost use Rattle.check_fix.specs.Locks.{calls_cache as cache_called, uses_cache as cache_used};
-ghost use Rattle.check_fix.specs.Locks.{cache_follows as follows, locks_cache as locks};
+ghost use Rattle.check_fix.specs.Locks;
+ghost use Rattle.check_fix.specs.Locks.{without_end};
 ghost use Rattle.check_fix.specs.Locks.{held_edits};
 
 use crate::edits::{Edit, put};
@@ -18,7 +17,7 @@ fn without_end(count: usize, text: &[u8]) -> &[u8]
 }
 
 fn cache_of(name: &[u8]) -> &[u8]
-    ensures { result.now ≡ cache_in name.now }
+    ensures { result.now ≡ Locks.cache_of name.now }
 {
     if name.ends_with(b".lock") {
         without_end(5, name)
@@ -38,7 +37,7 @@ fn is_brace(byte: u8) -> bool
 }
 
 fn without_braces(alloc: Global, text: &[u8]) -> Result<Vec<u8>, Memory>
-    ensures { IfOk result (λ plain. plain.items ≡ braceless text.now) }
+    ensures { IfOk result (λ plain. plain.items ≡ Locks.without_braces text.now) }
 {
     let mut plain = Vec::new(alloc);
     let mut rest = text;
@@ -52,7 +51,7 @@ fn without_braces(alloc: Global, text: &[u8]) -> Result<Vec<u8>, Memory>
 }
 
 fn calls_cache(text: &[u8]) -> bool
-    ensures { result ≡ cache_called text.now }
+    ensures { result ≡ Locks.calls_cache text.now }
 {
     has_part(b"formail -D", text)
         || has_part(b"FORMAIL -D", text)
@@ -61,20 +60,20 @@ fn calls_cache(text: &[u8]) -> bool
 }
 
 fn uses_cache(cache: &[u8], text: &[u8]) -> bool
-    ensures { result ≡ cache_used cache.now text.now }
+    ensures { result ≡ Locks.uses_cache cache.now text.now }
 {
     calls_cache(text) && has_part(cache, text)
 }
 
 fn span_uses(alloc: Global, cache: &[u8], span: &Span<'_>) -> Result<bool, Memory>
-    ensures { IfOk result (λ uses. uses ≡ cache_used cache.now (braceless span.now.bytes.now)) }
+    ensures { IfOk result (λ uses. uses ≡ Locks.uses_cache cache.now (Locks.without_braces span.now.bytes.now)) }
 {
     let plain = without_braces(alloc, span.bytes)?;
     Ok(uses_cache(cache, plain.as_slice()))
 }
 
 fn cache_follows(alloc: Global, cache: &[u8], spans: &[Span<'_>]) -> Result<bool, Memory>
-    ensures { IfOk result (λ uses. uses ≡ follows cache.now spans.now) }
+    ensures { IfOk result (λ uses. uses ≡ Locks.cache_follows cache.now spans.now) }
 {
     for span in spans {
         if is(span.name, b"LOCKFILE") {
@@ -88,7 +87,7 @@ fn cache_follows(alloc: Global, cache: &[u8], spans: &[Span<'_>]) -> Result<bool
 }
 
 fn locks_cache(alloc: Global, cache: &[u8], spans: &[Span<'_>]) -> Result<bool, Memory>
-    ensures { IfOk result (λ is. is ≡ locks cache.now spans.now) }
+    ensures { IfOk result (λ is. is ≡ Locks.locks_cache cache.now spans.now) }
 {
     if is(cache, b"") {
         Ok(false)

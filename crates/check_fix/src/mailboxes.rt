@@ -2,8 +2,9 @@
 ghost use Rattle.std.specs.Prelude.{◌≡◌, ◌++◌, OnOk};
 ghost use Rattle.std.specs.List.{list_any};
 ghost use Rattle.pm_bytes.specs.Letter.{is_blank_byte};
-ghost use Rattle.check_fix.specs.Mailboxes.{is_special as special, is_simple as simple, several_edits, hash_edits};
-ghost use Rattle.check_fix.specs.Mailboxes.{is_word as one_word, match_edits};
+ghost use Rattle.check_fix.specs.Mailboxes;
+ghost use Rattle.check_fix.specs.Mailboxes.{several_edits, hash_edits};
+ghost use Rattle.check_fix.specs.Mailboxes.{match_edits};
 
 use crate::edits::{Edit, put};
 use crate::parts::{from_blank, from_part};
@@ -12,7 +13,7 @@ use pm_recipe::Span;
 use std::alloc::Global;
 
 fn is_special(byte: u8) -> bool
-    ensures { result ≡ special byte }
+    ensures { result ≡ Mailboxes.is_special byte }
 {
     byte == DOUBLE_QUOTE
         || byte == SINGLE_QUOTE
@@ -22,13 +23,13 @@ fn is_special(byte: u8) -> bool
 }
 
 fn has_special(text: &[u8]) -> bool
-    ensures { result ≡ list_any special text.now }
+    ensures { result ≡ list_any Mailboxes.is_special text.now }
 {
     text.iter().any(|byte| is_special(*byte))
 }
 
 fn is_simple(text: &[u8]) -> bool
-    ensures { result ≡ simple text.now }
+    ensures { result ≡ Mailboxes.is_simple text.now }
 {
     !has_special(text)
 }
@@ -59,7 +60,7 @@ fn has_blank(text: &[u8]) -> bool
 }
 
 fn is_word(text: &[u8]) -> bool
-    ensures { result ≡ one_word text.now }
+    ensures { result ≡ Mailboxes.is_word text.now }
 {
     is_simple(text) && !has_blank(text)
 }

@@ -5,7 +5,8 @@ ghost use Rattle.check_fix.specs.Moved.{variable_edits, condition_edits, search_
 ghost use Rattle.check_fix.specs.Moved.{field_edits, form_edits, block_edits, mailbox_lock_edits, program_lock_edits};
 ghost use Rattle.check_fix.specs.Moved.{lock_edits, all_form_edits, all_lock_edits};
 ghost use Rattle.check_fix.specs.Moved.{moves_variable, moves_recipe, moves_condition, moves_search, moves_mailbox};
-ghost use Rattle.check_fix.specs.Moved.{moves_program, moves_field, moves as moves_form};
+ghost use Rattle.check_fix.specs.Moved;
+ghost use Rattle.check_fix.specs.Moved.{moves_program, moves_field};
 
 use crate::braces::put_brace;
 use crate::calls::{put_appended, put_empty, put_length, put_removed, put_reply, put_trust};
@@ -234,7 +235,7 @@ pub fn put_locks(
 
 /// Whether forms of this kind are brought over.
 pub fn moves(form: Form) -> bool
-    ensures { result ≡ moves_form form }
+    ensures { result ≡ Moved.moves form }
 {
     match form {
         Form::Variable(form) => moves_variable(form),

@@ -5,7 +5,7 @@ ghost use Rattle.pm_bytes.specs.Letter.{is_blank_byte, is_digit_byte};
 ghost use Rattle.check_moving.specs.Text.{behind_blanks, has_part, without_quotes};
 ghost use Rattle.check_moving.specs.Words.{is_break_byte};
 ghost use Rattle.check_fix.specs.Parts.{from_part, behind_digits, from_blank, before, exceeds};
-ghost use Rattle.check_fix.specs.Parts.{is_above as above, ends_command as command_ends};
+ghost use Rattle.check_fix.specs.Parts;
 
 use pm_bytes::{BACKQUOTE, BAR, NEWLINE, is_blank, is_digit, read_count};
 
@@ -124,7 +124,7 @@ fn is_over(most: u64, digits: &[u8], number: Option<u64>) -> bool
 
 /// Whether the digits at the front write a number above this one.
 pub fn is_above(most: u64, text: &[u8]) -> bool
-    ensures { result ≡ above most text.now }
+    ensures { result ≡ Parts.is_above most text.now }
 {
     let digits = before(text, past_digits(text));
     is_over(most, digits, read_count(digits))
@@ -132,7 +132,7 @@ pub fn is_above(most: u64, text: &[u8]) -> bool
 
 /// Whether a command ends here.
 pub fn ends_command(text: &[u8]) -> bool
-    ensures { result ≡ command_ends text.now }
+    ensures { result ≡ Parts.ends_command text.now }
 {
     match text {
         [] => true,

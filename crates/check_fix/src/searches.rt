@@ -1,8 +1,9 @@
 //! Expressions that are brought over.
 ghost use Rattle.std.specs.Prelude.{◌≡◌, ◌++◌, ◌<◌, OnOk, IfSome, length, not, position};
-ghost use Rattle.check_fix.specs.Conditions.{is_front_byte as front_byte, behind_front, is_escape as escape};
-ghost use Rattle.check_fix.specs.Conditions.{backslash_edits, is_idle_end as idle_end, end_edits, anchor_edits};
-ghost use Rattle.check_fix.specs.Conditions.{indent_edits, joined_blanks as blanks_joined, continued_edits};
+ghost use Rattle.check_fix.specs.Conditions;
+ghost use Rattle.check_fix.specs.Conditions.{behind_front};
+ghost use Rattle.check_fix.specs.Conditions.{backslash_edits, end_edits, anchor_edits};
+ghost use Rattle.check_fix.specs.Conditions.{indent_edits, continued_edits};
 
 use crate::conditions::{is_lead_byte, is_weight_byte};
 use crate::edits::{Edit, put};
@@ -12,13 +13,13 @@ use pm_recipe::Span;
 use std::alloc::Global;
 
 fn is_front_byte(byte: u8) -> bool
-    ensures { result ≡ front_byte byte }
+    ensures { result ≡ Conditions.is_front_byte byte }
 {
     is_blank(byte) || is_lead_byte(byte) || is_weight_byte(byte) || byte == DOT
 }
 
 fn front_end(text: &[u8]) -> Option<usize>
-    ensures place { result ≡ position (λ byte. not (front_byte byte)) text.now }
+    ensures place { result ≡ position (λ byte. not (Conditions.is_front_byte byte)) text.now }
     ensures within { IfSome result (λ end. end < length text.now) }
 {
     text.iter().position(|byte| !is_front_byte(*byte))
@@ -35,7 +36,7 @@ fn past_front(text: &[u8]) -> &[u8]
 }
 
 fn is_escape(text: &[u8]) -> bool
-    ensures { result ≡ escape text.now }
+    ensures { result ≡ Conditions.is_escape text.now }
 {
     text.starts_with(b"\\") && !text.starts_with(b"\\\n")
 }
@@ -53,7 +54,7 @@ pub fn put_backslash(alloc: Global, span: &Span<'_>, edits: &mut Vec<Edit>) -> R
 }
 
 fn is_idle_end(text: &[u8]) -> bool
-    ensures { result ≡ idle_end text.now }
+    ensures { result ≡ Conditions.is_idle_end text.now }
 {
     text.ends_with(b".*$") || text.ends_with(b".+$")
 }
@@ -92,7 +93,7 @@ fn put_indent(
 }
 
 fn joined_blanks(text: &[u8]) -> &[u8]
-    ensures { result.now ≡ blanks_joined text.now }
+    ensures { result.now ≡ Conditions.joined_blanks text.now }
 {
     if text.starts_with(b"\\\n ") || text.starts_with(b"\\\n\t") {
         past(2, text)

@@ -1,8 +1,7 @@
 //! The edits of an rcfile, span for span.
 ghost use Rattle.std.specs.Prelude.{◌≡◌, ◌++◌, IfOk, OnOk};
-ghost use Rattle.check_fix.specs.Spans.{forms_at as at_place, later_than as after_place, is_between as between};
-ghost use Rattle.check_fix.specs.Spans.{from_action as at_action, colon_edits, kind_edits, span_edits};
-ghost use Rattle.check_fix.specs.Spans.{edits_of as span_by_span};
+ghost use Rattle.check_fix.specs.Spans;
+ghost use Rattle.check_fix.specs.Spans.{colon_edits, kind_edits, span_edits};
 
 use crate::colons::put_wait;
 use crate::conditions::{put_great, put_size};
@@ -15,7 +14,7 @@ use pm_recipe::{Kind, Span};
 use std::alloc::Global;
 
 fn forms_at(alloc: Global, place: usize, findings: &[Finding]) -> Result<Vec<Form>, Memory>
-    ensures { IfOk result (λ forms. forms.items ≡ at_place place findings.now) }
+    ensures { IfOk result (λ forms. forms.items ≡ Spans.forms_at place findings.now) }
 {
     let mut forms = Vec::new(alloc);
     let mut rest = findings;
@@ -32,7 +31,7 @@ fn forms_at(alloc: Global, place: usize, findings: &[Finding]) -> Result<Vec<For
 }
 
 fn later_than(place: usize, findings: &[Finding]) -> &[Finding]
-    ensures { result.now ≡ after_place place findings.now }
+    ensures { result.now ≡ Spans.later_than place findings.now }
 {
     let mut rest = findings;
     while let Some((finding, later)) = rest.split_first() {
@@ -45,7 +44,7 @@ fn later_than(place: usize, findings: &[Finding]) -> &[Finding]
 }
 
 fn is_between(kind: Kind) -> bool
-    ensures { result ≡ between kind }
+    ensures { result ≡ Spans.is_between kind }
 {
     match kind {
         Kind::Gap | Kind::Condition => true,
@@ -54,7 +53,7 @@ fn is_between(kind: Kind) -> bool
 }
 
 fn from_action<'a, 'b>(spans: &'a [Span<'b>]) -> &'a [Span<'b>]
-    ensures { result.now ≡ at_action spans.now }
+    ensures { result.now ≡ Spans.from_action spans.now }
 {
     for i in 0..spans.len() {
         if !is_between(spans[i].kind) {
@@ -124,7 +123,7 @@ pub fn edits_of(
     spans: &[Span<'_>],
     findings: &[Finding],
 ) -> Result<Vec<Edit>, Memory>
-    ensures { IfOk result (λ edits. edits.items ≡ span_by_span spans.now findings.now) }
+    ensures { IfOk result (λ edits. edits.items ≡ Spans.edits_of spans.now findings.now) }
 {
     let mut edits = Vec::new(alloc);
     let mut left = findings;

@@ -1,8 +1,8 @@
 //! Assignments and names alone that are brought over.
 ghost use Rattle.std.specs.Prelude.{◌≡◌, ◌++◌, OnOk};
-ghost use Rattle.check_fix.specs.Values.{is_line_end as line_end, is_blank_gap as blank_gap, is_gap as gap};
-ghost use Rattle.check_fix.specs.Values.{ends_line as line_ends, host_edits, idle_edits};
-ghost use Rattle.check_fix.specs.Values.{is_yes as yes, is_no as no, value_edits, log_edits, delivered_edits};
+ghost use Rattle.check_fix.specs.Values;
+ghost use Rattle.check_fix.specs.Values.{host_edits, idle_edits};
+ghost use Rattle.check_fix.specs.Values.{value_edits, log_edits, delivered_edits};
 
 use crate::edits::{Edit, put};
 use crate::parts::{has_part, is, unquoted};
@@ -11,7 +11,7 @@ use pm_recipe::{Kind, Span};
 use std::alloc::Global;
 
 fn is_line_end(bytes: &[u8]) -> bool
-    ensures { result ≡ line_end bytes.now }
+    ensures { result ≡ Values.is_line_end bytes.now }
 {
     match bytes {
         [] => false,
@@ -21,7 +21,7 @@ fn is_line_end(bytes: &[u8]) -> bool
 
 /// Whether these bytes begin with a blank.
 pub fn is_blank_gap(bytes: &[u8]) -> bool
-    ensures { result ≡ blank_gap bytes.now }
+    ensures { result ≡ Values.is_blank_gap bytes.now }
 {
     match bytes {
         [] => false,
@@ -31,7 +31,7 @@ pub fn is_blank_gap(bytes: &[u8]) -> bool
 
 /// Whether a span of this kind is no statement.
 pub fn is_gap(kind: Kind) -> bool
-    ensures { result ≡ gap kind }
+    ensures { result ≡ Values.is_gap kind }
 {
     match kind {
         Kind::Gap => true,
@@ -40,7 +40,7 @@ pub fn is_gap(kind: Kind) -> bool
 }
 
 fn ends_line(spans: &[Span<'_>]) -> bool
-    ensures { result ≡ line_ends spans.now }
+    ensures { result ≡ Values.ends_line spans.now }
 {
     for span in spans {
         if !is_gap(span.kind) {
@@ -82,13 +82,13 @@ pub fn put_idle(alloc: Global, span: &Span<'_>, edits: &mut Vec<Edit>) -> Result
 }
 
 fn is_yes(value: &[u8]) -> bool
-    ensures { result ≡ yes value.now }
+    ensures { result ≡ Values.is_yes value.now }
 {
     is(value, b"yes") || is(value, b"on") || is(value, b"1")
 }
 
 fn is_no(value: &[u8]) -> bool
-    ensures { result ≡ no value.now }
+    ensures { result ≡ Values.is_no value.now }
 {
     is(value, b"off") || is(value, b"0")
 }
