@@ -84,6 +84,18 @@ a weight over the range: runs
 SUPREME: runs
 SUPREME=9876543210\n:0:\n*$ $SUPREME^0 ^Subject: hi\n* -1^0\nmbox\n
 SUPREME=9876543210\n:0:\n* 2147483647^0 $ ^Subject: hi\n* -1^0\nmbox\n
+a number by a variable: runs
+W=10\n:0:\n*$ $W^0 ^Subject: hi\n* -9^0\nmbox\n
+W=10\n:0:\n* 10^0 $ ^Subject: hi\n* -9^0\nmbox\n
+a number in quotes by a variable in braces: runs
+W="10"\n:0:\n* $ -${W}^0 ^Subject: ho\n* 1^0\nmbox\n
+W="10"\n:0:\n* -10^0 $ ^Subject: ho\n* 1^0\nmbox\n
+a variable with two numbers: stays
+W=10\n:0:\n*$ $W^0 ^Subject: hi\n* -9^0\nmbox\nW=20\n
+W=10\n:0:\n*$ $W^0 ^Subject: hi\n* -9^0\nmbox\nW=20\n
+a number that is given in a block: stays
+:0\n* ^Subject: hi\n{ W=10 }\n:0:\n*$ $W^0 ^Subject: hi\nmbox\n
+:0\n* ^Subject: hi\n{ W=10 }\n:0:\n*$ $W^0 ^Subject: hi\nmbox\n
 a weight after the area: runs
 :0:\n* -1^0\n*  B ??  2^1 body\nmbox\n
 :0:\n* -1^0\n*  2^1 B ??  body\nmbox\n
@@ -191,7 +203,7 @@ while IFS= read -r title; do
     cmp -s there.tree here.tree || fail "$title (left: 3.22 by the old text): $(diff there.tree here.tree)"
     tried=$((tried + 1))
 done < rows
-[ "$count" -eq 42 ] || fail "only $count rows"
+[ "$count" -eq 46 ] || fail "only $count rows"
 [ -n "$old_procmail" ] || echo "$name: no procmail 3.22 here: what it does with the old texts: skipped"
 
 # What can't be brought over stays, and is reported for the new text; the status says whether anything is left.

@@ -1,7 +1,9 @@
 -- What old forms are brought over by, as docs/MOVING.md says.
 use Rattle.std.specs.Prelude.{◌≡◌, ℕ, true, false, List, [], ◌∷◌, length, codes}
 use Rattle.pm_recipe.specs.Colon.{lock_of}
-use Rattle.pm_recipe.specs.declared.fronts.Kind.TheVariants.{Mailbox, Pipe}
+use Rattle.pm_recipe.specs.declared.fronts.Kind.{Kind}
+use Rattle.pm_recipe.specs.declared.fronts.Kind.TheVariants.{Assign, Capture, Mailbox, Open, Pipe, Unset}
+use Rattle.pm_recipe.specs.declared.spans.Span.{Span}
 use Rattle.check_fix.specs.Braces.{is_quoted, opens_brace, close_edits}
 use Rattle.check_fix.specs.Calls.{empty_edits, reply_edits, removed_edits, length_edits, appended_edits, trust_edits}
 use Rattle.check_fix.specs.Changes.{chosen, rewritten}
@@ -9,7 +11,9 @@ use Rattle.check_fix.specs.Colons.{automatic_edits, own_lock_edits, cache_lock_e
 use Rattle.check_fix.specs.Conditions.{great_edits, size_edits, late_edits, supreme_edits, backslash_edits, end_edits, anchor_edits, continued_edits}
 use Rattle.check_fix.specs.Counts.{counted, is_bare, zero_edits}
 use Rattle.check_fix.specs.Locks.{cache_of, without_braces, uses_cache}
+use Rattle.check_fix.specs.Edits.{edit_at}
 use Rattle.check_fix.specs.Mailboxes.{several_edits, hash_edits, match_edits}
+use Rattle.check_fix.specs.Numbers.{from_variable, variable_name, is_number, is_past, is_value_of, keeps_value, value_edits, number_edits}
 use Rattle.check_fix.specs.Values.{host_edits, idle_edits, log_edits, delivered_edits}
 use Rattle.check_fix.specs.declared.edits.Edit.{Edit}
 
@@ -102,6 +106,56 @@ pub record OfConditions : Type 0 where
   pub other_end : line end_edits (codes "* ^X: \\/y$") ≡ codes "* ^X: \\/y$"
   pub anchors : line anchor_edits (codes "* ^X:.*$^Cc:") ≡ codes "* ^X:.*$Cc:"
   pub continued : line continued_edits (codes "*$ ^X:\\\n  y\\\n\t z\\\nu") ≡ codes "*$ ^X:\\\ny\\\nz\\\nu"
+
+-- a weight by the variable of this value
+abbrev pub numbered : List ℕ → List ℕ → List ℕ
+numbered value text = line (λ first text. value_edits first text (from_variable text) value) text
+
+-- a span of this kind and place, with a variable's name and this text
+abbrev pub span_of : Kind → ℕ → List ℕ → List ℕ → Span
+span_of kind first name text = record {
+  kind = kind;
+  line = 1;
+  first = first;
+  name = record { ref_ptr = (0, 0); now = name };
+  text = record { ref_ptr = (0, 0); now = text };
+  bytes = record { ref_ptr = (0, 0); now = text };
+}
+
+-- an assignment to X
+abbrev pub given : ℕ → List ℕ → Span
+given first value = span_of Assign first (codes "X") value
+
+-- the changes of a condition at the place 20 with such a weight
+abbrev pub weighed : List Span → List Edit
+weighed spans = number_edits 20 (codes "* $ $X^0 y") spans
+
+-- numbers of variables
+pub record OfNumbers : Type 0 where
+  pub once : weighed (given 0 (codes "10") ∷ []) ≡ edit_at 20 (codes "* $ $X^0 y") (codes "$X^0 y") 2 (codes "10")
+  pub again : weighed (given 0 (codes "10") ∷ given 40 (codes "10") ∷ []) ≡ weighed (given 0 (codes "10") ∷ [])
+  pub two_values : weighed (given 0 (codes "10") ∷ given 40 (codes "20") ∷ []) ≡ []
+  pub later : weighed (given 40 (codes "10") ∷ []) ≡ []
+  pub in_a_block : weighed (span_of Open 0 [] [] ∷ given 5 (codes "10") ∷ []) ≡ []
+  pub other_name : weighed (span_of Assign 0 (codes "Y") (codes "10") ∷ []) ≡ []
+  pub plain : numbered (codes "10") (codes "* $ $X^0 y") ≡ codes "* $ 10^0 y"
+  pub braces : numbered (codes "\"10\"") (codes "*$ B ?? -${X}^1 $Y") ≡ codes "*$ B ?? -10^1 $Y"
+  pub unclosed : numbered (codes "10") (codes "* $ ${X-^0 y") ≡ codes "* $ ${X-^0 y"
+  pub name : variable_name (codes "$X_1^0 y") ≡ codes "X_1"
+  pub name_in_braces : variable_name (codes "${X}^0 y") ≡ codes "X"
+  pub digits : is_number (codes "10") ≡ true
+  pub fraction : is_number (codes "1.5") ≡ false
+  pub nothing : is_number [] ≡ false
+  -- a value counts before the place of the weight and before all blocks
+  pub before : is_past 9 Assign 3 ≡ false
+  pub behind : is_past 9 Assign 9 ≡ true
+  pub block : is_past 9 Open 3 ≡ true
+  pub value : is_value_of (codes "X") Assign (codes "X") ≡ true
+  pub other : is_value_of (codes "X") Assign (codes "Y") ≡ false
+  pub same : keeps_value (codes "X") (codes "10") Assign (codes "X") (codes "10") ≡ true
+  pub changed : keeps_value (codes "X") (codes "10") Assign (codes "X") (codes "20") ≡ false
+  pub removed : keeps_value (codes "X") (codes "10") Unset (codes "X") [] ≡ false
+  pub captured : keeps_value (codes "X") (codes "10") Capture (codes "X") (codes "10") ≡ false
 
 -- mailboxes
 pub record OfMailboxes : Type 0 where

@@ -6,6 +6,7 @@ pub mod Counts
 pub mod Locks
 pub mod Colons
 pub mod Conditions
+pub mod Numbers
 pub mod Mailboxes
 pub mod Calls
 pub mod Moved

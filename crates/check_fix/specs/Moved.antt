@@ -24,6 +24,7 @@ use Rattle.check_fix.specs.Colons.{automatic_edits, own_lock_edits, cache_lock_e
 use Rattle.check_fix.specs.Conditions.{late_edits, supreme_edits, backslash_edits, end_edits, anchor_edits, continued_edits}
 use Rattle.check_fix.specs.Locks.{held_edits}
 use Rattle.check_fix.specs.Mailboxes.{several_edits, hash_edits, match_edits}
+use Rattle.check_fix.specs.Numbers.{number_edits}
 use Rattle.check_fix.specs.Values.{host_edits, idle_edits, log_edits, delivered_edits}
 use Rattle.check_fix.specs.declared.edits.Edit.{Edit}
 
@@ -37,12 +38,16 @@ variable_edits variable.LockFile span spans = held_edits span.first span.bytes.n
 variable_edits variable.OpenBrace span spans = brace_edits span.first span.bytes.now span.text.now spans
 variable_edits _ span spans = []
 
+-- a weight by a variable, where all spans of the text are these
+abbrev pub weight_edits : Span → List Span → List Edit
+weight_edits span all = supreme_edits span.first span.bytes.now ++ number_edits span.first span.bytes.now all
+
 -- a form of a condition
-abbrev pub condition_edits : ConditionForm → Span → List Edit
-condition_edits condition.LateWeight span = late_edits span.first span.bytes.now
-condition_edits condition.VariableWeight span = supreme_edits span.first span.bytes.now
-condition_edits condition.Continued span = continued_edits span.first span.bytes.now
-condition_edits _ span = []
+abbrev pub condition_edits : ConditionForm → Span → List Span → List Edit
+condition_edits condition.LateWeight span all = late_edits span.first span.bytes.now
+condition_edits condition.VariableWeight span all = weight_edits span all
+condition_edits condition.Continued span all = continued_edits span.first span.bytes.now
+condition_edits _ span all = []
 
 -- a form of an expression
 abbrev pub search_edits : SearchForm → Span → List Edit
@@ -72,15 +77,15 @@ field_edits reply.EmptyField span = empty_edits span.first span.bytes.now
 field_edits reply.FromRemoved span = removed_edits span.first span.bytes.now
 field_edits _ span = []
 
--- a form, in the span where it was found
-abbrev pub form_edits : Form → Span → List Span → List Edit
-form_edits (any.Variable form) span spans = variable_edits form span spans
-form_edits (any.Condition form) span spans = condition_edits form span
-form_edits (any.Search form) span spans = search_edits form span
-form_edits (any.Mailbox form) span spans = mailbox_edits form span
-form_edits (any.Program form) span spans = program_edits form span
-form_edits (any.Reply form) span spans = field_edits form span
-form_edits _ span spans = []
+-- a form, in the span where it was found, with the spans after it and all spans
+abbrev pub form_edits : Form → Span → List Span → List Span → List Edit
+form_edits (any.Variable form) span spans all = variable_edits form span spans
+form_edits (any.Condition form) span spans all = condition_edits form span all
+form_edits (any.Search form) span spans all = search_edits form span
+form_edits (any.Mailbox form) span spans all = mailbox_edits form span
+form_edits (any.Program form) span spans all = program_edits form span
+form_edits (any.Reply form) span spans all = field_edits form span
+form_edits _ span spans all = []
 
 -- an automatic lock file of a block
 abbrev pub block_edits : RecipeForm → Span → List Edit
@@ -106,9 +111,9 @@ lock_edits (any.Program form) span = program_lock_edits form span
 lock_edits _ span = []
 
 -- forms, in the span where they were found
-abbrev pub all_form_edits : List Form → Span → List Span → List Edit
-all_form_edits [] span spans = []
-all_form_edits (form ∷ forms) span spans = form_edits form span spans ++ all_form_edits forms span spans
+abbrev pub all_form_edits : List Form → Span → List Span → List Span → List Edit
+all_form_edits [] span spans all = []
+all_form_edits (form ∷ forms) span spans all = form_edits form span spans all ++ all_form_edits forms span spans all
 
 -- forms of an action, in the colon line
 abbrev pub all_lock_edits : List Form → Span → List Edit

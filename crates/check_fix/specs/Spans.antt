@@ -48,12 +48,17 @@ kind_edits kind.Colon span spans findings = colon_edits span (from_action spans)
 kind_edits kind.Skipped span spans findings = count_edits span spans
 kind_edits _ span spans findings = []
 
--- a span before these
-abbrev pub span_edits : Span → List Span → List Finding → List Edit
-span_edits span spans findings =
-    all_form_edits (forms_at span.first findings) span spans ++ kind_edits span.kind span spans findings
+-- a span before these, where all spans of the text are those
+abbrev pub span_edits : Span → List Span → List Span → List Finding → List Edit
+span_edits span spans all findings =
+    all_form_edits (forms_at span.first findings) span spans all ++ kind_edits span.kind span spans findings
+
+-- these spans of all
+abbrev pub edits_among : List Span → List Span → List Finding → List Edit
+edits_among all [] findings = []
+edits_among all (span ∷ spans) findings =
+    span_edits span spans all findings ++ edits_among all spans (later_than span.first findings)
 
 -- all spans
 abbrev pub edits_of : List Span → List Finding → List Edit
-edits_of [] findings = []
-edits_of (span ∷ spans) findings = span_edits span spans findings ++ edits_of spans (later_than span.first findings)
+edits_of spans findings = edits_among spans spans findings

@@ -1,6 +1,6 @@
 //! What the definitions say of short texts.
 ghost use Rattle.check_fix.specs.Examples.{OfValues, OfBraces, OfLocks, OfCounts, OfColons, OfConditions};
-ghost use Rattle.check_fix.specs.Examples.{OfMailboxes, OfCalls, OfChanges};
+ghost use Rattle.check_fix.specs.Examples.{OfNumbers, OfMailboxes, OfCalls, OfChanges};
 
 /// What old forms are brought over by.
 pub fn examples()
@@ -10,6 +10,7 @@ pub fn examples()
     ensures counts { OfCounts }
     ensures colons { OfColons }
     ensures conditions { OfConditions }
+    ensures numbers { OfNumbers }
     ensures mailboxes { OfMailboxes }
     ensures calls { OfCalls }
     ensures changes { OfChanges }

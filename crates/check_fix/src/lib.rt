@@ -14,6 +14,7 @@ mod laws;
 mod locks;
 mod mailboxes;
 mod moved;
+mod numbers;
 mod parts;
 mod searches;
 mod spans;

@@ -1,8 +1,9 @@
 //! Forms that were found, by what brings them over.
 ghost use Rattle.std.specs.Prelude.{◌≡◌, ◌++◌, OnOk};
 ghost use Rattle.std.specs.List.{list_any};
-ghost use Rattle.check_fix.specs.Moved.{variable_edits, condition_edits, search_edits, mailbox_edits, program_edits};
-ghost use Rattle.check_fix.specs.Moved.{field_edits, form_edits, block_edits, mailbox_lock_edits, program_lock_edits};
+ghost use Rattle.check_fix.specs.Moved.{variable_edits, weight_edits, condition_edits, search_edits, mailbox_edits};
+ghost use Rattle.check_fix.specs.Moved.{program_edits, field_edits, form_edits, block_edits, mailbox_lock_edits};
+ghost use Rattle.check_fix.specs.Moved.{program_lock_edits};
 ghost use Rattle.check_fix.specs.Moved.{lock_edits, all_form_edits, all_lock_edits};
 ghost use Rattle.check_fix.specs.Moved.{moves_variable, moves_recipe, moves_condition, moves_search, moves_mailbox};
 ghost use Rattle.check_fix.specs.Moved;
@@ -15,6 +16,7 @@ use crate::conditions::{put_late, put_supreme};
 use crate::edits::Edit;
 use crate::locks::put_held;
 use crate::mailboxes::{put_hash, put_match, put_several};
+use crate::numbers::put_number;
 use crate::searches::{put_anchors, put_backslash, put_continued, put_end};
 use crate::values::{put_delivered, put_host, put_idle, put_log};
 use check_moving::{
@@ -44,17 +46,30 @@ fn put_variable(
     }
 }
 
+fn put_weight(
+    alloc: Global,
+    span: &Span<'_>,
+    all: &[Span<'_>],
+    edits: &mut Vec<Edit>,
+) -> Result<(), Memory>
+    ensures { OnOk result (edits.new.items ≡ edits.old.items ++ weight_edits span.now all.now) }
+{
+    put_supreme(alloc, span, edits)?;
+    put_number(alloc, span, all, edits)
+}
+
 fn put_condition(
     alloc: Global,
     form: ConditionForm,
     span: &Span<'_>,
+    all: &[Span<'_>],
     edits: &mut Vec<Edit>,
 ) -> Result<(), Memory>
-    ensures { OnOk result (edits.new.items ≡ edits.old.items ++ condition_edits form span.now) }
+    ensures { OnOk result (edits.new.items ≡ edits.old.items ++ condition_edits form span.now all.now) }
 {
     match form {
         ConditionForm::LateWeight => put_late(alloc, span, edits),
-        ConditionForm::VariableWeight => put_supreme(alloc, span, edits),
+        ConditionForm::VariableWeight => put_weight(alloc, span, all, edits),
         ConditionForm::Continued => put_continued(alloc, span, edits),
         _ => Ok(()),
     }
@@ -129,13 +144,14 @@ fn put_form(
     form: Form,
     span: &Span<'_>,
     spans: &[Span<'_>],
+    all: &[Span<'_>],
     edits: &mut Vec<Edit>,
 ) -> Result<(), Memory>
-    ensures { OnOk result (edits.new.items ≡ edits.old.items ++ form_edits form span.now spans.now) }
+    ensures { OnOk result (edits.new.items ≡ edits.old.items ++ form_edits form span.now spans.now all.now) }
 {
     match form {
         Form::Variable(form) => put_variable(alloc, form, span, spans, edits),
-        Form::Condition(form) => put_condition(alloc, form, span, edits),
+        Form::Condition(form) => put_condition(alloc, form, span, all, edits),
         Form::Search(form) => put_search(alloc, form, span, edits),
         Form::Mailbox(form) => put_mailbox(alloc, form, span, edits),
         Form::Program(form) => put_program(alloc, form, span, edits),
@@ -144,19 +160,21 @@ fn put_form(
     }
 }
 
-/// Forms, in the span where they were found.
+/// Forms, in the span where they were found. `all` are the spans of the whole text.
 pub fn put_forms(
     alloc: Global,
     forms: &[Form],
     span: &Span<'_>,
     spans: &[Span<'_>],
+    all: &[Span<'_>],
     edits: &mut Vec<Edit>,
 ) -> Result<(), Memory>
-    ensures { OnOk result (edits.new.items ≡ edits.old.items ++ all_form_edits forms.now span.now spans.now) }
+    ensures { OnOk result (edits.new.items
+        ≡ edits.old.items ++ all_form_edits forms.now span.now spans.now all.now) }
 {
     let mut rest = forms;
     while let Some((form, later)) = rest.split_first() {
-        put_form(alloc, *form, span, spans, edits)?;
+        put_form(alloc, *form, span, spans, all, edits)?;
         rest = later;
     }
     Ok(())

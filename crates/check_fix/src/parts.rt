@@ -1,13 +1,13 @@
 //! Parts of texts, by the text from a place on.
 ghost use Rattle.std.specs.Prelude.{◌≡◌, ◌≤◌, ◌<◌, IfSome, length, drop, not, position};
 ghost use Rattle.std.specs.Str.{bytes_eq};
-ghost use Rattle.pm_bytes.specs.Letter.{is_blank_byte, is_digit_byte};
-ghost use Rattle.check_moving.specs.Text.{behind_blanks, has_part, without_quotes};
+ghost use Rattle.pm_bytes.specs.Letter.{is_blank_byte, is_digit_byte, is_name_byte};
+ghost use Rattle.check_moving.specs.Text.{behind_blanks, behind_name, has_part, without_quotes};
 ghost use Rattle.check_moving.specs.Words.{is_break_byte};
 ghost use Rattle.check_fix.specs.Parts.{from_part, behind_digits, from_blank, before, exceeds};
 ghost use Rattle.check_fix.specs.Parts;
 
-use pm_bytes::{BACKQUOTE, BAR, NEWLINE, is_blank, is_digit, read_count};
+use pm_bytes::{BACKQUOTE, BAR, NEWLINE, continues_name, is_blank, is_digit, read_count};
 
 /// Whether both are the same bytes.
 pub fn is(text: &[u8], other: &[u8]) -> bool
@@ -87,6 +87,23 @@ fn digits_end(text: &[u8]) -> Option<usize>
     ensures within { IfSome result (λ end. end < length text.now) }
 {
     text.iter().position(|byte| !is_digit(*byte))
+}
+
+/// The text without the bytes of a name at its front.
+pub fn past_name(text: &[u8]) -> &[u8]
+    ensures { result.now ≡ behind_name text.now }
+{
+    match name_end(text) {
+        None => &[],
+        Some(end) => &text[end..],
+    }
+}
+
+fn name_end(text: &[u8]) -> Option<usize>
+    ensures place { result ≡ position (λ byte. not (is_name_byte byte)) text.now }
+    ensures within { IfSome result (λ end. end < length text.now) }
+{
+    text.iter().position(|byte| !continues_name(*byte))
 }
 
 /// The text from its first blank on.

@@ -107,13 +107,14 @@ fn put_span(
     alloc: Global,
     span: &Span<'_>,
     spans: &[Span<'_>],
+    all: &[Span<'_>],
     findings: &[Finding],
     edits: &mut Vec<Edit>,
 ) -> Result<(), Memory>
-    ensures { OnOk result (edits.new.items ≡ edits.old.items ++ span_edits span.now spans.now findings.now) }
+    ensures { OnOk result (edits.new.items ≡ edits.old.items ++ span_edits span.now spans.now all.now findings.now) }
 {
     let forms = forms_at(alloc, span.first, findings)?;
-    put_forms(alloc, forms.as_slice(), span, spans, edits)?;
+    put_forms(alloc, forms.as_slice(), span, spans, all, edits)?;
     put_kind(alloc, span, spans, findings, edits)
 }
 
@@ -128,7 +129,7 @@ pub fn edits_of(
     let mut edits = Vec::new(alloc);
     let mut left = findings;
     for i in 0..spans.len() {
-        put_span(alloc, &spans[i], &spans[i + 1..], left, &mut edits)?;
+        put_span(alloc, &spans[i], &spans[i + 1..], spans, left, &mut edits)?;
         left = later_than(spans[i].first, left);
     }
     Ok(edits)

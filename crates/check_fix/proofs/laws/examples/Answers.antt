@@ -87,6 +87,33 @@ returns-clause-conditions c = record {
   continued = refl;
 }
 
+pub returns-clause-numbers : goal.returns-clause-numbers
+returns-clause-numbers c = record {
+  once = refl;
+  again = refl;
+  two_values = refl;
+  later = refl;
+  in_a_block = refl;
+  other_name = refl;
+  plain = refl;
+  braces = refl;
+  unclosed = refl;
+  name = refl;
+  name_in_braces = refl;
+  digits = refl;
+  fraction = refl;
+  nothing = refl;
+  before = refl;
+  behind = refl;
+  block = refl;
+  value = refl;
+  other = refl;
+  same = refl;
+  changed = refl;
+  removed = refl;
+  captured = refl;
+}
+
 pub returns-clause-mailboxes : goal.returns-clause-mailboxes
 returns-clause-mailboxes c = record {
   several = refl;
