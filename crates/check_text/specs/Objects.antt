@@ -1,13 +1,12 @@
 -- Findings as JSON. The members of an object are in the order of their names.
 use Rattle.std.specs.Prelude.{ℕ, Bool, true, false, List, map, count_by, codes}
-use Rattle.percent_encoding.specs.Percent.{percent_encode}
 use Rattle.serde_json.specs.Data.{Data, Members, number, unsigned, string, array, object, item, no_items, member, no_members}
 use Rattle.serde_json.specs.View.{items_of}
 use Rattle.check_find.specs.declared.codes.Severity.{Severity}
 use Rattle.check_find.specs.declared.codes.Severity.TheVariants.{Error, Warning}
 use Rattle.check_text.specs.declared.line.Line.{Line}
-use Rattle.check_text.specs.declared.sarif.TheConstants.{ESCAPED}
 use Rattle.check_text.specs.Lines.{severity_word}
+use Rattle.check_text.specs.Uris.{path_of}
 
 -- a member that is a text, and one that is a number
 abbrev pub text_member : List ℕ → List ℕ → Members → Members
@@ -47,7 +46,7 @@ abbrev pub location_data : Line → Data
 location_data line = object (
     member (codes "physicalLocation") (object (
     member (codes "artifactLocation") (object (
-    text_member (codes "uri") (percent_encode ESCAPED line.file.now) no_members)) (
+    text_member (codes "uri") (path_of line.file.now) no_members)) (
     member (codes "region") (object (
     number_member (codes "startColumn") line.column (
     number_member (codes "startLine") line.line no_members))) no_members)))

@@ -2,12 +2,14 @@
 #![tactic(auto)]
 
 mod json;
+mod laws;
 mod line;
 mod messages;
 mod rules;
 mod sarif;
 
 pub use json::findings_json;
+pub use laws::examples;
 pub use line::{Line, lines_text};
 pub use messages::{disk_message, message};
 pub use rules::{DiskMistake, disk_name, disk_severity, is_disk_code};

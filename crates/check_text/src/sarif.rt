@@ -1,15 +1,15 @@
 //! Findings as a log of SARIF 2.1.0, which code hosts and editors read.
 ghost use Rattle.std.specs.Prelude.{◌≡◌, IfOk, map, string_bytes};
-ghost use Rattle.percent_encoding.specs.Percent.{percent_encode};
 ghost use Rattle.serde_json.specs.View.{view};
 ghost use Rattle.check_text.specs.Objects.{location_data, log_data, result_data};
+ghost use Rattle.check_text.specs.Uris.{path_of};
 
 use crate::line::{Line, severity_word};
 use percent_encoding::{AsciiSet, NON_ALPHANUMERIC, ascii_set, utf8_percent_encode};
 use serde_json::{Value, json};
 use std::alloc::{AllocError, Global};
 
-// What a path of a URI has percent-encoded.
+// What does not stand as it is in a path of a URI.
 const ESCAPED: AsciiSet = ascii_set!(
     NON_ALPHANUMERIC
         .remove(b'/')
@@ -70,8 +70,9 @@ fn location(alloc: Global, line: &Line<'_>) -> Result<Value, AllocError>
     })
 }
 
+#[tactic(auto, using(crate::proofs::Uris::path_encoded))]
 fn uri_of(alloc: Global, file: &str) -> Result<String, AllocError>
-    ensures { IfOk result (λ uri. string_bytes uri ≡ percent_encode ESCAPED file.now) }
+    ensures { IfOk result (λ uri. string_bytes uri ≡ path_of file.now) }
 {
     let mut uri = String::new(alloc);
     utf8_percent_encode(file, ESCAPED).append_to(&mut uri)?;
