@@ -3,9 +3,9 @@ ghost use Rattle.std.specs.Prelude.{◌≡◌, IfOk, length, position};
 ghost use Rattle.std.specs.List.{list_all};
 ghost use Rattle.pm_bytes.specs.Letter.{is_blank_byte};
 ghost use Rattle.pm_meaning.specs.Leads.{asking_of};
-ghost use Rattle.pm_meaning.specs.Evaluating.{number_between, word_number as number_of_word};
-ghost use Rattle.check_find.specs.Faults.{fault_of as fault_in, fault_by as fault_asked, test_fault as fault_tested};
-ghost use Rattle.check_find.specs.Faults.{size_fault as fault_of_size, expression_fault as fault_of_expression};
+ghost use Rattle.pm_meaning.specs.Evaluating;
+ghost use Rattle.pm_meaning.specs.Evaluating.{number_between};
+ghost use Rattle.check_find.specs.Faults;
 ghost use Rattle.check_find.specs.Reports.{fault_at};
 
 use crate::codes::Fault;
@@ -32,7 +32,7 @@ pub fn fault_in_span(alloc: Global, kind: Kind, text: &[u8]) -> Result<Option<Fa
 
 /// What is wrong with a condition. One that is expanded first isn't judged.
 pub fn fault_of(alloc: Global, condition: &Condition) -> Result<Option<Fault>, Memory>
-    ensures { IfOk result (λ fault. fault ≡ fault_in condition.now) }
+    ensures { IfOk result (λ fault. fault ≡ Faults.fault_of condition.now) }
 {
     fault_by(
         alloc,
@@ -42,7 +42,7 @@ pub fn fault_of(alloc: Global, condition: &Condition) -> Result<Option<Fault>, M
 }
 
 fn fault_by(alloc: Global, question: Option<Question>, text: &[u8]) -> Result<Option<Fault>, Memory>
-    ensures { IfOk result (λ fault. fault ≡ fault_asked question text.now) }
+    ensures { IfOk result (λ fault. fault ≡ Faults.fault_by question text.now) }
 {
     match question {
         None => Ok(Some(Fault::Weight)),
@@ -55,7 +55,7 @@ fn fault_by(alloc: Global, question: Option<Question>, text: &[u8]) -> Result<Op
 }
 
 fn test_fault(alloc: Global, test: &[u8], question: &Question) -> Result<Option<Fault>, Memory>
-    ensures { IfOk result (λ fault. fault ≡ fault_tested (asking_of test.now question.now)) }
+    ensures { IfOk result (λ fault. fault ≡ Faults.test_fault (asking_of test.now question.now)) }
 {
     if test.starts_with(b"$") || test.starts_with(b"?") {
         return Ok(None);
@@ -67,7 +67,7 @@ fn test_fault(alloc: Global, test: &[u8], question: &Question) -> Result<Option<
 }
 
 fn size_fault(question: &Question, number: Option<u64>) -> Option<Fault>
-    ensures { result ≡ fault_of_size question.now number }
+    ensures { result ≡ Faults.size_fault question.now number }
 {
     match number {
         None => Some(Fault::Size),
@@ -82,7 +82,7 @@ fn size_fault(question: &Question, number: Option<u64>) -> Option<Fault>
 }
 
 fn expression_fault(alloc: Global, text: &[u8]) -> Result<Option<Fault>, Memory>
-    ensures { IfOk result (λ fault. fault ≡ fault_of_expression text.now) }
+    ensures { IfOk result (λ fault. fault ≡ Faults.expression_fault text.now) }
 {
     match read(alloc, text) {
         Ok(expr) => {
@@ -103,7 +103,7 @@ fn number_in(text: &[u8]) -> Option<u64>
 
 // The number that a word writes, where nothing but blanks stands after it.
 fn word_number(text: &[u8]) -> Option<u64>
-    ensures { result ≡ number_of_word text.now }
+    ensures { result ≡ Evaluating.word_number text.now }
 {
     let end = word_end(text).unwrap_or(text.len());
     if is_all_blank(&text[end..]) {

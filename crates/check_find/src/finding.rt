@@ -1,6 +1,7 @@
 //! A finding, and where it stands in its line.
 ghost use Rattle.std.specs.Prelude.{◌≡◌, ◌<◌, IfSome, length};
-ghost use Rattle.check_find.specs.Columns.{last_newline as newline_of, column_of};
+ghost use Rattle.check_find.specs.Columns;
+ghost use Rattle.check_find.specs.Columns.{column_of};
 
 use crate::codes::Code;
 use memchr::memrchr;
@@ -32,7 +33,7 @@ pub fn column_at(text: &[u8], place: usize) -> u64
 }
 
 fn last_newline(text: &[u8]) -> Option<usize>
-    ensures value { result ≡ newline_of text.now }
+    ensures value { result ≡ Columns.last_newline text.now }
     ensures within { IfSome result (λ place. place < length text.now) }
 {
     memrchr(b'\n', text)
