@@ -132,7 +132,7 @@ fn end_of(len: u64, fed: FeedEnd, came: TakeEnd, finished: Finished) -> ChildEnd
     }
 }
 
-// Feeds the child until it has all, closes its input, or a feed fails. A part is as long as what a pipe of Linux holds.
+// Feeds the child until it has all, closes its input, or a feed fails.
 fn feed_all<H: Host>(host: &mut H, input: &[u8]) -> FeedEnd
     requires { (H.told host.old).child ≡ Child.Feeding }
     ensures feeds { Feeds input.now result (H.told host.old) (H.told host.new) }
@@ -140,7 +140,7 @@ fn feed_all<H: Host>(host: &mut H, input: &[u8]) -> FeedEnd
 {
     let mut taken: usize = 0;
     while taken < input.len() {
-        let end = input.len().min(taken.saturating_add(65_536));
+        let end = input.len().min(taken.saturating_add(4096));
         match host.feed(&input[taken..end]) {
             Fed::Took(n) => taken += n,
             Fed::Closed => return FeedEnd::Closed(taken as u64),
