@@ -1,4 +1,3 @@
-pub mod KeepsProp
 pub mod Names
 pub mod Copies
 pub mod Programs

@@ -13,11 +13,10 @@ ghost use Rattle.pm_actions.specs.Filing.{HasNone};
 
 use crate::filing::{copies_for, file_each};
 use crate::locks::lock_rule;
-use crate::run::Run;
 use pm_bytes::{Memory, Name};
 use pm_host::Removed;
 use pm_journal::{Effects, LockEnd, give, take};
-use pm_meaning::{Attempt, Destination};
+use pm_meaning::{Attempt, Destination, Run};
 use pm_recipe::Flags;
 use std::alloc::Global;
 

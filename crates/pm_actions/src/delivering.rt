@@ -26,12 +26,11 @@ use crate::locks::{
 };
 use crate::names::destinations;
 use crate::pipes::{capture, forward, pipe, write_out};
-use crate::run::Run;
 use crate::saying::{attempt_lines, say_each};
 use pm_bytes::{Blob, Memory, Name, NameRefused};
 use pm_journal::{Effects, unusable_name};
 use pm_meaning::{
-    Attempt, Destination, End, Expansion, Filed, Process, Ready, expand_text, first_word,
+    Attempt, Destination, End, Expansion, Filed, Process, Ready, Run, expand_text, first_word,
     make_ready, skip_value, succeed, tell,
 };
 use pm_recipe::{Action, Flags, Recipe};
@@ -152,11 +151,9 @@ fn deliver_mail<D: Effects>(
     let text_commands = commands(alloc, order.text, Mode::Many)?;
     let ready = make_ready(
         alloc,
+        run,
         lock_commands.as_slice(),
         text_commands.as_slice(),
-        &mut run.process,
-        &mut run.outside,
-        &mut run.journal,
     )?;
     deliver_ready(alloc, run, order, &ready)
 }
@@ -189,13 +186,7 @@ fn deliver_ready<D: Effects>(
             let outputs = ready.outputs.as_slice();
             deliver_text(alloc, run, order, value, outputs)
         }
-        Expansion::TooLong(length) => skip_value(
-            alloc,
-            length,
-            &mut run.process,
-            &mut run.outside,
-            &mut run.journal,
-        ),
+        Expansion::TooLong(length) => skip_value(alloc, run, length),
     }
 }
 
@@ -216,13 +207,7 @@ fn deliver_text<D: Effects>(
 {
     match expand_text(alloc, order.text, Mode::Many, &run.process.vars, outputs)? {
         Expansion::Words(words) => { deliver_to_words(alloc, run, order, value, words.as_slice()) }
-        Expansion::TooLong(length) => skip_value(
-            alloc,
-            length,
-            &mut run.process,
-            &mut run.outside,
-            &mut run.journal,
-        ),
+        Expansion::TooLong(length) => skip_value(alloc, run, length),
     }
 }
 
@@ -346,13 +331,7 @@ pub fn refuse<D: Effects>(
     ensures same { run.new.process ≡ run.old.process }
 {
     let line = unusable_name(alloc, text)?;
-    tell(
-        alloc,
-        &run.process,
-        line,
-        &mut run.outside,
-        &mut run.journal,
-    )?;
+    tell(alloc, run, line)?;
     Ok(None)
 }
 

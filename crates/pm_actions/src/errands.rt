@@ -13,12 +13,11 @@ use crate::ends::{feed_outcome, is_fine, write_outcome};
 use crate::filing::fed_parts;
 use crate::filtering::{capture, filter};
 use crate::kept::{Kept, keep, remembering};
-use crate::run::Run;
 use crate::tasks::{Purpose, Task};
 use pm_bytes::{Blob, Memory};
 use pm_host::Command;
 use pm_journal::Effects;
-use pm_meaning::{Outcome, Process, note_code};
+use pm_meaning::{Outcome, Process, Run, note_code};
 use pm_recipe::Flags;
 use std::alloc::Global;
 

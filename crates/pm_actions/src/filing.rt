@@ -18,10 +18,9 @@ ghost use Rattle.pm_actions.specs.Filing.{is_folder_there, filed_by, mind_after,
 use crate::kept::{Kept, keep, remembering};
 use crate::names::plain_prefix;
 use crate::placing::{FolderCopy, file_in_folder};
-use crate::run::Run;
 use pm_bytes::{Blob, Memory, Name, full};
 use pm_journal::{AppendEnd, Effects, FolderKind};
-use pm_meaning::{Destination, Filed, Process, is_nothing};
+use pm_meaning::{Destination, Filed, Process, Run, is_nothing};
 use pm_message::Feed;
 use pm_recipe::Flags;
 use std::alloc::Global;

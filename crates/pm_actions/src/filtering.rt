@@ -14,11 +14,10 @@ ghost use Rattle.pm_actions.specs.Errands.{tried_of};
 
 use crate::ends::{end_outcome, feed_outcome, is_fine};
 use crate::filing::fed_parts;
-use crate::run::Run;
 use pm_bytes::{Blob, Memory};
 use pm_host::Command;
 use pm_journal::{Effects, Journal, RunEnd};
-use pm_meaning::{Outcome, Process, note_code};
+use pm_meaning::{Outcome, Process, Run, note_code};
 use pm_message::{Feed, Mail, Message};
 use pm_recipe::Flags;
 use pm_subst::without_newlines;

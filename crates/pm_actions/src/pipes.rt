@@ -19,12 +19,11 @@ use crate::delivering::Order;
 use crate::errands::write_errand;
 use crate::forwards::forward_line;
 use crate::lock_texts::{LockText, lock_commands, lock_word};
-use crate::run::Run;
 use crate::tasks::{Purpose, Task, do_line, do_named};
 use pm_bytes::{Blob, Memory};
 use pm_journal::Effects;
 use pm_meaning::{
-    End, Process, ProgramLine, Ready, expanded_line, make_ready, needs_shell, shell_line,
+    End, Process, ProgramLine, Ready, Run, expanded_line, make_ready, needs_shell, shell_line,
     skip_value,
 };
 use pm_recipe::Flags;
@@ -171,14 +170,7 @@ fn do_program<D: Effects>(
 {
     let of_lock = lock_commands(alloc, task)?;
     let of_text = text_commands(alloc, task.text, reading)?;
-    let ready = make_ready(
-        alloc,
-        of_lock.as_slice(),
-        of_text.as_slice(),
-        &mut run.process,
-        &mut run.outside,
-        &mut run.journal,
-    )?;
+    let ready = make_ready(alloc, run, of_lock.as_slice(), of_text.as_slice())?;
     do_ready(alloc, run, task, reading, &ready)
 }
 
@@ -210,13 +202,7 @@ fn do_ready<D: Effects>(
 {
     let text = lock_word(alloc, task, ready.lock_outputs.as_slice(), &run.process)?;
     match text {
-        LockText::TooLong(length) => skip_value(
-            alloc,
-            length,
-            &mut run.process,
-            &mut run.outside,
-            &mut run.journal,
-        ),
+        LockText::TooLong(length) => skip_value(alloc, run, length),
         LockText::Word(word) => {
             let line = read_text(
                 alloc,
@@ -268,14 +254,7 @@ pub fn write_out<D: Effects>(
         purpose: Purpose::Delivers(b"|"),
     };
     let commands = lock_commands(alloc, &task)?;
-    let ready = make_ready(
-        alloc,
-        commands.as_slice(),
-        &[],
-        &mut run.process,
-        &mut run.outside,
-        &mut run.journal,
-    )?;
+    let ready = make_ready(alloc, run, commands.as_slice(), &[])?;
     write_ready(alloc, run, &task, &ready)
 }
 
@@ -295,13 +274,7 @@ fn write_ready<D: Effects>(
 {
     let text = lock_word(alloc, task, ready.lock_outputs.as_slice(), &run.process)?;
     match text {
-        LockText::TooLong(length) => skip_value(
-            alloc,
-            length,
-            &mut run.process,
-            &mut run.outside,
-            &mut run.journal,
-        ),
+        LockText::TooLong(length) => skip_value(alloc, run, length),
         LockText::Word(word) => {
             let errand = write_errand(alloc, task.flags, &run.process)?;
             do_named(alloc, run, task, word, errand)

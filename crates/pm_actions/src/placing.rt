@@ -10,10 +10,9 @@ ghost use Rattle.pm_actions.specs.Copies.{filing_of};
 ghost use Rattle.pm_actions.specs.Filing.{HasMet};
 ghost use Rattle.pm_actions.specs.Placing.{HasFile, placed_as};
 
-use crate::run::Run;
 use pm_bytes::{Blob, Memory, Name};
 use pm_journal::{Effects, Filing, FolderEnd, FolderKind, Journal, Stamp};
-use pm_meaning::{Filed, Process, Stored};
+use pm_meaning::{Filed, Process, Run, Stored};
 use std::alloc::Global;
 
 /// A folder with all that is wanted to file a piece there: its name for the entry and for the line where that fails,

@@ -8,13 +8,12 @@ ghost use Rattle.pm_meaning.specs.Delivering;
 ghost use Rattle.pm_meaning.specs.Minds.{mind_of};
 ghost use Rattle.pm_meaning.specs.Turning.{turn_of};
 
-use crate::run::Run;
 use pm_bytes::{Blob, Memory, Name};
 use pm_journal::{
     Effects, bytes_left, couldnt_lock, couldnt_unlock, couldnt_write, forcing_lock, no_free_name,
     unusable_name,
 };
-use pm_meaning::{Attempt, End, Filed, tell};
+use pm_meaning::{Attempt, End, Filed, Run, tell};
 use std::alloc::Global;
 use std::collections::VecDeque;
 
@@ -115,13 +114,7 @@ pub fn say_each<D: Effects>(
     ensures same { run.new.process ≡ run.old.process }
 {
     while let Some(line) = lines.pop_front() {
-        tell(
-            alloc,
-            &run.process,
-            line,
-            &mut run.outside,
-            &mut run.journal,
-        )?;
+        tell(alloc, run, line)?;
     }
     Ok(end)
 }

@@ -22,12 +22,11 @@ use crate::errands::{Errand, errand_for};
 use crate::lock_texts::lacks_lock;
 use crate::locks::{blamed_text, full_lock, is_taken, lock_name};
 use crate::outcomes::trial_lines;
-use crate::run::Run;
 use crate::saying::say_each;
 use crate::trying::{end_of, is_fine_trial, let_go, settle, try_under};
 use pm_bytes::{Blob, Memory, Name, NameRefused};
 use pm_journal::{Effects, no_lock};
-use pm_meaning::{End, Process, ProgramLine, skip_value, tell};
+use pm_meaning::{End, Process, ProgramLine, Run, skip_value, tell};
 use pm_recipe::Flags;
 use std::alloc::Global;
 
@@ -96,13 +95,7 @@ pub fn do_line<D: Effects>(
         }
         ProgramLine::NoWords => refuse(alloc, run, task.text),
         ProgramLine::Unusable => refuse_line(alloc, run, task, word),
-        ProgramLine::TooLong(length) => skip_value(
-            alloc,
-            length,
-            &mut run.process,
-            &mut run.outside,
-            &mut run.journal,
-        ),
+        ProgramLine::TooLong(length) => skip_value(alloc, run, length),
     }
 }
 
@@ -222,13 +215,7 @@ fn tell_first<D: Effects>(alloc: Global, run: &mut Run<D>, task: &Task<'_>) -> R
         return Ok(());
     }
     let line = no_lock(alloc, task.text)?;
-    tell(
-        alloc,
-        &run.process,
-        line,
-        &mut run.outside,
-        &mut run.journal,
-    )
+    tell(alloc, run, line)
 }
 
 // Does the errand, and tells what came of it.

@@ -15,10 +15,9 @@ use crate::attempting::is_stuck;
 use crate::ends::is_fine;
 use crate::errands::{Errand, carry};
 use crate::locks::lock_rule;
-use crate::run::Run;
 use pm_bytes::{Memory, Name};
 use pm_journal::{Effects, HeldLocks, Journal, LockEnd, give, take};
-use pm_meaning::{End, Process, Trial, succeed};
+use pm_meaning::{End, Process, Run, Trial, succeed};
 use pm_recipe::Flags;
 use std::alloc::Global;
 

@@ -1,7 +1,6 @@
 //! The conditions of a recipe, with the programs that they ask (procmailrc(5), "Conditions").
 ghost use Rattle.std.specs.Prelude.{◌≡◌};
 ghost use Rattle.pm_journal.specs.Executed.{Carries};
-ghost use Rattle.pm_journal.specs.Held.{Keeping};
 ghost use Rattle.pm_meaning.specs.Leads.{asking_of};
 ghost use Rattle.pm_meaning.specs.Judging.{judged_with, comes_of, comes_within, come_with};
 ghost use Rattle.pm_meaning.specs.Judging;
@@ -14,10 +13,10 @@ use crate::scoring::{end_of_all, note_score};
 use crate::searching::program_input;
 use pm_bytes::Memory;
 use pm_host::Command;
-use pm_journal::{Asks, Journal, run};
+use pm_journal::Asks;
 use pm_meaning::question::{Judgement, Outcome, Question};
 use pm_meaning::{
-    Expansion, Process, ProgramLine, code_of, expand_text, first_word, note_code, outputs_of,
+    Expansion, ProgramLine, Run, code_of, expand_text, first_word, note_code, outputs_of,
     past_blanks, read_line, tell_run,
 };
 use pm_recipe::{Condition, Flags};
@@ -31,61 +30,44 @@ const MOST_DOLLARS: u64 = 8;
 /// program, and `$=` where one of them has a weight.
 pub fn judge<D: Asks>(
     alloc: Global,
+    run: &mut Run<D>,
     conditions: &[Condition],
     flags: Flags,
-    process: &mut Process,
-    outside: &mut D,
-    journal: &mut Journal,
 ) -> Result<Judgement, Memory>
-    requires keeping { Keeping journal.old process.old.locks.names }
-    ensures carries { Carries (Judging.judge conditions.now flags (mind_of process.old))
-        (λ verdict. judged_with verdict (mind_of process.new)) result
-        journal.old journal.new (D.told outside.old) (D.told outside.new) }
-    ensures keeping { Keeping journal.new process.new.locks.names }
+    ensures carries { Carries (Judging.judge conditions.now flags (mind_of run.old.process))
+        (λ verdict. judged_with verdict (mind_of run.new.process)) result
+        run.old.journal run.new.journal (D.told run.old.outside) (D.told run.new.outside) }
 {
     let weighted = has_weight(conditions);
     let mut total = 0;
     for condition in conditions {
-        let outcome = outcome(alloc, condition, flags, process, outside, journal)?;
+        let outcome = outcome(alloc, run, condition, flags)?;
         let text = &condition.text;
-        if let Some(end) = judge_one(alloc, text, outcome, &mut total, &mut process.vars)? {
-            note_score(weighted, total, &mut process.vars);
+        if let Some(end) = judge_one(alloc, text, outcome, &mut total, &mut run.process.vars)? {
+            note_score(weighted, total, &mut run.process.vars);
             return Ok(end);
         }
     }
-    note_score(weighted, total, &mut process.vars);
+    note_score(weighted, total, &mut run.process.vars);
     Ok(end_of_all(weighted, total))
 }
 
 // What comes of a condition. A weight with a number out of its range makes it a defect.
 fn outcome<D: Asks>(
     alloc: Global,
+    run: &mut Run<D>,
     condition: &Condition,
     flags: Flags,
-    process: &mut Process,
-    outside: &mut D,
-    journal: &mut Journal,
 ) -> Result<Outcome, Memory>
-    requires keeping { Keeping journal.old process.old.locks.names }
-    ensures carries { Carries (comes_of condition.now flags (mind_of process.old))
-        (λ outcome. come_with outcome (mind_of process.new)) result
-        journal.old journal.new (D.told outside.old) (D.told outside.new) }
-    ensures keeping { Keeping journal.new process.new.locks.names }
+    ensures carries { Carries (comes_of condition.now flags (mind_of run.old.process))
+        (λ outcome. come_with outcome (mind_of run.new.process)) result
+        run.old.journal run.new.journal (D.told run.old.outside) (D.told run.new.outside) }
 {
     match question_of(condition.weight) {
         None => Ok(Outcome::Defective),
         Some(question) => {
             let text = condition.text.as_slice();
-            ask(
-                alloc,
-                text,
-                question,
-                MOST_DOLLARS,
-                flags,
-                process,
-                outside,
-                journal,
-            )
+            ask(alloc, run, text, question, MOST_DOLLARS, flags)
         }
     }
 }
@@ -93,45 +75,38 @@ fn outcome<D: Asks>(
 // What comes of a text after a question; a `$` expands the rest, which is read again, `left` times at most.
 fn ask<D: Asks>(
     alloc: Global,
+    run: &mut Run<D>,
     text: &[u8],
     question: Question,
     left: u64,
     flags: Flags,
-    process: &mut Process,
-    outside: &mut D,
-    journal: &mut Journal,
 ) -> Result<Outcome, Memory>
-    requires keeping { Keeping journal.old process.old.locks.names }
-    ensures carries { Carries (comes_within left flags (asking_of text.now question) (mind_of process.old))
-        (λ outcome. come_with outcome (mind_of process.new)) result
-        journal.old journal.new (D.told outside.old) (D.told outside.new) }
-    ensures keeping { Keeping journal.new process.new.locks.names }
+    ensures carries { Carries (comes_within left flags (asking_of text.now question) (mind_of run.old.process))
+        (λ outcome. come_with outcome (mind_of run.new.process)) result
+        run.old.journal run.new.journal (D.told run.old.outside) (D.told run.new.outside) }
 {
     let mut question = question;
     let rest = read_lead(alloc, text, &mut question)?;
     if !rest.starts_with(b"$") {
-        return ask_rest(alloc, rest, &question, flags, process, outside, journal);
+        return ask_rest(alloc, run, rest, &question, flags);
     }
     if left == 0 {
         return Ok(Outcome::Defective);
     }
     let rest = &rest[1..];
-    let outputs = outputs_of(alloc, rest, Mode::Quoted, process, outside, journal)?;
-    match expand_text(alloc, rest, Mode::Quoted, &process.vars, outputs.as_slice())? {
+    let outputs = outputs_of(alloc, run, rest, Mode::Quoted)?;
+    match expand_text(
+        alloc,
+        rest,
+        Mode::Quoted,
+        &run.process.vars,
+        outputs.as_slice(),
+    )? {
         Expansion::TooLong(length) => Ok(Outcome::TooLong(length)),
         Expansion::Words(words) => {
             let value = first_word(alloc, words);
             let text = past_blanks(value.as_slice());
-            ask(
-                alloc,
-                text,
-                question,
-                left - 1,
-                flags,
-                process,
-                outside,
-                journal,
-            )
+            ask(alloc, run, text, question, left - 1, flags)
         }
     }
 }
@@ -139,55 +114,43 @@ fn ask<D: Asks>(
 // What comes of the test that the text is: `?` asks a program.
 fn ask_rest<D: Asks>(
     alloc: Global,
+    run: &mut Run<D>,
     text: &[u8],
     question: &Question,
     flags: Flags,
-    process: &mut Process,
-    outside: &mut D,
-    journal: &mut Journal,
 ) -> Result<Outcome, Memory>
-    requires keeping { Keeping journal.old process.old.locks.names }
-    ensures carries { Carries (tested flags (asking_of text.now question.now) (mind_of process.old))
-        (λ outcome. come_with outcome (mind_of process.new)) result
-        journal.old journal.new (D.told outside.old) (D.told outside.new) }
-    ensures keeping { Keeping journal.new process.new.locks.names }
+    ensures carries { Carries (tested flags (asking_of text.now question.now) (mind_of run.old.process))
+        (λ outcome. come_with outcome (mind_of run.new.process)) result
+        run.old.journal run.new.journal (D.told run.old.outside) (D.told run.new.outside) }
 {
     if text.starts_with(b"?") {
         let line = past_blanks(&text[1..]);
-        return ask_line(alloc, line, question, flags, process, outside, journal);
+        return ask_line(alloc, run, line, question, flags);
     }
     test(
         alloc,
         text,
         question,
         flags,
-        &mut process.message,
-        &process.vars,
+        &mut run.process.message,
+        &run.process.vars,
     )
 }
 
 // What comes of a program's line. One that can't be run makes the condition a defect.
 fn ask_line<D: Asks>(
     alloc: Global,
+    run: &mut Run<D>,
     line: &[u8],
     question: &Question,
     flags: Flags,
-    process: &mut Process,
-    outside: &mut D,
-    journal: &mut Journal,
 ) -> Result<Outcome, Memory>
-    requires keeping { Keeping journal.old process.old.locks.names }
-    ensures carries { Carries (Judging.ask_line line.now flags question.now (mind_of process.old))
-        (λ outcome. come_with outcome (mind_of process.new)) result
-        journal.old journal.new (D.told outside.old) (D.told outside.new) }
-    ensures keeping { Keeping journal.new process.new.locks.names }
+    ensures carries { Carries (Judging.ask_line line.now flags question.now (mind_of run.old.process))
+        (λ outcome. come_with outcome (mind_of run.new.process)) result
+        run.old.journal run.new.journal (D.told run.old.outside) (D.told run.new.outside) }
 {
-    match read_line(alloc, line, process, outside, journal)? {
-        ProgramLine::Runs(command) => {
-            ask_program(
-                alloc, command, line, question, flags, process, outside, journal,
-            )
-        }
+    match read_line(alloc, run, line)? {
+        ProgramLine::Runs(command) => ask_program(alloc, run, command, line, question, flags),
         ProgramLine::NoWords => Ok(Outcome::Defective),
         ProgramLine::Unusable => Ok(Outcome::Defective),
         ProgramLine::TooLong(length) => Ok(Outcome::TooLong(length)),
@@ -197,32 +160,28 @@ fn ask_line<D: Asks>(
 // What comes of a program, which gets what the condition names.
 fn ask_program<D: Asks>(
     alloc: Global,
+    run: &mut Run<D>,
     command: Command,
     line: &[u8],
     question: &Question,
     flags: Flags,
-    process: &mut Process,
-    outside: &mut D,
-    journal: &mut Journal,
 ) -> Result<Outcome, Memory>
-    requires keeping { Keeping journal.old process.old.locks.names }
-    ensures carries { Carries (Judging.ask_program command line.now flags question.now (mind_of process.old))
-        (λ outcome. come_with outcome (mind_of process.new)) result
-        journal.old journal.new (D.told outside.old) (D.told outside.new) }
-    ensures keeping { Keeping journal.new process.new.locks.names }
+    ensures carries { Carries (Judging.ask_program command line.now flags question.now (mind_of run.old.process))
+        (λ outcome. come_with outcome (mind_of run.new.process)) result
+        run.old.journal run.new.journal (D.told run.old.outside) (D.told run.new.outside) }
 {
     let scope = &question.scope;
-    let input = program_input(alloc, scope, flags, &process.message, &process.vars)?;
-    let end = run(
+    let input = program_input(alloc, scope, flags, &run.process.message, &run.process.vars)?;
+    let end = pm_journal::run(
         alloc,
-        &process.locks,
+        &run.process.locks,
         command,
         input,
         false,
-        outside,
-        journal,
+        &mut run.outside,
+        &mut run.journal,
     )?;
-    note_code(end, process);
-    tell_run(alloc, end, line, process, outside, journal)?;
+    note_code(end, &mut run.process);
+    tell_run(alloc, run, end, line)?;
     Ok(exited(question, code_of(end)))
 }

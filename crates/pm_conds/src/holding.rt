@@ -13,13 +13,15 @@ ghost use Rattle.pm_conds.specs.Holding.{Holds, verdict_of};
 
 use crate::asked::Asked;
 use crate::conditions::judge;
+use core::mem::replace_with;
 use pm_bytes::{Blob, Memory};
 use pm_host::{Host, Sink};
 use pm_journal::{Asks, Journal, defective_condition, value_too_long};
 use pm_meaning::question::Judgement;
-use pm_meaning::{Process, tell};
+use pm_meaning::{Process, Run, tell};
 use pm_recipe::{Condition, Flags};
 use std::alloc::Global;
+use std::mem;
 
 /// Whether a recipe's conditions match it. After `Memory` some of their acts were done and noted, or none.
 #[derive(Clone, Copy, Debug, PartialEq, Eq)]
@@ -79,87 +81,150 @@ fn hold_lent<'a, H: Host, E: Sink>(
     ensures host { asked.new.host.ghost_name ≡ asked.old.host.ghost_name }
     ensures err { asked.new.err.ghost_name ≡ asked.old.err.ghost_name }
 {
-    answered(conditions_hold(alloc, conditions, flags, mind, asked, journal))
+    answered(hold_parts(alloc, conditions, flags, mind, asked, journal))
 }
 
-/// The same as [`holds`] for a caller that asks by a trait of its own: whether the conditions hold; a defect is told.
-pub fn conditions_hold<D: Asks>(
+// Whether the conditions hold, by the parts of a run.
+fn hold_parts<D: Asks>(
     alloc: Global,
     conditions: &[Condition],
     flags: Flags,
-    process: &mut Process,
+    mind: &mut Process,
     outside: &mut D,
     journal: &mut Journal,
 ) -> Result<bool, Memory>
-    requires keeping { Keeping journal.old process.old.locks.names }
-    ensures carries { Carries (holding conditions.now flags (mind_of process.old))
-        (λ held. held_with held (mind_of process.new)) result
+    requires keeping { Keeping journal.old mind.old.locks.names }
+    ensures carries { Carries (holding conditions.now flags (mind_of mind.old))
+        (λ held. held_with held (mind_of mind.new)) result
         journal.old journal.new (D.told outside.old) (D.told outside.new) }
-    ensures keeping { Keeping journal.new process.new.locks.names }
+    ensures keeping { Keeping journal.new mind.new.locks.names }
 {
-    let judgement = judge(alloc, conditions, flags, process, outside, journal)?;
-    tell_judgement(alloc, judgement, process, outside, journal)
+    let blank = Process::blank(alloc)?;
+    let asking = Asking {
+        alloc,
+        conditions,
+        flags,
+        process: mem::replace(mind, blank),
+        journal: mem::replace(journal, Journal::new(alloc)),
+    };
+    let Held {
+        held,
+        process,
+        journal: noted,
+    } = replace_with(outside, asking, hold_all);
+    drop(mem::replace(mind, process));
+    *journal = noted;
+    held
+}
+
+// What is asked of a process.
+struct Asking<'a> {
+    alloc: Global,
+    conditions: &'a [Condition],
+    flags: Flags,
+    process: Process,
+    journal: Journal,
+}
+
+// Whether the conditions hold, with the process and the journal afterwards.
+struct Held {
+    held: Result<bool, Memory>,
+    process: Process,
+    journal: Journal,
+}
+
+// The same, while what does the acts is the run's own.
+fn hold_all<D: Asks>(outside: D, asking: Asking<'_>) -> (D, Held)
+    requires keeping { Keeping asking.journal asking.process.locks.names }
+    ensures carries { Carries
+        (holding asking.entry.conditions.now asking.entry.flags (mind_of asking.entry.process))
+        (λ held. held_with held (mind_of result.1.process)) result.1.held
+        asking.entry.journal result.1.journal (D.told outside) (D.told result.0) }
+    ensures keeping { Keeping result.1.journal result.1.process.locks.names }
+{
+    let Asking {
+        alloc,
+        conditions,
+        flags,
+        process,
+        journal,
+    } = asking;
+    let mut run = Run {
+        process,
+        journal,
+        outside,
+    };
+    let held = conditions_hold(alloc, &mut run, conditions, flags);
+    let Run {
+        process,
+        journal,
+        outside,
+    } = run;
+    (
+        outside,
+        Held {
+            held,
+            process,
+            journal,
+        },
+    )
+}
+
+/// The same as [`holds`] for a run: whether the conditions hold; a defect is told.
+pub fn conditions_hold<D: Asks>(
+    alloc: Global,
+    run: &mut Run<D>,
+    conditions: &[Condition],
+    flags: Flags,
+) -> Result<bool, Memory>
+    ensures carries { Carries (holding conditions.now flags (mind_of run.old.process))
+        (λ held. held_with held (mind_of run.new.process)) result
+        run.old.journal run.new.journal (D.told run.old.outside) (D.told run.new.outside) }
+{
+    let judgement = judge(alloc, run, conditions, flags)?;
+    tell_judgement(alloc, run, judgement)
 }
 
 // Whether they hold; a defect is told.
 fn tell_judgement<D: Asks>(
     alloc: Global,
+    run: &mut Run<D>,
     judgement: Judgement,
-    process: &mut Process,
-    outside: &mut D,
-    journal: &mut Journal,
 ) -> Result<bool, Memory>
-    requires keeping { Keeping journal.old process.old.locks.names }
-    ensures carries { Carries (told_judgement judgement (mind_of process.old))
-        (λ held. held_with held (mind_of process.new)) result
-        journal.old journal.new (D.told outside.old) (D.told outside.new) }
-    ensures keeping { Keeping journal.new process.new.locks.names }
+    ensures carries { Carries (told_judgement judgement (mind_of run.old.process))
+        (λ held. held_with held (mind_of run.new.process)) result
+        run.old.journal run.new.journal (D.told run.old.outside) (D.told run.new.outside) }
 {
     match judgement {
         Judgement::Matched => Ok(true),
         Judgement::Unmatched => Ok(false),
-        Judgement::Defective(text) => tell_defect(alloc, text, process, outside, journal),
-        Judgement::TooLong(length) => tell_long(alloc, length, process, outside, journal),
+        Judgement::Defective(text) => tell_defect(alloc, run, text),
+        Judgement::TooLong(length) => tell_long(alloc, run, length),
     }
 }
 
 // A condition that is none doesn't hold.
-fn tell_defect<D: Asks>(
-    alloc: Global,
-    text: Blob,
-    process: &Process,
-    outside: &mut D,
-    journal: &mut Journal,
-) -> Result<bool, Memory>
-    requires keeping { Keeping journal.old process.now.locks.names }
-    ensures carries { let p = mind_of process.now in
+fn tell_defect<D: Asks>(alloc: Global, run: &mut Run<D>, text: Blob) -> Result<bool, Memory>
+    ensures carries { let p = mind_of run.old.process in
         Carries (say_then p (defective_condition_line text) (held_with false p)) (λ held. held_with held p) result
-        journal.old journal.new (D.told outside.old) (D.told outside.new) }
-    ensures keeping { Keeping journal.new process.now.locks.names }
+        run.old.journal run.new.journal (D.told run.old.outside) (D.told run.new.outside) }
+    ensures same { run.new.process ≡ run.old.process }
 {
     let line = defective_condition(alloc, text.as_slice())?;
-    tell(alloc, process, line, outside, journal)?;
+    tell(alloc, run, line)?;
     Ok(false)
 }
 
 // One whose value is too long doesn't hold, and PROCMAIL_OVERFLOW is set.
-fn tell_long<D: Asks>(
-    alloc: Global,
-    length: u64,
-    process: &mut Process,
-    outside: &mut D,
-    journal: &mut Journal,
-) -> Result<bool, Memory>
-    requires keeping { Keeping journal.old process.old.locks.names }
-    ensures carries { let p = mind_of process.old in
+fn tell_long<D: Asks>(alloc: Global, run: &mut Run<D>, length: u64) -> Result<bool, Memory>
+    ensures carries { let p = mind_of run.old.process in
         Carries (say_then p (value_too_long_line length) (held_with false (overflowed p)))
-        (λ held. held_with held (mind_of process.new)) result
-        journal.old journal.new (D.told outside.old) (D.told outside.new) }
-    ensures keeping { Keeping journal.new process.new.locks.names }
+        (λ held. held_with held (mind_of run.new.process)) result
+        run.old.journal run.new.journal (D.told run.old.outside) (D.told run.new.outside) }
 {
     let line = value_too_long(alloc, length)?;
     let mark = Blob::from_slice(alloc, b"yes")?;
-    tell(alloc, process, line, outside, journal)?;
-    process.vars.set(b"PROCMAIL_OVERFLOW", mark)?;
+    tell(alloc, run, line)?;
+    run.process.vars.set(b"PROCMAIL_OVERFLOW", mark)?;
     Ok(false)
 }

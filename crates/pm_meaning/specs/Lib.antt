@@ -30,6 +30,7 @@ pub mod RunExamples
 pub mod ConditionExamples
 pub mod ActExamples
 -- What the code that logs, expands and runs commands answers.
+pub mod KeepsProp
 pub mod UsableNames
 pub mod Expanding
 pub mod Telling

@@ -13,6 +13,7 @@ pub mod outputs;
 pub mod process;
 pub mod programs;
 pub mod question;
+pub mod run;
 pub mod skipping;
 pub mod status;
 pub mod telling;
@@ -29,6 +30,7 @@ pub use process::{Attempt, Destination, End, Filed, Outcome, Process, ProgramLin
 pub use programs::{
     code_of, expanded_line, needs_shell, note_code, shell_line, value_or, words_line,
 };
+pub use run::Run;
 pub use skipping::skip_value;
 pub use status::{Status, status_of};
 pub use telling::{log_name, tell, tell_in};

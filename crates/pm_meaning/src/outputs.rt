@@ -1,7 +1,6 @@
 //! The outputs of backquoted commands (procmailrc(5), "Environment").
 ghost use Rattle.std.specs.Prelude.{◌≡◌, [], length, true, IfOk};
 ghost use Rattle.pm_journal.specs.Executed.{Carries};
-ghost use Rattle.pm_journal.specs.Held.{Keeping};
 ghost use Rattle.pm_journal.specs.LogText.{unusable_name_line, value_too_long_line};
 ghost use Rattle.pm_journal.specs.Outcomes;
 ghost use Rattle.pm_meaning.specs.Changes.{overflowed};
@@ -16,11 +15,11 @@ ghost use Rattle.pm_meaning.specs.Ready.{ready_of, told};
 
 use crate::programs::{command_line, expanded_line, needs_shell, note_code, shell_line};
 use crate::telling::tell;
-use crate::{Process, ProgramLine};
+use crate::{ProgramLine, Run};
 use pm_bytes::{Blob, Memory};
 use pm_host::Command;
 use pm_journal::{
-    Asks, Journal, RunEnd, couldnt_start, lost_contact, output_too_long, run, unusable_name,
+    Asks, Journal, RunEnd, couldnt_start, lost_contact, output_too_long, unusable_name,
     value_too_long,
 };
 use pm_subst::{Mode, commands};
@@ -39,22 +38,18 @@ pub struct Ready {
 /// Runs the commands of a lock file's text, and then those of the action's text.
 pub fn make_ready<D: Asks>(
     alloc: Global,
+    run: &mut Run<D>,
     lock_commands: &[Blob],
     commands: &[Blob],
-    process: &mut Process,
-    outside: &mut D,
-    journal: &mut Journal,
 ) -> Result<Ready, Memory>
-    requires keeping { Keeping journal.old process.old.locks.names }
-    ensures carries { Carries (Delivering.make_ready lock_commands.now commands.now (mind_of process.old))
-        (λ ready. ready_of ready (mind_of process.new)) result
-        journal.old journal.new (D.told outside.old) (D.told outside.new) }
+    ensures carries { Carries (Delivering.make_ready lock_commands.now commands.now (mind_of run.old.process))
+        (λ ready. ready_of ready (mind_of run.new.process)) result
+        run.old.journal run.new.journal (D.told run.old.outside) (D.told run.new.outside) }
     ensures locks { IfOk result (λ ready. length ready.lock_outputs.items ≡ length lock_commands.now) }
     ensures each { IfOk result (λ ready. length ready.outputs.items ≡ length commands.now) }
-    ensures keeping { Keeping journal.new process.new.locks.names }
 {
-    let lock_outputs = run_each(alloc, lock_commands, process, outside, journal)?;
-    let outputs = run_each(alloc, commands, process, outside, journal)?;
+    let lock_outputs = run_each(alloc, run, lock_commands)?;
+    let outputs = run_each(alloc, run, commands)?;
     Ok(Ready {
         lock_outputs,
         outputs,
@@ -64,120 +59,92 @@ pub fn make_ready<D: Asks>(
 /// Runs the commands of a text from left to right, and answers their outputs.
 pub fn outputs_of<D: Asks>(
     alloc: Global,
+    run: &mut Run<D>,
     text: &[u8],
     mode: Mode,
-    process: &mut Process,
-    outside: &mut D,
-    journal: &mut Journal,
 ) -> Result<Vec<Blob>, Memory>
-    requires keeping { Keeping journal.old process.old.locks.names }
-    ensures carries { Carries (Outputs.outputs_of (commands_in mode text.now) (mind_of process.old))
-        (λ outputs. outputs_with outputs.items (mind_of process.new)) result
-        journal.old journal.new (D.told outside.old) (D.told outside.new) }
+    ensures carries { Carries (Outputs.outputs_of (commands_in mode text.now) (mind_of run.old.process))
+        (λ outputs. outputs_with outputs.items (mind_of run.new.process)) result
+        run.old.journal run.new.journal (D.told run.old.outside) (D.told run.new.outside) }
     ensures each { IfOk result (λ outputs. length outputs.items ≡ length (commands_in mode text.now)) }
-    ensures keeping { Keeping journal.new process.new.locks.names }
 {
     let commands = commands(alloc, text, mode)?;
-    run_each(alloc, commands.as_slice(), process, outside, journal)
+    run_each(alloc, run, commands.as_slice())
 }
 
 /// Reads a program's line, after the commands of one that no shell runs.
 pub fn read_line<D: Asks>(
     alloc: Global,
+    run: &mut Run<D>,
     line: &[u8],
-    process: &mut Process,
-    outside: &mut D,
-    journal: &mut Journal,
 ) -> Result<ProgramLine, Memory>
-    requires keeping { Keeping journal.old process.old.locks.names }
-    ensures carries { Carries (Outputs.read_line line.now (mind_of process.old))
-        (λ read. read_with read (mind_of process.new)) result
-        journal.old journal.new (D.told outside.old) (D.told outside.new) }
-    ensures keeping { Keeping journal.new process.new.locks.names }
+    ensures carries { Carries (Outputs.read_line line.now (mind_of run.old.process))
+        (λ read. read_with read (mind_of run.new.process)) result
+        run.old.journal run.new.journal (D.told run.old.outside) (D.told run.new.outside) }
 {
-    if needs_shell(line, process) {
-        return shell_line(alloc, line, process);
+    if needs_shell(line, &run.process) {
+        return shell_line(alloc, line, &run.process);
     }
-    let outputs = outputs_of(alloc, line, Mode::Many, process, outside, journal)?;
-    expanded_line(alloc, line, outputs.as_slice(), process)
+    let outputs = outputs_of(alloc, run, line, Mode::Many)?;
+    expanded_line(alloc, line, outputs.as_slice(), &run.process)
 }
 
 // Runs each of these commands, and answers their outputs in the same order.
 fn run_each<D: Asks>(
     alloc: Global,
+    run: &mut Run<D>,
     commands: &[Blob],
-    process: &mut Process,
-    outside: &mut D,
-    journal: &mut Journal,
 ) -> Result<Vec<Blob>, Memory>
-    requires keeping { Keeping journal.old process.old.locks.names }
-    ensures carries { Carries (Outputs.outputs_of commands.now (mind_of process.old))
-        (λ outputs. outputs_with outputs.items (mind_of process.new)) result
-        journal.old journal.new (D.told outside.old) (D.told outside.new) }
+    ensures carries { Carries (Outputs.outputs_of commands.now (mind_of run.old.process))
+        (λ outputs. outputs_with outputs.items (mind_of run.new.process)) result
+        run.old.journal run.new.journal (D.told run.old.outside) (D.told run.new.outside) }
     ensures each { IfOk result (λ outputs. length outputs.items ≡ length commands.now) }
-    ensures keeping { Keeping journal.new process.new.locks.names }
 {
     let mut outputs = Vec::new(alloc);
     for command in commands {
-        let output = run_text(alloc, command.as_slice(), process, outside, journal)?;
+        let output = run_text(alloc, run, command.as_slice())?;
         outputs.push(output)?;
     }
     Ok(outputs)
 }
 
 // Runs a command, and answers its output.
-fn run_text<D: Asks>(
-    alloc: Global,
-    text: &[u8],
-    process: &mut Process,
-    outside: &mut D,
-    journal: &mut Journal,
-) -> Result<Blob, Memory>
-    requires keeping { Keeping journal.old process.old.locks.names }
-    ensures carries { Carries (output_of text.now (mind_of process.old))
-        (λ output. output_with output (mind_of process.new)) result
-        journal.old journal.new (D.told outside.old) (D.told outside.new) }
-    ensures keeping { Keeping journal.new process.new.locks.names }
+fn run_text<D: Asks>(alloc: Global, run: &mut Run<D>, text: &[u8]) -> Result<Blob, Memory>
+    ensures carries { Carries (output_of text.now (mind_of run.old.process))
+        (λ output. output_with output (mind_of run.new.process)) result
+        run.old.journal run.new.journal (D.told run.old.outside) (D.told run.new.outside) }
 {
-    match command_line(alloc, text, process)? {
-        ProgramLine::Runs(command) => {
-            run_command(alloc, command, text, process, outside, journal)
-        }
-        ProgramLine::NoWords | ProgramLine::Unusable => {
-            tell_unusable(alloc, text, process, outside, journal)
-        }
-        ProgramLine::TooLong(length) => tell_long(alloc, length, process, outside, journal),
+    match command_line(alloc, text, &run.process)? {
+        ProgramLine::Runs(command) => run_command(alloc, run, command, text),
+        ProgramLine::NoWords | ProgramLine::Unusable => tell_unusable(alloc, run, text),
+        ProgramLine::TooLong(length) => tell_long(alloc, run, length),
     }
 }
 
 // Runs the program of a command with the whole mail as its input.
 fn run_command<D: Asks>(
     alloc: Global,
+    run: &mut Run<D>,
     command: Command,
     text: &[u8],
-    process: &mut Process,
-    outside: &mut D,
-    journal: &mut Journal,
 ) -> Result<Blob, Memory>
-    requires keeping { Keeping journal.old process.old.locks.names }
-    ensures carries { Carries (Outputs.run_command command text.now (mind_of process.old))
-        (λ output. output_with output (mind_of process.new)) result
-        journal.old journal.new (D.told outside.old) (D.told outside.new) }
-    ensures keeping { Keeping journal.new process.new.locks.names }
+    ensures carries { Carries (Outputs.run_command command text.now (mind_of run.old.process))
+        (λ output. output_with output (mind_of run.new.process)) result
+        run.old.journal run.new.journal (D.told run.old.outside) (D.told run.new.outside) }
 {
-    let input = process.message.whole(alloc)?;
-    let end = run(
+    let input = run.process.message.whole(alloc)?;
+    let end = pm_journal::run(
         alloc,
-        &process.locks,
+        &run.process.locks,
         command,
         input,
         true,
-        outside,
-        journal,
+        &mut run.outside,
+        &mut run.journal,
     )?;
-    note_code(end, process);
-    let output = taken_output(alloc, journal)?;
-    tell_run(alloc, end, text, process, outside, journal)?;
+    note_code(end, &mut run.process);
+    let output = taken_output(alloc, &run.journal)?;
+    tell_run(alloc, run, end, text)?;
     Ok(output)
 }
 
@@ -199,20 +166,17 @@ fn taken_output(alloc: Global, journal: &Journal) -> Result<Blob, Memory>
 /// Tells of a program of this line that wasn't started, was lost, or wrote too much.
 pub fn tell_run<D: Asks>(
     alloc: Global,
+    run: &mut Run<D>,
     end: RunEnd,
     line: &[u8],
-    process: &Process,
-    outside: &mut D,
-    journal: &mut Journal,
 ) -> Result<(), Memory>
-    requires keeping { Keeping journal.old process.now.locks.names }
-    ensures carries { Carries (Outputs.tell_run end line.now (mind_of process.now) told) (λ _. told) result
-        journal.old journal.new (D.told outside.old) (D.told outside.new) }
-    ensures keeping { Keeping journal.new process.now.locks.names }
+    ensures carries { Carries (Outputs.tell_run end line.now (mind_of run.old.process) told) (λ _. told) result
+        run.old.journal run.new.journal (D.told run.old.outside) (D.told run.new.outside) }
+    ensures same { run.new.process ≡ run.old.process }
 {
     match run_fault(alloc, end, line)? {
         None => Ok(()),
-        Some(text) => tell(alloc, process, text, outside, journal),
+        Some(text) => tell(alloc, run, text),
     }
 }
 
@@ -229,43 +193,28 @@ fn run_fault(alloc: Global, end: RunEnd, line: &[u8]) -> Result<Option<Blob>, Me
 }
 
 // A command that can't be run is told, and has no output.
-fn tell_unusable<D: Asks>(
-    alloc: Global,
-    text: &[u8],
-    process: &Process,
-    outside: &mut D,
-    journal: &mut Journal,
-) -> Result<Blob, Memory>
-    requires keeping { Keeping journal.old process.now.locks.names }
-    ensures carries { let p = mind_of process.now in
+fn tell_unusable<D: Asks>(alloc: Global, run: &mut Run<D>, text: &[u8]) -> Result<Blob, Memory>
+    ensures carries { let p = mind_of run.old.process in
         Carries (say_then p (unusable_name_line text.now) (output_with [] p))
         (λ output. output_with output p) result
-        journal.old journal.new (D.told outside.old) (D.told outside.new) }
-    ensures keeping { Keeping journal.new process.now.locks.names }
+        run.old.journal run.new.journal (D.told run.old.outside) (D.told run.new.outside) }
+    ensures same { run.new.process ≡ run.old.process }
 {
     let line = unusable_name(alloc, text)?;
-    tell(alloc, process, line, outside, journal)?;
+    tell(alloc, run, line)?;
     Ok(Blob::empty(alloc))
 }
 
 // A command that expands to too many bytes is told, and has no output.
-fn tell_long<D: Asks>(
-    alloc: Global,
-    length: u64,
-    process: &mut Process,
-    outside: &mut D,
-    journal: &mut Journal,
-) -> Result<Blob, Memory>
-    requires keeping { Keeping journal.old process.old.locks.names }
-    ensures carries { let p = mind_of process.old in
+fn tell_long<D: Asks>(alloc: Global, run: &mut Run<D>, length: u64) -> Result<Blob, Memory>
+    ensures carries { let p = mind_of run.old.process in
         Carries (say_then p (value_too_long_line length) (output_with [] (overflowed p)))
-        (λ output. output_with output (mind_of process.new)) result
-        journal.old journal.new (D.told outside.old) (D.told outside.new) }
-    ensures keeping { Keeping journal.new process.new.locks.names }
+        (λ output. output_with output (mind_of run.new.process)) result
+        run.old.journal run.new.journal (D.told run.old.outside) (D.told run.new.outside) }
 {
     let line = value_too_long(alloc, length)?;
     let mark = Blob::from_slice(alloc, b"yes")?;
-    tell(alloc, process, line, outside, journal)?;
-    process.vars.set(b"PROCMAIL_OVERFLOW", mark)?;
+    tell(alloc, run, line)?;
+    run.process.vars.set(b"PROCMAIL_OVERFLOW", mark)?;
     Ok(Blob::empty(alloc))
 }

@@ -1,10 +1,13 @@
 //! A process that runs recipes, what comes of a delivery, and how a process ends.
-use crate::Chain;
-use pm_bytes::{Blob, Name};
+ghost use Rattle.std.specs.Prelude.{◌≡◌, [], IfOk};
+
+use crate::{Chain, new_chain};
+use pm_bytes::{Blob, Memory, Name};
 use pm_host::Command;
 use pm_journal::{FolderKind, HeldLocks};
 use pm_message::Mail;
 use pm_vars::Vars;
+use std::alloc::Global;
 use std::collections::VecDeque;
 
 /// The state of a process: the message that it delivers, its variables, the folder `base` from which names are seen
@@ -31,6 +34,35 @@ pub struct Process {
     pub is_clone: bool,
     pub later: VecDeque<Name>,
     pub stored: Stored,
+}
+
+impl Process {
+    /// A process without a mail, a variable or a name, for the place of one that is taken out of it for a time.
+    pub fn blank(alloc: Global) -> Result<Process, Memory>
+        ensures { IfOk result (λ process. process.locks.names ≡ []) }
+    {
+        let message = Mail::split(alloc, Blob::empty(alloc))?;
+        Ok(Process {
+            filter: false,
+            fails_softly: false,
+            message,
+            vars: Vars::new(alloc, 0),
+            base: Name::from_text(String::new(alloc)),
+            host_name: Name::from_text(String::new(alloc)),
+            locks: HeldLocks::new(alloc),
+            global: None,
+            chain: new_chain(),
+            placed: 0,
+            rcfile: Name::from_text(String::new(alloc)),
+            openings: 0,
+            is_clone: false,
+            later: VecDeque::new(alloc),
+            stored: Stored {
+                folder: Blob::empty(alloc),
+                size: 0,
+            },
+        })
+    }
 }
 
 /// Where the mail was last delivered to, as LASTFOLDER has it, and how many bytes were (procmailrc(5), "Environment").

@@ -15,12 +15,12 @@ ghost use Rattle.pm_run.specs.Turned.{turn_in};
 
 use crate::global_lock::{change_lock, drop_lock};
 use crate::turned::{Turned, turned_by};
-use pm_actions::{Run, refuse};
+use pm_actions::refuse;
 use pm_bytes::{Blob, Memory, Name, full, read_count};
 use pm_host::Looked;
 use pm_journal::{Effects, couldnt_chdir, host_mismatched, probe, unusable_name};
 use pm_meaning::{
-    End, Expansion, Process, expand_text, file_name, first_word, outputs_of, skip_value, tell,
+    End, Expansion, Process, Run, expand_text, file_name, first_word, outputs_of, skip_value, tell,
 };
 use pm_subst::Mode;
 use std::alloc::Global;
@@ -36,14 +36,7 @@ pub fn assign_text<D: Effects>(
         (λ turned. turn_in turned (mind_of run.new.process)) result
         run.old.journal run.new.journal (D.told run.old.outside) (D.told run.new.outside) }
 {
-    let outputs = outputs_of(
-        alloc,
-        text,
-        Mode::One,
-        &mut run.process,
-        &mut run.outside,
-        &mut run.journal,
-    )?;
+    let outputs = outputs_of(alloc, run, text, Mode::One)?;
     assign_expanded(alloc, run, name, text, outputs.as_slice())
 }
 
@@ -65,13 +58,7 @@ fn assign_expanded<D: Effects>(
             let value = first_word(alloc, words);
             assign_value(alloc, run, name, value)
         }
-        Expansion::TooLong(length) => turned_by(skip_value(
-            alloc,
-            length,
-            &mut run.process,
-            &mut run.outside,
-            &mut run.journal,
-        )),
+        Expansion::TooLong(length) => turned_by(skip_value(alloc, run, length)),
     }
 }
 
@@ -125,13 +112,7 @@ fn log_value<D: Effects>(alloc: Global, run: &mut Run<D>, value: &[u8]) -> Resul
     ensures same { run.new.process ≡ run.old.process }
 {
     let line = Blob::from_slice(alloc, value)?;
-    tell(
-        alloc,
-        &run.process,
-        line,
-        &mut run.outside,
-        &mut run.journal,
-    )?;
+    tell(alloc, run, line)?;
     Ok(Turned::Goes)
 }
 
@@ -194,13 +175,7 @@ fn change_host<D: Effects>(alloc: Global, run: &mut Run<D>, value: &[u8]) -> Res
         return Ok(Turned::Goes);
     }
     let line = host_mismatched(alloc, value)?;
-    tell(
-        alloc,
-        &run.process,
-        line,
-        &mut run.outside,
-        &mut run.journal,
-    )?;
+    tell(alloc, run, line)?;
     Ok(Turned::Halts(End::HostOff))
 }
 
@@ -275,13 +250,7 @@ fn move_to_folder<D: Effects>(
         }
         None => {
             let line = unusable_name(alloc, value)?;
-            tell(
-                alloc,
-                &run.process,
-                line,
-                &mut run.outside,
-                &mut run.journal,
-            )?;
+            tell(alloc, run, line)?;
             Ok(None)
         }
     }
@@ -304,13 +273,7 @@ fn probe_folder<D: Effects>(
         }
         _ => {
             let line = couldnt_chdir(alloc, &folder)?;
-            tell(
-                alloc,
-                &run.process,
-                line,
-                &mut run.outside,
-                &mut run.journal,
-            )?;
+            tell(alloc, run, line)?;
             Ok(None)
         }
     }

@@ -14,10 +14,9 @@ ghost use Rattle.pm_run.specs.Stretches.{Proceeds};
 use crate::copies::copy_for_block;
 use crate::frames::RcFrame;
 use crate::queue::Queue;
-use pm_actions::Run;
 use pm_bytes::Memory;
 use pm_journal::{Effects, too_many_clones};
-use pm_meaning::{succeed, tell};
+use pm_meaning::{Run, succeed, tell};
 use std::alloc::Global;
 
 /// The most copies that a run makes.
@@ -60,11 +59,5 @@ fn refuse_clone<D: Effects>(alloc: Global, run: &mut Run<D>) -> Result<(), Memor
     ensures same { run.new.process ≡ run.old.process }
 {
     let line = too_many_clones(alloc)?;
-    tell(
-        alloc,
-        &run.process,
-        line,
-        &mut run.outside,
-        &mut run.journal,
-    )
+    tell(alloc, run, line)
 }

@@ -10,10 +10,10 @@ ghost use Rattle.pm_run.specs.Drafts.{IsDrafted, is_draft_for};
 
 use crate::draft::Draft;
 use crate::falling_off::value;
-use pm_actions::{Run, logs_last, mail_part, push_folder};
+use pm_actions::{logs_last, mail_part, push_folder};
 use pm_bytes::{Blob, Memory};
 use pm_journal::Effects;
-use pm_meaning::{Process, log_name, tell_in};
+use pm_meaning::{Process, Run, log_name, tell_in};
 use std::alloc::Global;
 
 /// How many bytes a draft has room for after the mail's part: twice the longest name of a file, and the other words.
@@ -69,11 +69,5 @@ pub fn tell_draft<D: Effects>(run: &mut Run<D>, draft: Draft) -> Result<(), Memo
 {
     let Draft { mut text, file, .. } = draft;
     push_folder(&run.process.stored, &mut text)?;
-    tell_in(
-        file,
-        &run.process,
-        Blob::from_vec(text),
-        &mut run.outside,
-        &mut run.journal,
-    )
+    tell_in(run, file, Blob::from_vec(text))
 }

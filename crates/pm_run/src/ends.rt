@@ -26,12 +26,12 @@ use crate::drafting::{is_for, tell_draft};
 use crate::falling_off::value;
 use crate::global_lock::give_lock;
 use itoa::Buffer;
-use pm_actions::{Run, abstract_of, logs_last};
+use pm_actions::{abstract_of, logs_last};
 use pm_bytes::{Blob, Memory, read_count};
 use pm_host::Command;
 use pm_journal::{Effects, unusable_name, value_too_long};
 use pm_meaning::{
-    End, Ending, Process, ProgramLine, Status, code_of, note_code, read_line, status_of, tell,
+    End, Ending, Process, ProgramLine, Run, Status, code_of, note_code, read_line, status_of, tell,
     tell_run,
 };
 use std::alloc::Global;
@@ -89,13 +89,7 @@ fn tell_abstract<D: Effects>(
         }
     }
     let text = abstract_of(alloc, &run.process)?;
-    tell(
-        alloc,
-        &run.process,
-        text,
-        &mut run.outside,
-        &mut run.journal,
-    )
+    tell(alloc, run, text)
 }
 
 // Whether the abstract is logged.
@@ -180,13 +174,7 @@ fn trap_line<D: Effects>(alloc: Global, run: &mut Run<D>, text: &[u8]) -> Result
         (λ code. trapped_with code (mind_of run.new.process)) result
         run.old.journal run.new.journal (D.told run.old.outside) (D.told run.new.outside) }
 {
-    let line = read_line(
-        alloc,
-        text,
-        &mut run.process,
-        &mut run.outside,
-        &mut run.journal,
-    )?;
+    let line = read_line(alloc, run, text)?;
     trap_by(alloc, run, line, text)
 }
 
@@ -231,14 +219,7 @@ fn run_trap<D: Effects>(
         &mut run.journal,
     )?;
     note_code(end, &mut run.process);
-    tell_run(
-        alloc,
-        end,
-        text,
-        &run.process,
-        &mut run.outside,
-        &mut run.journal,
-    )?;
+    tell_run(alloc, run, end, text)?;
     Ok(code_of(end))
 }
 
@@ -251,13 +232,7 @@ fn tell_unusable<D: Effects>(alloc: Global, run: &mut Run<D>, text: &[u8]) -> Re
     ensures same { run.new.process ≡ run.old.process }
 {
     let line = unusable_name(alloc, text)?;
-    tell(
-        alloc,
-        &run.process,
-        line,
-        &mut run.outside,
-        &mut run.journal,
-    )?;
+    tell(alloc, run, line)?;
     Ok(127)
 }
 
@@ -270,13 +245,7 @@ fn tell_long<D: Effects>(alloc: Global, run: &mut Run<D>, length: u64) -> Result
 {
     let line = value_too_long(alloc, length)?;
     let mark = Blob::from_slice(alloc, b"yes")?;
-    tell(
-        alloc,
-        &run.process,
-        line,
-        &mut run.outside,
-        &mut run.journal,
-    )?;
+    tell(alloc, run, line)?;
     run.process.vars.set(b"PROCMAIL_OVERFLOW", mark)?;
     Ok(127)
 }

@@ -15,10 +15,10 @@ ghost use Rattle.pm_run.specs.Stretches.{Walks};
 
 use crate::draft::Draft;
 use crate::drafting::draft_for;
-use pm_actions::{Run, deliver_default};
+use pm_actions::deliver_default;
 use pm_bytes::{Blob, Memory};
 use pm_journal::{Effects, no_delivery};
-use pm_meaning::{End, tell};
+use pm_meaning::{End, Run, tell};
 use pm_vars::Vars;
 use std::alloc::Global;
 use std::collections::VecDeque;
@@ -118,12 +118,6 @@ fn lose<D: Effects>(alloc: Global, run: &mut Run<D>) -> Result<End, Memory>
     ensures same { run.new.process ≡ run.old.process }
 {
     let line = no_delivery(alloc)?;
-    tell(
-        alloc,
-        &run.process,
-        line,
-        &mut run.outside,
-        &mut run.journal,
-    )?;
+    tell(alloc, run, line)?;
     Ok(End::FellOff)
 }

@@ -20,11 +20,11 @@ ghost use Rattle.pm_meaning.specs.Turning.{turn_of};
 ghost use Rattle.pm_run.specs.Walk.{gate_turn};
 
 use crate::judging::{Come, come_to};
-use pm_actions::{Run, lock_rule, refuse};
+use pm_actions::{lock_rule, refuse};
 use pm_bytes::{Blob, Memory, Name, full};
 use pm_journal::{Effects, LockEnd, couldnt_lock, forcing_lock, no_lock, take};
 use pm_meaning::{
-    End, Expansion, Process, expand_text, file_name, first_word, outputs_of, skip_value, tell,
+    End, Expansion, Process, Run, expand_text, file_name, first_word, outputs_of, skip_value, tell,
 };
 use pm_recipe::Recipe;
 use pm_subst::Mode;
@@ -90,23 +90,10 @@ fn enter_under<D: Effects>(alloc: Global, run: &mut Run<D>, text: &[u8]) -> Resu
 {
     if text.is_empty() {
         let line = no_lock(alloc, b"{")?;
-        tell(
-            alloc,
-            &run.process,
-            line,
-            &mut run.outside,
-            &mut run.journal,
-        )?;
+        tell(alloc, run, line)?;
         return Ok(Gate::Enters(None));
     }
-    let outputs = outputs_of(
-        alloc,
-        text,
-        Mode::One,
-        &mut run.process,
-        &mut run.outside,
-        &mut run.journal,
-    )?;
+    let outputs = outputs_of(alloc, run, text, Mode::One)?;
     enter_expanded(alloc, run, text, outputs.as_slice())
 }
 
@@ -127,15 +114,7 @@ fn enter_expanded<D: Effects>(
             let value = first_word(alloc, words);
             lock_block(alloc, run, text, value.as_slice())
         }
-        Expansion::TooLong(length) => {
-            Ok(gate_by(skip_value(
-                alloc,
-                length,
-                &mut run.process,
-                &mut run.outside,
-                &mut run.journal,
-            )?))
-        }
+        Expansion::TooLong(length) => { Ok(gate_by(skip_value(alloc, run, length)?)) }
     }
 }
 
@@ -207,13 +186,7 @@ fn tell_forced<D: Effects>(
         return Ok(Gate::Enters(Some(name)));
     }
     let line = forcing_lock(alloc, shown)?;
-    tell(
-        alloc,
-        &run.process,
-        line,
-        &mut run.outside,
-        &mut run.journal,
-    )?;
+    tell(alloc, run, line)?;
     Ok(Gate::Enters(Some(name)))
 }
 
@@ -226,12 +199,6 @@ fn tell_not_got<D: Effects>(alloc: Global, run: &mut Run<D>, name: &Name) -> Res
     ensures same { run.new.process ≡ run.old.process }
 {
     let line = couldnt_lock(alloc, name)?;
-    tell(
-        alloc,
-        &run.process,
-        line,
-        &mut run.outside,
-        &mut run.journal,
-    )?;
+    tell(alloc, run, line)?;
     Ok(Gate::Passes)
 }

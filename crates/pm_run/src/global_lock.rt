@@ -15,12 +15,12 @@ ghost use Rattle.pm_meaning.specs.Turns.{GoesOn, say_then};
 ghost use Rattle.pm_meaning.specs.Turning.{turn_of};
 ghost use Rattle.pm_run.specs.RunningOut.{HinderedSince};
 
-use pm_actions::{Run, is_stuck, lock_rule, refuse};
+use pm_actions::{is_stuck, lock_rule, refuse};
 use pm_bytes::{Memory, Name, full};
 use pm_journal::{
     Effects, Journal, LockEnd, couldnt_lock, couldnt_unlock, forcing_lock, give, take,
 };
-use pm_meaning::{End, file_name, tell};
+use pm_meaning::{End, Run, file_name, tell};
 use std::alloc::Global;
 
 /// LOCKFILE got this value.
@@ -92,13 +92,7 @@ fn give_held<D: Effects>(alloc: Global, run: &mut Run<D>, name: &Name) -> Result
     run.process.global = None;
     if is_stuck(removed) {
         let line = couldnt_unlock(alloc, name)?;
-        tell(
-            alloc,
-            &run.process,
-            line,
-            &mut run.outside,
-            &mut run.journal,
-        )?;
+        tell(alloc, run, line)?;
     }
     Ok(())
 }
@@ -166,13 +160,7 @@ fn tell_forced<D: Effects>(
 {
     if forced > 0 {
         let line = forcing_lock(alloc, name)?;
-        tell(
-            alloc,
-            &run.process,
-            line,
-            &mut run.outside,
-            &mut run.journal,
-        )?;
+        tell(alloc, run, line)?;
     }
     Ok(None)
 }
@@ -190,12 +178,6 @@ fn tell_not_got<D: Effects>(
     ensures same { run.new.process ≡ run.old.process }
 {
     let line = couldnt_lock(alloc, name)?;
-    tell(
-        alloc,
-        &run.process,
-        line,
-        &mut run.outside,
-        &mut run.journal,
-    )?;
+    tell(alloc, run, line)?;
     Ok(None)
 }

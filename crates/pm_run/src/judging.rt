@@ -18,11 +18,11 @@ ghost use Rattle.pm_run.specs.RunningOut.{LeavesUndelivered, OfNew};
 
 use crate::draft::Draft;
 use crate::drafting::draft_for;
-use pm_actions::{Run, perform};
+use pm_actions::perform;
 use pm_bytes::Memory;
 use pm_conds::conditions_hold;
 use pm_journal::Effects;
-use pm_meaning::{End, Process, admits, after};
+use pm_meaning::{End, Process, Run, admits, after};
 use pm_recipe::{Flags, Recipe};
 use std::alloc::Global;
 
@@ -48,14 +48,7 @@ pub fn come_to<D: Effects>(alloc: Global, run: &mut Run<D>, recipe: &Recipe) -> 
         return Ok(Come::Ended(None));
     }
     let conditions = recipe.conditions.as_slice();
-    if conditions_hold(
-        alloc,
-        conditions,
-        flags,
-        &mut run.process,
-        &mut run.outside,
-        &mut run.journal,
-    )? {
+    if conditions_hold(alloc, run, conditions, flags)? {
         execute(&flags, &mut run.process);
         return Ok(Come::Acts);
     }

@@ -13,10 +13,10 @@ ghost use Rattle.pm_run.specs.RunningOut.{HinderedSince};
 ghost use Rattle.pm_run.specs.Stretches.{Walks};
 
 use crate::frames::{Open, RcFrame, Waiting};
-use pm_actions::{Run, is_stuck};
+use pm_actions::is_stuck;
 use pm_bytes::{Memory, Name};
 use pm_journal::{Effects, couldnt_unlock, give};
-use pm_meaning::{End, tell};
+use pm_meaning::{End, Run, tell};
 use std::alloc::Global;
 use std::collections::VecDeque;
 
@@ -137,13 +137,7 @@ fn give_held<D: Effects>(alloc: Global, run: &mut Run<D>, name: &Name) -> Result
     );
     if is_stuck(removed) {
         let line = couldnt_unlock(alloc, name)?;
-        tell(
-            alloc,
-            &run.process,
-            line,
-            &mut run.outside,
-            &mut run.journal,
-        )?;
+        tell(alloc, run, line)?;
     }
     Ok(())
 }

@@ -20,11 +20,10 @@ ghost use Rattle.pm_run.specs.Opening.{OpensFrom, OpensOne, ReadsOne, PassesOver
 
 use crate::frames::RcFrame;
 use crate::rcfiles::read_statements;
-use pm_actions::Run;
 use pm_bytes::{Blob, Memory, Name};
 use pm_code::{Code, compile};
 use pm_journal::{Effects, couldnt_read, read, too_many_rcfiles};
-use pm_meaning::{End, Process, new_chain, tell};
+use pm_meaning::{End, Process, Run, new_chain, tell};
 use pm_recipe::Rc;
 use std::alloc::Global;
 use std::collections::VecDeque;
@@ -117,13 +116,7 @@ fn open_one<D: Effects>(
 {
     if run.process.openings >= 256 {
         let line = too_many_rcfiles(alloc, &name)?;
-        tell(
-            alloc,
-            &run.process,
-            line,
-            &mut run.outside,
-            &mut run.journal,
-        )?;
+        tell(alloc, run, line)?;
         return Ok(Tried::Passed);
     }
     run.process.openings += 1;
@@ -214,13 +207,7 @@ fn pass_over<D: Effects>(
         return Ok(Tried::Passed);
     }
     let line = couldnt_read(alloc, name)?;
-    tell(
-        alloc,
-        &run.process,
-        line,
-        &mut run.outside,
-        &mut run.journal,
-    )?;
+    tell(alloc, run, line)?;
     Ok(Tried::Passed)
 }
 

@@ -20,10 +20,9 @@ use crate::opening::{Opened, begin_frame};
 use crate::queue::{Copy, Queue};
 use crate::walk::run_frame;
 use core::mem::replace_with;
-use pm_actions::Run;
 use pm_bytes::{Blob, Environ, Memory};
 use pm_journal::{Effects, Journal, give_all};
-use pm_meaning::{CommandLine, Ending, Process};
+use pm_meaning::{CommandLine, Ending, Process, Run};
 use std::alloc::Global;
 use std::mem;
 

@@ -19,11 +19,10 @@ ghost use Rattle.pm_run.specs.Stretches.{Walks};
 
 use crate::frames::{RcFrame, Waiting};
 use crate::leaving::leave_file;
-use pm_actions::Run;
 use pm_bytes::{Memory, Name};
 use pm_code::{Code, compile};
 use pm_journal::{Effects, couldnt_read, read, too_many_rcfiles};
-use pm_meaning::{Process, new_chain, tell};
+use pm_meaning::{Process, Run, new_chain, tell};
 use pm_recipe::{Rc, RcRefused, Statements, one_rc, read_rc};
 use std::alloc::Global;
 use std::collections::VecDeque;
@@ -240,13 +239,7 @@ fn tell_many<D: Effects>(
 {
     match too_many_rcfiles(alloc, name) {
         Err(Memory) => Err(Memory),
-        Ok(line) => match tell(
-            alloc,
-            &run.process,
-            line,
-            &mut run.outside,
-            &mut run.journal,
-        ) {
+        Ok(line) => match tell(alloc, run, line) {
             Err(Memory) => Err(Memory),
             Ok(()) => Ok(None),
         },
@@ -267,13 +260,7 @@ fn tell_unread<D: Effects>(
 {
     match couldnt_read(alloc, name) {
         Err(Memory) => Err(Memory),
-        Ok(line) => match tell(
-            alloc,
-            &run.process,
-            line,
-            &mut run.outside,
-            &mut run.journal,
-        ) {
+        Ok(line) => match tell(alloc, run, line) {
             Err(Memory) => Err(Memory),
             Ok(()) => Ok(None),
         },

@@ -13,11 +13,10 @@ use crate::assigning::{assign_text, unset_variable};
 use crate::draft::Draft;
 use crate::judging::run_recipe;
 use crate::turned::{Turned, turned_by, turned_of};
-use pm_actions::Run;
 use pm_bytes::Memory;
 use pm_code::Step;
 use pm_journal::{Effects, skipped};
-use pm_meaning::{End, tell};
+use pm_meaning::{End, Run, tell};
 use std::alloc::Global;
 
 /// Does a step that is a statement; the beginning and the end of a block are none. The draft is that of a recipe's
@@ -59,12 +58,6 @@ fn skip_line<D: Effects>(
     ensures same { run.new.process ≡ run.old.process }
 {
     let line = skipped(alloc, text)?;
-    tell(
-        alloc,
-        &run.process,
-        line,
-        &mut run.outside,
-        &mut run.journal,
-    )?;
+    tell(alloc, run, line)?;
     Ok(None)
 }

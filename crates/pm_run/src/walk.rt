@@ -19,11 +19,10 @@ use crate::queue::Queue;
 use crate::rcfiles::{end_file, include, switch};
 use crate::statements::run_statement;
 use crate::turned::Turned;
-use pm_actions::Run;
 use pm_bytes::{Memory, Name};
 use pm_code::Step;
 use pm_journal::Effects;
-use pm_meaning::{End, Process, new_chain, succeed};
+use pm_meaning::{End, Process, Run, new_chain, succeed};
 use std::alloc::Global;
 
 /// What comes of an item: the next one, the process's end, nothing that is left, another rcfile before the next item or

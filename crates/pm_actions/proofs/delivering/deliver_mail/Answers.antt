@@ -33,7 +33,7 @@ returns-clause-carries g c =
     let locks = c.as_slice.ensures.value ∙ c.in_ok-lock_commands.ensures ∙ ap (commands_in One) c.lock_text.ensures in
     let same = ready_first o.flags o.lock.now o.text.now c.as_slice.result.now c.as_slice-2.result.now p locks (c.as_slice-2.ensures.value ∙ c.in_ok-text_commands.ensures) in
     carried _ (deliver o.flags o.lock.now o.text.now p) _ _ _ _ _ _ same
-    (then_carries (make_ready c.as_slice.result.now c.as_slice-2.result.now p) (with_ready o.flags o.lock.now o.text.now) (ready_of c.in_ok-ready.ready (mind_of c.make_ready.new.process)) _ _ _ _ _ _ _ _
+    (then_carries (make_ready c.as_slice.result.now c.as_slice-2.result.now p) (with_ready o.flags o.lock.now o.text.now) (ready_of c.in_ok-ready.ready (mind_of c.make_ready.new.run.process)) _ _ _ _ _ _ _ _
     c.in_ok-ready.ensures.carries.0 c.deliver_ready.ensures.carries)
 
 pub returns-in_err-lock_commands-clause-sure : goal.returns-in_err-lock_commands-clause-sure
@@ -45,10 +45,10 @@ returns-in_err-text_commands-clause-sure g c = on_err _ _ (sure_none c.args.orde
 pub returns-in_err-ready-clause-sure : goal.returns-in_err-ready-clause-sure
 returns-in_err-ready-clause-sure g c =
     let p = mind_of c.args.run.now.process in
-    on_err _ _ (calm_sure c.args.order.now.flags c.args.run.now.journal c.make_ready.new.journal (calm_out c.args.order.now.flags (make_ready c.as_slice.result.now c.as_slice-2.result.now p) c.args.run.now.journal c.make_ready.new.journal _ _ (calm_ready c.args.order.now.flags c.as_slice.result.now c.as_slice-2.result.now p) c.in_err-ready.ensures.carries.1))
+    on_err _ _ (calm_sure c.args.order.now.flags c.args.run.now.journal c.make_ready.new.run.journal (calm_out c.args.order.now.flags (make_ready c.as_slice.result.now c.as_slice-2.result.now p) c.args.run.now.journal c.make_ready.new.run.journal _ _ (calm_ready c.args.order.now.flags c.as_slice.result.now c.as_slice-2.result.now p) c.in_err-ready.ensures.carries.1))
 
 pub returns-clause-sure : goal.returns-clause-sure
 returns-clause-sure g c =
     let p = mind_of c.args.run.now.process in
-    let calm = calm_end c.args.order.now.flags (make_ready c.as_slice.result.now c.as_slice-2.result.now p) (ready_of c.in_ok-ready.ready (mind_of c.make_ready.new.process)) c.args.run.now.journal c.make_ready.new.journal _ _ (calm_ready c.args.order.now.flags c.as_slice.result.now c.as_slice-2.result.now p) c.in_ok-ready.ensures.carries.0 in
-    err_map c.deliver_ready.result _ _ (sure_after c.args.order.now.flags c.args.run.now.journal c.make_ready.new.journal c.deliver_ready.new.run.journal calm) c.deliver_ready.ensures.sure
+    let calm = calm_end c.args.order.now.flags (make_ready c.as_slice.result.now c.as_slice-2.result.now p) (ready_of c.in_ok-ready.ready (mind_of c.make_ready.new.run.process)) c.args.run.now.journal c.make_ready.new.run.journal _ _ (calm_ready c.args.order.now.flags c.as_slice.result.now c.as_slice-2.result.now p) c.in_ok-ready.ensures.carries.0 in
+    err_map c.deliver_ready.result _ _ (sure_after c.args.order.now.flags c.args.run.now.journal c.make_ready.new.run.journal c.deliver_ready.new.run.journal calm) c.deliver_ready.ensures.sure

@@ -17,4 +17,4 @@ returns-in_err-tell-clause-carries g c =
 pub returns-clause-carries : goal.returns-clause-carries
 returns-clause-carries g c =
     let p = mind_of c.args.run.now.process in
-    (line_told p (unusable_name_line c.args.text.now) _ (GoesOn p) _ _ _ _ c.in_ok-line.ensures c.in_ok-tell.ensures.carries.0, tt)
+    rw c.tell.ensures.same (line_told p (unusable_name_line c.args.text.now) _ (GoesOn p) _ _ _ _ c.in_ok-line.ensures c.in_ok-tell.ensures.carries.0, tt)

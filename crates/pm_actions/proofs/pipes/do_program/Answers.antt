@@ -34,7 +34,7 @@ returns-clause-carries g c =
     let reading = reading_of c.args.reading t.text in
     let same = task_first t reading c.as_slice.result.now c.as_slice-2.result.now p (c.as_slice.ensures.value ∙ c.in_ok-of_lock.ensures) (c.as_slice-2.ensures.value ∙ c.in_ok-of_text.ensures) in
     carried _ (do_program t reading p) _ _ _ _ _ _ same
-    (then_carries (make_ready c.as_slice.result.now c.as_slice-2.result.now p) (with_task t reading) (ready_of c.in_ok-ready.ready (mind_of c.make_ready.new.process)) _ _ _ _ _ _ _ _
+    (then_carries (make_ready c.as_slice.result.now c.as_slice-2.result.now p) (with_task t reading) (ready_of c.in_ok-ready.ready (mind_of c.make_ready.new.run.process)) _ _ _ _ _ _ _ _
     c.in_ok-ready.ensures.carries.0 c.do_ready.ensures.carries)
 
 pub returns-in_err-of_lock-clause-sure : goal.returns-in_err-of_lock-clause-sure
@@ -46,10 +46,10 @@ returns-in_err-of_text-clause-sure g c = on_err _ _ (sure_none c.args.task.now.f
 pub returns-in_err-ready-clause-sure : goal.returns-in_err-ready-clause-sure
 returns-in_err-ready-clause-sure g c =
     let p = mind_of c.args.run.now.process in
-    on_err _ _ (calm_sure c.args.task.now.flags c.args.run.now.journal c.make_ready.new.journal (calm_out c.args.task.now.flags (make_ready c.as_slice.result.now c.as_slice-2.result.now p) c.args.run.now.journal c.make_ready.new.journal _ _ (calm_ready c.args.task.now.flags c.as_slice.result.now c.as_slice-2.result.now p) c.in_err-ready.ensures.carries.1))
+    on_err _ _ (calm_sure c.args.task.now.flags c.args.run.now.journal c.make_ready.new.run.journal (calm_out c.args.task.now.flags (make_ready c.as_slice.result.now c.as_slice-2.result.now p) c.args.run.now.journal c.make_ready.new.run.journal _ _ (calm_ready c.args.task.now.flags c.as_slice.result.now c.as_slice-2.result.now p) c.in_err-ready.ensures.carries.1))
 
 pub returns-clause-sure : goal.returns-clause-sure
 returns-clause-sure g c =
     let p = mind_of c.args.run.now.process in
-    let calm = calm_end c.args.task.now.flags (make_ready c.as_slice.result.now c.as_slice-2.result.now p) (ready_of c.in_ok-ready.ready (mind_of c.make_ready.new.process)) c.args.run.now.journal c.make_ready.new.journal _ _ (calm_ready c.args.task.now.flags c.as_slice.result.now c.as_slice-2.result.now p) c.in_ok-ready.ensures.carries.0 in
-    err_map c.do_ready.result _ _ (sure_after c.args.task.now.flags c.args.run.now.journal c.make_ready.new.journal c.do_ready.new.run.journal calm) c.do_ready.ensures.sure
+    let calm = calm_end c.args.task.now.flags (make_ready c.as_slice.result.now c.as_slice-2.result.now p) (ready_of c.in_ok-ready.ready (mind_of c.make_ready.new.run.process)) c.args.run.now.journal c.make_ready.new.run.journal _ _ (calm_ready c.args.task.now.flags c.as_slice.result.now c.as_slice-2.result.now p) c.in_ok-ready.ensures.carries.0 in
+    err_map c.do_ready.result _ _ (sure_after c.args.task.now.flags c.args.run.now.journal c.make_ready.new.run.journal c.do_ready.new.run.journal calm) c.do_ready.ensures.sure

@@ -53,7 +53,7 @@ returns-in_err-line-in-Word-clause-sure g c = on_err _ _ (sure_none c.args.task.
 pub returns-in-TooLong-clause-sure : goal.returns-in-TooLong-clause-sure
 returns-in-TooLong-clause-sure g c =
     let turn = GoesOn (overflowed (mind_of c.args.run.now.process)) in
-    err_map c.skip_value.result _ _ (λ out. calm_sure c.args.task.now.flags c.args.run.now.journal c.skip_value.new.journal (calm_out c.args.task.now.flags (say_then (mind_of c.args.run.now.process) (value_too_long_line c.in-TooLong.length) turn) c.args.run.now.journal c.skip_value.new.journal _ _ (calm_said c.args.task.now.flags (mind_of c.args.run.now.process) _ turn) out)) c.skip_value.ensures.carries.1
+    err_map c.skip_value.result _ _ (λ out. calm_sure c.args.task.now.flags c.args.run.now.journal c.skip_value.new.run.journal (calm_out c.args.task.now.flags (say_then (mind_of c.args.run.now.process) (value_too_long_line c.in-TooLong.length) turn) c.args.run.now.journal c.skip_value.new.run.journal _ _ (calm_said c.args.task.now.flags (mind_of c.args.run.now.process) _ turn) out)) c.skip_value.ensures.carries.1
 
 pub returns-in_ok-line-in-Word-clause-sure : goal.returns-in_ok-line-in-Word-clause-sure
 returns-in_ok-line-in-Word-clause-sure g c = c.do_line.ensures.sure

@@ -29,7 +29,7 @@ returns-clause-carries g c =
     let lock = c.args.lock.now in
     let same = write_first flags lock c.as_slice.result.now [] p (c.as_slice.ensures.value ∙ c.in_ok-commands.ensures) refl in
     carried _ (write_out flags lock p) _ _ _ _ _ _ same
-    (then_carries (make_ready c.as_slice.result.now [] p) (with_write (write_task flags lock)) (ready_of c.in_ok-ready.ready (mind_of c.make_ready.new.process)) _ _ _ _ _ _ _ _
+    (then_carries (make_ready c.as_slice.result.now [] p) (with_write (write_task flags lock)) (ready_of c.in_ok-ready.ready (mind_of c.make_ready.new.run.process)) _ _ _ _ _ _ _ _
     c.in_ok-ready.ensures.carries.0 c.write_ready.ensures.carries)
 
 pub returns-in_err-commands-clause-sure : goal.returns-in_err-commands-clause-sure
@@ -38,10 +38,10 @@ returns-in_err-commands-clause-sure g c = on_err _ _ (sure_none c.args.flags c.a
 pub returns-in_err-ready-clause-sure : goal.returns-in_err-ready-clause-sure
 returns-in_err-ready-clause-sure g c =
     let p = mind_of c.args.run.now.process in
-    on_err _ _ (calm_sure c.args.flags c.args.run.now.journal c.make_ready.new.journal (calm_out c.args.flags (make_ready c.as_slice.result.now [] p) c.args.run.now.journal c.make_ready.new.journal _ _ (calm_ready c.args.flags c.as_slice.result.now [] p) c.in_err-ready.ensures.carries.1))
+    on_err _ _ (calm_sure c.args.flags c.args.run.now.journal c.make_ready.new.run.journal (calm_out c.args.flags (make_ready c.as_slice.result.now [] p) c.args.run.now.journal c.make_ready.new.run.journal _ _ (calm_ready c.args.flags c.as_slice.result.now [] p) c.in_err-ready.ensures.carries.1))
 
 pub returns-clause-sure : goal.returns-clause-sure
 returns-clause-sure g c =
     let p = mind_of c.args.run.now.process in
-    let calm = calm_end c.args.flags (make_ready c.as_slice.result.now [] p) (ready_of c.in_ok-ready.ready (mind_of c.make_ready.new.process)) c.args.run.now.journal c.make_ready.new.journal _ _ (calm_ready c.args.flags c.as_slice.result.now [] p) c.in_ok-ready.ensures.carries.0 in
-    err_map c.write_ready.result _ _ (sure_after c.args.flags c.args.run.now.journal c.make_ready.new.journal c.write_ready.new.run.journal calm) c.write_ready.ensures.sure
+    let calm = calm_end c.args.flags (make_ready c.as_slice.result.now [] p) (ready_of c.in_ok-ready.ready (mind_of c.make_ready.new.run.process)) c.args.run.now.journal c.make_ready.new.run.journal _ _ (calm_ready c.args.flags c.as_slice.result.now [] p) c.in_ok-ready.ensures.carries.0 in
+    err_map c.write_ready.result _ _ (sure_after c.args.flags c.args.run.now.journal c.make_ready.new.run.journal c.write_ready.new.run.journal calm) c.write_ready.ensures.sure

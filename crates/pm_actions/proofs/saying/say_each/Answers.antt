@@ -1,4 +1,4 @@
-use Rattle.std.proofs.Common.{refl, rules, sym, subst}
+use Rattle.std.proofs.Common.{refl, rules, sym, ◌∙◌, subst}
 use Rattle.pm_journal.proofs.PlanLeads.{leads_itself}
 use Rattle.pm_journal.proofs.WantsMemory.{on_err}
 use Rattle.pm_journal.specs.Executed.{Executes}
@@ -21,7 +21,7 @@ loop-line-preserved g c =
     let p = mind_of c.args.run.now.process in
     record {
       leads = line_on _ p c.loop-line.lines.items c.pop_front.new.self.items c.in-Some.line (turn_of c.args.end p) _ _ _ _ _ _ c.loop-line.invariant.leads c.in-Some.ensures.items (rw c.loop-line.invariant.same at c.in_ok-tell.ensures.carries.0);
-      same = c.loop-line.invariant.same;
+      same = c.tell.ensures.same ∙ c.loop-line.invariant.same;
       some = lines_left c.args.lines.items c.loop-line.lines.items c.pop_front.new.self.items c.in-Some.line c.loop-line.invariant.some c.in-Some.ensures.items;
     }
 

@@ -8,51 +8,56 @@ use Rattle.pm_conds.proofs.conditions.judge.Goals as goal
 
 pub loop-condition-init : goal.loop-condition-init
 loop-condition-init g c = record {
-  leads = conditions_begin c.args.conditions.now c.args.flags (mind_of c.args.process.now) c.has_weight-weighted.result _ _ c.has_weight-weighted.ensures;
+  leads = conditions_begin c.args.conditions.now c.args.flags (mind_of c.args.run.now.process) c.has_weight-weighted.result _ _ c.has_weight-weighted.ensures;
   low = search rules;
   high = search rules;
-  keeping = c.requires.keeping;
 }
 
-pub returns-in_err-outcome-clause-carries : goal.returns-in_err-outcome-clause-carries
-returns-in_err-outcome-clause-carries g c =
-    let p = mind_of c.loop-condition.process in (
-      search rules,
-      on_err _ _ (condition_wants _ c.has_weight-weighted.result c.args.flags c.args.conditions.now c.loop-condition.condition-index _ c.condition-item.result (to_z w32 c.loop-condition.total-bits) p
-          (c.condition-item.is, c.loop-condition-test.true) _ _ _ _ _ _ c.loop-condition.invariant.leads c.in_err-outcome.ensures.carries.1),
-    )
+pub returns-in_err-outcome : goal.returns-in_err-outcome
+returns-in_err-outcome g c = record {
+  carries = (
+      let p = mind_of c.loop-condition.run.process in (
+        search rules,
+        on_err _ _ (condition_wants _ c.has_weight-weighted.result c.args.flags c.args.conditions.now c.loop-condition.condition-index _ c.condition-item.result (to_z w32 c.loop-condition.total-bits) p
+            (c.condition-item.is, c.loop-condition-test.true) _ _ _ _ _ _ c.loop-condition.invariant.leads c.in_err-outcome.ensures.carries.1),
+      ));
+}
 
-pub returns-in_err-end-clause-carries : goal.returns-in_err-end-clause-carries
-returns-in_err-end-clause-carries g c =
-    let p = mind_of c.loop-condition.process in
-    let q = mind_of c.outcome.new.process in
-    let item = c.condition-item.result in
-    let conditions = c.args.conditions.now in
-    let weighted = c.has_weight-weighted.result in
-    let i = c.loop-condition.condition-index in
-    let total = to_z w32 c.loop-condition.total-bits in
-    (search rules, on_err _ _ (condition_stops _ weighted c.args.flags conditions i _ item total p c.in_ok-outcome.outcome q (c.condition-item.is, c.loop-condition-test.true) _ _ _ _ _ _ c.loop-condition.invariant.leads c.in_ok-outcome.ensures.carries.0))
+pub returns-in_err-end : goal.returns-in_err-end
+returns-in_err-end g c = record {
+  carries = (
+      let p = mind_of c.loop-condition.run.process in
+      let q = mind_of c.outcome.new.run.process in
+      let item = c.condition-item.result in
+      let conditions = c.args.conditions.now in
+      let weighted = c.has_weight-weighted.result in
+      let i = c.loop-condition.condition-index in
+      let total = to_z w32 c.loop-condition.total-bits in
+      (search rules, on_err _ _ (condition_stops _ weighted c.args.flags conditions i _ item total p c.in_ok-outcome.outcome q (c.condition-item.is, c.loop-condition-test.true) _ _ _ _ _ _ c.loop-condition.invariant.leads c.in_ok-outcome.ensures.carries.0)));
+}
 
-pub returns-in-Some-clause-carries : goal.returns-in-Some-clause-carries
-returns-in-Some-clause-carries g c =
-    let p = mind_of c.loop-condition.process in
-    let q = mind_of c.outcome.new.process in
-    let item = c.condition-item.result in
-    let conditions = c.args.conditions.now in
-    let weighted = c.has_weight-weighted.result in
-    let i = c.loop-condition.condition-index in
-    let total = to_z w32 c.loop-condition.total-bits in
-    let score = c.judge_one.new.total in
-    let fs : SFits w32 score = search rules in (
-      condition_ends _ weighted c.args.flags conditions i _ item total p c.in_ok-outcome.outcome q item.text c.in_ok-end.field-0 score c.judge_one.new.vars (c.condition-item.is, c.loop-condition-test.true) (refl, c.in_ok-end.ensures.course)
-          c.in-Some.end (record q { vars = c.note_score.new.vars }) _ _ _ _ _ _ c.loop-condition.invariant.leads c.in_ok-outcome.ensures.carries.0 c.in-Some.is (ap (λ v. record q { vars = v }) (simp to_z-of_z at c.note_score.ensures)),
-      tt,
-    )
+pub returns-in-Some : goal.returns-in-Some
+returns-in-Some g c = record {
+  carries = (
+      let p = mind_of c.loop-condition.run.process in
+      let q = mind_of c.outcome.new.run.process in
+      let item = c.condition-item.result in
+      let conditions = c.args.conditions.now in
+      let weighted = c.has_weight-weighted.result in
+      let i = c.loop-condition.condition-index in
+      let total = to_z w32 c.loop-condition.total-bits in
+      let score = c.judge_one.new.total in
+      let fs : SFits w32 score = search rules in (
+        condition_ends _ weighted c.args.flags conditions i _ item total p c.in_ok-outcome.outcome q item.text c.in_ok-end.field-0 score c.judge_one.new.vars (c.condition-item.is, c.loop-condition-test.true) (refl, c.in_ok-end.ensures.course)
+            c.in-Some.end (record q { vars = c.note_score.new.vars }) _ _ _ _ _ _ c.loop-condition.invariant.leads c.in_ok-outcome.ensures.carries.0 c.in-Some.is (ap (λ v. record q { vars = v }) (simp to_z-of_z at c.note_score.ensures)),
+        tt,
+      ));
+}
 
 pub loop-condition-preserved : goal.loop-condition-preserved
 loop-condition-preserved g c =
-    let p = mind_of c.loop-condition.process in
-    let q = mind_of c.outcome.new.process in
+    let p = mind_of c.loop-condition.run.process in
+    let q = mind_of c.outcome.new.run.process in
     let item = c.condition-item.result in
     let conditions = c.args.conditions.now in
     let weighted = c.has_weight-weighted.result in
@@ -64,16 +69,18 @@ loop-condition-preserved g c =
     let high = c.in_ok-end.ensures.high in
     let led = condition_on _ weighted c.args.flags conditions i _ item total p c.in_ok-outcome.outcome q item.text c.in_ok-end.field-0 score c.judge_one.new.vars (c.condition-item.is, c.loop-condition-test.true) (refl, c.in_ok-end.ensures.course)
     _ _ _ _ _ _ c.loop-condition.invariant.leads c.in_ok-outcome.ensures.carries.0 c.in_default.is in
-    record { leads = simp to_z-of_z led; low = simp to_z-of_z low; high = simp to_z-of_z high; keeping = c.outcome.ensures.keeping }
+    record { leads = simp to_z-of_z led; low = simp to_z-of_z low; high = simp to_z-of_z high }
 
-pub returns-clause-carries : goal.returns-clause-carries
-returns-clause-carries g c =
-    let p = mind_of c.loop-condition.process in
-    let conditions = c.args.conditions.now in
-    let i = c.loop-condition.condition-index in
-    let total = to_z w32 c.loop-condition.total-bits in
-    let none : drop i conditions ≡ [] = at_drop_all (λ l. l) conditions i c.loop-condition-test.false in (
-      conditions_over _ c.has_weight-weighted.result c.args.flags (drop i conditions) total p (record p { vars = c.note_score-2.new.vars }) c.end_of_all.result _ _ _ _ none c.loop-condition.invariant.leads c.end_of_all.ensures
-          (ap (λ v. record p { vars = v }) c.note_score-2.ensures),
-      tt,
-    )
+pub returns : goal.returns
+returns g c = record {
+  carries = (
+      let p = mind_of c.loop-condition.run.process in
+      let conditions = c.args.conditions.now in
+      let i = c.loop-condition.condition-index in
+      let total = to_z w32 c.loop-condition.total-bits in
+      let none : drop i conditions ≡ [] = at_drop_all (λ l. l) conditions i c.loop-condition-test.false in (
+        conditions_over _ c.has_weight-weighted.result c.args.flags (drop i conditions) total p (record p { vars = c.note_score-2.new.vars }) c.end_of_all.result _ _ _ _ none c.loop-condition.invariant.leads c.end_of_all.ensures
+            (ap (λ v. record p { vars = v }) c.note_score-2.ensures),
+        tt,
+      ));
+}

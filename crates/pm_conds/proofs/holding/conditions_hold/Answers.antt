@@ -5,13 +5,17 @@ use Rattle.pm_meaning.specs.Minds.{mind_of}
 use Rattle.pm_meaning.proofs.Sequences.{then_carries}
 use Rattle.pm_conds.proofs.holding.conditions_hold.Goals as goal
 
-pub returns-in_err-judgement-clause-carries : goal.returns-in_err-judgement-clause-carries
-returns-in_err-judgement-clause-carries g c =
-    let plan = judge c.args.conditions.now c.args.flags (mind_of c.args.process.now) in
-    (search rules, on_err _ _ (out_front plan behind_judgement _ _ _ _ c.in_err-judgement.ensures.carries.1))
+pub returns-in_err-judgement : goal.returns-in_err-judgement
+returns-in_err-judgement g c = record {
+  carries = (
+      let plan = judge c.args.conditions.now c.args.flags (mind_of c.args.run.now.process) in
+      (search rules, on_err _ _ (out_front plan behind_judgement _ _ _ _ c.in_err-judgement.ensures.carries.1)));
+}
 
-pub returns-clause-carries : goal.returns-clause-carries
-returns-clause-carries g c =
-    let plan = judge c.args.conditions.now c.args.flags (mind_of c.args.process.now) in
-    let judged = judged_with c.in_ok-judgement.judgement (mind_of c.judge.new.process) in
-    then_carries plan behind_judgement judged _ _ _ _ _ _ _ _ c.in_ok-judgement.ensures.carries.0 c.tell_judgement.ensures.carries
+pub returns : goal.returns
+returns g c = record {
+  carries = (
+      let plan = judge c.args.conditions.now c.args.flags (mind_of c.args.run.now.process) in
+      let judged = judged_with c.in_ok-judgement.judgement (mind_of c.judge.new.run.process) in
+      then_carries plan behind_judgement judged _ _ _ _ _ _ _ _ c.in_ok-judgement.ensures.carries.0 c.tell_judgement.ensures.carries);
+}

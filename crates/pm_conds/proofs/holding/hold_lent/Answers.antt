@@ -10,12 +10,12 @@ pub returns-clause-holds : goal.returns-clause-holds
 returns-clause-holds g c told is =
     let p = mind_of c.args.mind.now in
     let quiet = quiet_holding c.args.conditions.now c.args.flags p in
-    let stayed = first_same _ _ _ _ _ _ (carries_back _ _ _ _ _ _ _ c.conditions_hold.ensures.carries) in
-    let beside = carries_beside told (holding c.args.conditions.now c.args.flags p) _ _ _ _ _ _ quiet (sym is) (stayed ∙ sym is) c.conditions_hold.ensures.carries in
+    let stayed = first_same _ _ _ _ _ _ (carries_back _ _ _ _ _ _ _ c.hold_parts.ensures.carries) in
+    let beside = carries_beside told (holding c.args.conditions.now c.args.flags p) _ _ _ _ _ _ quiet (sym is) (stayed ∙ sym is) c.hold_parts.ensures.carries in
     rw c.answered.ensures (verdict_holds _ _ _ _ _ _ _ _ _ beside)
 
 pub returns-clause-host : goal.returns-clause-host
-returns-clause-host g c = second_same _ _ _ _ _ _ (carries_back _ _ _ _ _ _ _ c.conditions_hold.ensures.carries)
+returns-clause-host g c = second_same _ _ _ _ _ _ (carries_back _ _ _ _ _ _ _ c.hold_parts.ensures.carries)
 
 pub returns-clause-err : goal.returns-clause-err
-returns-clause-err g c = third_same _ _ _ _ _ _ (carries_back _ _ _ _ _ _ _ c.conditions_hold.ensures.carries)
+returns-clause-err g c = third_same _ _ _ _ _ _ (carries_back _ _ _ _ _ _ _ c.hold_parts.ensures.carries)

@@ -10,6 +10,6 @@ returns-in_err-commands-clause-carries g c = (search rules, on_err _ _ (out_anyw
 
 pub returns-clause-carries : goal.returns-clause-carries
 returns-clause-carries g c =
-    let p = mind_of c.args.process.now in
+    let p = mind_of c.args.run.now.process in
     let same = c.as_slice.ensures.value ∙ c.in_ok-commands.ensures in
     carried _ _ _ _ _ _ _ _ (ap (λ l. outputs_of l p) same) c.run_each.ensures.carries

@@ -5,11 +5,13 @@ use Rattle.pm_meaning.specs.Outputs.{run_line, output_of}
 use Rattle.pm_meaning.proofs.Choices.{carried}
 use Rattle.pm_meaning.proofs.outputs.run_text.Goals as goal
 
-pub returns-in_err-command-clause-carries : goal.returns-in_err-command-clause-carries
-returns-in_err-command-clause-carries g c = (search rules, on_err _ _ (out_anywhere _ _ _ _ refl))
+pub returns-in_err-command : goal.returns-in_err-command
+returns-in_err-command g c = record { carries = (search rules, on_err _ _ (out_anywhere _ _ _ _ refl)) }
 
-pub returns-in-Runs-clause-carries : goal.returns-in-Runs-clause-carries
-returns-in-Runs-clause-carries g c =
-    let p = mind_of c.args.process.now in
-    let text = c.args.text.now in
-    carried _ (output_of text p) _ _ _ _ _ _ (ap (λ l. run_line l text p) (sym c.in-Runs.is ∙ c.in_ok-command.ensures)) c.run_command.ensures.carries
+pub returns-in-Runs : goal.returns-in-Runs
+returns-in-Runs g c = record {
+  carries = (
+      let p = mind_of c.args.run.now.process in
+      let text = c.args.text.now in
+      carried _ (output_of text p) _ _ _ _ _ _ (ap (λ l. run_line l text p) (sym c.in-Runs.is ∙ c.in_ok-command.ensures)) c.run_command.ensures.carries);
+}

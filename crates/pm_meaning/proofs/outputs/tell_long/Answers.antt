@@ -10,24 +10,30 @@ use Rattle.pm_meaning.proofs.OutputLemmas.{nothing_came}
 use Rattle.pm_meaning.proofs.SkipLemmas.{set_copy}
 use Rattle.pm_meaning.proofs.outputs.tell_long.Goals as goal
 
-pub returns-in_err-line-clause-carries : goal.returns-in_err-line-clause-carries
-returns-in_err-line-clause-carries g c = (search rules, on_err _ _ (out_anywhere _ _ _ _ refl))
+pub returns-in_err-line : goal.returns-in_err-line
+returns-in_err-line g c = record { carries = (search rules, on_err _ _ (out_anywhere _ _ _ _ refl)) }
 
-pub returns-in_err-mark-clause-carries : goal.returns-in_err-mark-clause-carries
-returns-in_err-mark-clause-carries g c = (search rules, on_err _ _ (out_anywhere _ _ _ _ refl))
+pub returns-in_err-mark : goal.returns-in_err-mark
+returns-in_err-mark g c = record { carries = (search rules, on_err _ _ (out_anywhere _ _ _ _ refl)) }
 
-pub returns-in_err-set-clause-carries : goal.returns-in_err-set-clause-carries
-returns-in_err-set-clause-carries g c =
-    let p = mind_of c.args.process.now in
-    (search rules, on_err _ _ (line_then_out p (value_too_long_line c.args.length) _ (output_with [] (overflowed p)) _ _ _ _ c.in_ok-line.ensures c.in_ok-tell.ensures.carries.0))
+pub returns-in_err-set : goal.returns-in_err-set
+returns-in_err-set g c = record {
+  carries = (
+      let p = mind_of c.args.run.now.process in
+      (search rules, on_err _ _ (line_then_out p (value_too_long_line c.args.length) _ (output_with [] (overflowed p)) _ _ _ _ c.in_ok-line.ensures c.in_ok-tell.ensures.carries.0)));
+}
 
-pub returns-in_err-tell-clause-carries : goal.returns-in_err-tell-clause-carries
-returns-in_err-tell-clause-carries g c =
-    let p = mind_of c.args.process.now in
-    (search rules, on_err _ _ (line_out p (value_too_long_line c.args.length) _ (output_with [] (overflowed p)) _ _ _ _ c.in_ok-line.ensures c.in_err-tell.ensures.carries.1))
+pub returns-in_err-tell : goal.returns-in_err-tell
+returns-in_err-tell g c = record {
+  carries = (
+      let p = mind_of c.args.run.now.process in
+      (search rules, on_err _ _ (line_out p (value_too_long_line c.args.length) _ (output_with [] (overflowed p)) _ _ _ _ c.in_ok-line.ensures c.in_err-tell.ensures.carries.1)));
+}
 
-pub returns-clause-carries : goal.returns-clause-carries
-returns-clause-carries g c =
-    let p = mind_of c.args.process.now in
-    let marked = set_copy (codes "PROCMAIL_OVERFLOW") (codes "yes") _ p _ c.in_ok-mark.ensures c.in_ok-set.ensures.ok in
-    (nothing_came (value_too_long_line c.args.length) _ c.empty.result p (overflowed p) _ _ _ _ _ c.in_ok-line.ensures c.empty.ensures marked c.in_ok-tell.ensures.carries.0, tt)
+pub returns : goal.returns
+returns g c = record {
+  carries = (
+      let p = mind_of c.args.run.now.process in
+      let marked = set_copy (codes "PROCMAIL_OVERFLOW") (codes "yes") _ p _ c.in_ok-mark.ensures (rw c.tell.ensures.same at c.in_ok-set.ensures.ok) in
+      rw c.tell.ensures.same (nothing_came (value_too_long_line c.args.length) _ c.empty.result p (overflowed p) _ _ _ _ _ c.in_ok-line.ensures c.empty.ensures marked c.in_ok-tell.ensures.carries.0, tt));
+}

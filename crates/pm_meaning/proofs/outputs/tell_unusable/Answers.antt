@@ -12,10 +12,10 @@ returns-in_err-line-clause-carries g c = (search rules, on_err _ _ (out_anywhere
 
 pub returns-in_err-tell-clause-carries : goal.returns-in_err-tell-clause-carries
 returns-in_err-tell-clause-carries g c =
-    let p = mind_of c.args.process.now in
+    let p = mind_of c.args.run.now.process in
     (search rules, on_err _ _ (line_out p (unusable_name_line c.args.text.now) _ (output_with [] p) _ _ _ _ c.in_ok-line.ensures c.in_err-tell.ensures.carries.1))
 
 pub returns-clause-carries : goal.returns-clause-carries
 returns-clause-carries g c =
-    let p = mind_of c.args.process.now in
+    let p = mind_of c.args.run.now.process in
     (nothing_came (unusable_name_line c.args.text.now) _ c.empty.result p p p _ _ _ _ c.in_ok-line.ensures c.empty.ensures refl c.in_ok-tell.ensures.carries.0, tt)

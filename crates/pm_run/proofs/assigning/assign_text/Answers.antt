@@ -25,6 +25,6 @@ returns g c = record {
       let p = mind_of c.args.run.now.process in
       let name = c.args.name.now in
       let text = c.args.text.now in
-      let ran = outputs_with c.in_ok-outputs.outputs.items (mind_of c.outputs_of.new.process) in
+      let ran = outputs_with c.in_ok-outputs.outputs.items (mind_of c.outputs_of.new.run.process) in
       then_carries (outputs_of (commands_in One text) p) (given name text) ran _ _ _ _ _ _ _ _ c.in_ok-outputs.ensures.carries.0 (carried _ (given name text ran) _ _ _ _ _ _ (ap (λ l. assign_with name text l ran.mind) c.as_slice.ensures.value) c.assign_expanded.ensures.carries));
 }

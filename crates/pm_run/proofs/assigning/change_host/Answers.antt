@@ -17,4 +17,4 @@ returns-in_err-tell-clause-carries g c =
 
 pub returns-clause-carries : goal.returns-clause-carries
 returns-clause-carries g c =
-    (host_told c.args.value.now _ (mind_of c.args.run.now.process) _ _ _ _ (sym c.is_own_name.ensures ∙ c.if-is_own_name.false) c.in_ok-line.ensures c.in_ok-tell.ensures.carries.0, tt)
+    rw c.tell.ensures.same (host_told c.args.value.now _ (mind_of c.args.run.now.process) _ _ _ _ (sym c.is_own_name.ensures ∙ c.if-is_own_name.false) c.in_ok-line.ensures c.in_ok-tell.ensures.carries.0, tt)

@@ -21,4 +21,4 @@ pub returns-in_ok-name-in-Some : goal.returns-in_ok-name-in-Some
 returns-in_ok-name-in-Some g c = record { carries = (ok_map _ _ _ (λ end h. changed c.args.value.now _ _ (mind_of c.args.run.now.process) _ _ _ _ _ (sym c.in-Some.is ∙ c.in_ok-name.ensures) c.in_ok-name-in-Some.ensures h) c.probe_folder.ensures.carries.0, err_map _ _ _ (λ h. changed_out c.args.value.now _ _ (mind_of c.args.run.now.process) _ _ _ _ (sym c.in-Some.is ∙ c.in_ok-name.ensures) c.in_ok-name-in-Some.ensures h) c.probe_folder.ensures.carries.1) }
 
 pub returns-in_ok-tell-in-None : goal.returns-in_ok-tell-in-None
-returns-in_ok-tell-in-None g c = record { carries = (unusable_told c.args.value.now _ (mind_of c.args.run.now.process) _ _ _ _ (sym c.in-None.is ∙ c.in_ok-name.ensures) c.in_ok-line-in-None.ensures c.in_ok-tell-in-None.ensures.carries.0, tt) }
+returns-in_ok-tell-in-None g c = record { carries = rw c.tell.ensures.same (unusable_told c.args.value.now _ (mind_of c.args.run.now.process) _ _ _ _ (sym c.in-None.is ∙ c.in_ok-name.ensures) c.in_ok-line-in-None.ensures c.in_ok-tell-in-None.ensures.carries.0, tt) }

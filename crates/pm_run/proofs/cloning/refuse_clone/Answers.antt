@@ -13,7 +13,7 @@ returns-in_err-line-clause-carries g c = λ items. (search rules, on_err _ _ (ou
 pub returns-clause-carries : goal.returns-clause-carries
 returns-clause-carries g c = λ items.
     let p = mind_of c.args.run.now.process in
-    let next : Next State Event = Go (Running items p) in (
+    let next : Next State Event = Go (Running items p) in rw c.tell.ensures.same (
       ok_map c.tell.result _ _ (λ _ h. line_told p too_many_clones_line c.in_ok-line.line next _ _ _ _ c.in_ok-line.ensures h) c.tell.ensures.carries.0,
       err_map c.tell.result _ _ (λ h. line_out p too_many_clones_line c.in_ok-line.line next _ _ _ _ c.in_ok-line.ensures h) c.tell.ensures.carries.1,
     )

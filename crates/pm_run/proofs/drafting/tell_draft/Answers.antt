@@ -10,8 +10,8 @@ use Rattle.pm_run.proofs.drafting.tell_draft.Goals as goal
 pub returns-in_err-push_folder-clause-carries : goal.returns-in_err-push_folder-clause-carries
 returns-in_err-push_folder-clause-carries g c = (search rules, on_err _ _ (out_anywhere _ _ _ _ refl))
 
-pub tell_in-requires-clause-named : goal.tell_in-requires-clause-named
-tell_in-requires-clause-named g c = file_is c.args.draft (mind_of c.args.run.now.process) c.requires.suits
+pub tell_in-requires : goal.tell_in-requires
+tell_in-requires g c = record { named = file_is c.args.draft (mind_of c.args.run.now.process) c.requires.suits }
 
 pub returns-clause-carries : goal.returns-clause-carries
 returns-clause-carries g c =

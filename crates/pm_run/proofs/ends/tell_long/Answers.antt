@@ -34,6 +34,6 @@ pub returns : goal.returns
 returns g c = record {
   carries = (
       let p = mind_of c.args.run.now.process in
-      let marked = set_copy (codes "PROCMAIL_OVERFLOW") (codes "yes") _ p _ c.in_ok-mark.ensures c.in_ok-set.ensures.ok in
-      (long_told (value_too_long_line c.args.length) _ p (overflowed p) _ _ _ _ _ c.in_ok-line.ensures marked c.in_ok-tell.ensures.carries.0, tt));
+      let marked = set_copy (codes "PROCMAIL_OVERFLOW") (codes "yes") _ p _ c.in_ok-mark.ensures (rw c.tell.ensures.same at c.in_ok-set.ensures.ok) in
+      rw c.tell.ensures.same (long_told (value_too_long_line c.args.length) _ p (overflowed p) _ _ _ _ _ c.in_ok-line.ensures marked c.in_ok-tell.ensures.carries.0, tt));
 }

@@ -19,5 +19,5 @@ returns g c = record {
   carries = (
       let p = mind_of c.args.run.now.process in
       let text = c.args.text.now in
-      then_carries (read_line text p) (by_read text) (read_with c.in_ok-line.line (mind_of c.read_line.new.process)) _ _ _ _ _ _ _ _ c.in_ok-line.ensures.carries.0 c.trap_by.ensures.carries);
+      then_carries (read_line text p) (by_read text) (read_with c.in_ok-line.line (mind_of c.read_line.new.run.process)) _ _ _ _ _ _ _ _ c.in_ok-line.ensures.carries.0 c.trap_by.ensures.carries);
 }

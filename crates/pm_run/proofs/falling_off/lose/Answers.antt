@@ -21,4 +21,4 @@ pub returns-clause-carries : goal.returns-clause-carries
 returns-clause-carries g c =
     let p = mind_of c.args.run.now.process in
     let next : Next State Event = Go (Over FellOff p) in
-    (line_told p no_delivery_line _ next _ _ _ _ c.in_ok-line.ensures c.in_ok-tell.ensures.carries.0, tt)
+    rw c.tell.ensures.same (line_told p no_delivery_line _ next _ _ _ _ c.in_ok-line.ensures c.in_ok-tell.ensures.carries.0, tt)

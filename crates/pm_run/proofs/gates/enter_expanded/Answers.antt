@@ -40,5 +40,5 @@ returns-in_ok-skip_value-in-TooLong g c = record {
       let text = c.args.text.now in
       let k = rw c.in-TooLong.is at c.in_ok-words.ensures in
       let same = ap (λ n. say_then p (value_too_long_line n) (GoesOn (overflowed p))) k.1 ∙ text_long text c.args.outputs.now p k.0 in
-      (gate_of_end _ (enter_with text c.args.outputs.now p) c.in_ok-skip_value-in-TooLong.field-0 c.gate_by.result (mind_of c.skip_value.new.process) _ _ _ _ same c.gate_by.ensures c.in_ok-skip_value-in-TooLong.ensures.carries.0, tt));
+      (gate_of_end _ (enter_with text c.args.outputs.now p) c.in_ok-skip_value-in-TooLong.field-0 c.gate_by.result (mind_of c.skip_value.new.run.process) _ _ _ _ same c.gate_by.ensures c.in_ok-skip_value-in-TooLong.ensures.carries.0, tt));
 }

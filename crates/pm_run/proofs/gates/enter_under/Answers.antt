@@ -33,7 +33,7 @@ returns-then-is_empty g c = record {
       let p = mind_of c.args.run.now.process in
       let text = c.args.text.now in
       let e : is_empty text ≡ true = search rules in
-      (gate_in _ (enter_under text p) (Enters None p) _ _ _ _ (no_text text p e) (line_told p (no_lock_line (codes "{")) _ (Enters None p) _ _ _ _ c.in_ok-line.ensures c.in_ok-tell.ensures.carries.0), tt));
+      rw c.tell.ensures.same (gate_in _ (enter_under text p) (Enters None p) _ _ _ _ (no_text text p e) (line_told p (no_lock_line (codes "{")) _ (Enters None p) _ _ _ _ c.in_ok-line.ensures c.in_ok-tell.ensures.carries.0), tt));
 }
 
 pub returns-in_err-outputs : goal.returns-in_err-outputs
@@ -50,7 +50,7 @@ returns g c = record {
   carries = (
       let p = mind_of c.args.run.now.process in
       let text = c.args.text.now in
-      let ran = outputs_with c.in_ok-outputs.outputs.items (mind_of c.outputs_of.new.process) in
+      let ran = outputs_with c.in_ok-outputs.outputs.items (mind_of c.outputs_of.new.run.process) in
       let e : is_empty text ≡ false = search rules in
       carried _ (enter_under text p) _ _ _ _ _ _ (text_runs text p e)
       (then_carries (outputs_of (commands_in One text) p) (locks_with text) ran _ _ _ _ _ _ _ _ c.in_ok-outputs.ensures.carries.0 (carried _ (locks_with text ran) _ _ _ _ _ _ (ap (λ l. enter_with text l ran.mind) c.as_slice.ensures.value) c.enter_expanded.ensures.carries)));

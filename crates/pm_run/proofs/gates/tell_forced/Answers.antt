@@ -27,4 +27,4 @@ pub returns-clause-carries : goal.returns-clause-carries
 returns-clause-carries g c =
     let p = mind_of c.args.run.now.process in
     let e : nat_lt 0 c.args.forced ≡ true = search rules in
-    (choose_then (nat_lt 0 c.args.forced) (say_then p (forcing_lock_line c.args.shown.now) (Enters (Some c.args.name) p)) (Ends (Enters (Some c.args.name) p)) (Enters (Some c.args.name) p) _ _ _ _ e (line_told p (forcing_lock_line c.args.shown.now) _ (Enters (Some c.args.name) p) _ _ _ _ c.in_ok-line.ensures c.in_ok-tell.ensures.carries.0), tt)
+    rw c.tell.ensures.same (choose_then (nat_lt 0 c.args.forced) (say_then p (forcing_lock_line c.args.shown.now) (Enters (Some c.args.name) p)) (Ends (Enters (Some c.args.name) p)) (Enters (Some c.args.name) p) _ _ _ _ e (line_told p (forcing_lock_line c.args.shown.now) _ (Enters (Some c.args.name) p) _ _ _ _ c.in_ok-line.ensures c.in_ok-tell.ensures.carries.0), tt)

@@ -27,4 +27,4 @@ pub returns-in_ok-tell-clause-carries : goal.returns-in_ok-tell-clause-carries
 returns-in_ok-tell-clause-carries g c =
     let p = mind_of c.args.run.now.process in
     let e : nat_lt 0 c.args.forced ≡ true = search rules in
-    (choose_then (nat_lt 0 c.args.forced) (say_then p (forcing_lock_line c.args.name.now) (GoesOn p)) (Ends (GoesOn p)) (GoesOn p) _ _ _ _ e (line_told p (forcing_lock_line c.args.name.now) _ (GoesOn p) _ _ _ _ c.in_ok-line.ensures c.in_ok-tell.ensures.carries.0), tt)
+    rw c.tell.ensures.same (choose_then (nat_lt 0 c.args.forced) (say_then p (forcing_lock_line c.args.name.now) (GoesOn p)) (Ends (GoesOn p)) (GoesOn p) _ _ _ _ e (line_told p (forcing_lock_line c.args.name.now) _ (GoesOn p) _ _ _ _ c.in_ok-line.ensures c.in_ok-tell.ensures.carries.0), tt)

@@ -18,16 +18,16 @@ returns-in_err-conditions_hold-clause-memory g c =
     let top = top_of c.args.recipe.now in
     let p = mind_of c.args.run.now.process in
     let wants : (acts : Mind → Plan Turn)
-    → OutOfMemory (judge_first top acts p) c.args.run.now.journal c.conditions_hold.new.journal (g.D.Asks.told c.args.run.now.outside) (g.D.Asks.told c.conditions_hold.new.outside) = λ acts.
+    → OutOfMemory (judge_first top acts p) c.args.run.now.journal c.conditions_hold.new.run.journal (g.D.Asks.told c.args.run.now.outside) (g.D.Asks.told c.conditions_hold.new.run.outside) = λ acts.
     judging_wants top p c.as_slice-conditions.result.now acts _ _ _ _ (sym c.admits.ensures ∙ c.if-not-admits.false, c.as_slice-conditions.ensures.value) c.in_err-conditions_hold.ensures.carries.1 in
     on_err _ _ wants
 
 pub returns-then-branch-clause-comes : goal.returns-then-branch-clause-comes
 returns-then-branch-clause-comes g c = λ acts.
-    comes_to_act (top_of c.args.recipe.now) (mind_of c.args.run.now.process) c.as_slice-conditions.result.now (mind_of c.conditions_hold.new.process) _ _ _ _ acts (mind_of c.execute.new.process)
+    comes_to_act (top_of c.args.recipe.now) (mind_of c.args.run.now.process) c.as_slice-conditions.result.now (mind_of c.conditions_hold.new.run.process) _ _ _ _ acts (mind_of c.execute.new.process)
     (sym c.admits.ensures ∙ c.if-not-admits.false, c.as_slice-conditions.ensures.value) (rw c.if-branch.true at c.in_ok-conditions_hold.ensures.carries.0) c.execute.ensures.mind
 
 pub returns-clause-comes : goal.returns-clause-comes
 returns-clause-comes g c = λ acts.
-    comes_to_none (top_of c.args.recipe.now) (mind_of c.args.run.now.process) c.as_slice-conditions.result.now (mind_of c.conditions_hold.new.process) _ _ _ _ acts (mind_of c.pass-2.new.process)
+    comes_to_none (top_of c.args.recipe.now) (mind_of c.args.run.now.process) c.as_slice-conditions.result.now (mind_of c.conditions_hold.new.run.process) _ _ _ _ acts (mind_of c.pass-2.new.process)
     (sym c.admits.ensures ∙ c.if-not-admits.false, c.as_slice-conditions.ensures.value) (rw c.if-branch.false at c.in_ok-conditions_hold.ensures.carries.0) c.pass-2.ensures.mind

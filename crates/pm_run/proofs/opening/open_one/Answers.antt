@@ -15,7 +15,7 @@ returns-in_err-tell-clause-memory g c =
 
 pub returns-then-run-ge256-clause-opens : goal.returns-then-run-ge256-clause-opens
 returns-then-run-ge256-clause-opens g c =
-    many_told (rule_of_opening c.args.rule) c.args.name c.in_ok-line.line (mind_of c.args.run.now.process) _ _ _ _ (is_many c.args.run.now.process.openings c.if-run-ge256.true) c.in_ok-line.ensures c.in_ok-tell.ensures.carries.0
+    rw c.tell.ensures.same (many_told (rule_of_opening c.args.rule) c.args.name c.in_ok-line.line (mind_of c.args.run.now.process) _ _ _ _ (is_many c.args.run.now.process.openings c.if-run-ge256.true) c.in_ok-line.ensures c.in_ok-tell.ensures.carries.0)
 
 pub returns-clause-opens : goal.returns-clause-opens
 returns-clause-opens g c =

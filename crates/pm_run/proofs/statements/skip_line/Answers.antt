@@ -16,4 +16,4 @@ returns-in_err-tell-clause-carries g c =
 
 pub returns-clause-carries : goal.returns-clause-carries
 returns-clause-carries g c =
-    (line_told (mind_of c.args.run.now.process) (skipped_line c.args.text.now) _ (GoesOn (mind_of c.args.run.now.process)) _ _ _ _ c.in_ok-line.ensures c.in_ok-tell.ensures.carries.0, tt)
+    rw c.tell.ensures.same (line_told (mind_of c.args.run.now.process) (skipped_line c.args.text.now) _ (GoesOn (mind_of c.args.run.now.process)) _ _ _ _ c.in_ok-line.ensures c.in_ok-tell.ensures.carries.0, tt)
