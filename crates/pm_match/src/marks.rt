@@ -15,7 +15,7 @@ ghost use Rattle.pm_match.specs.Begins.{AreRuns};
 use crate::backward::set_at_end;
 use crate::build::Program;
 use crate::cache::{Cache, States, copy_set, go_back, make_cache, mark_starts};
-use crate::forward::{Forward, least_end, make_forward};
+use crate::forward::{Forward, is_reached, least_end, make_forward, start_run};
 use std::alloc::{AllocError, Global};
 
 /// How many places a window has.
@@ -266,7 +266,7 @@ fn mark_window(program: &Program, area: &[u8], marks: &mut Marks, index: usize) 
 }
 
 /// How many matches there are; those before the place are counted already.
-pub fn count_marked(program: &Program, marks: &mut Marks, area: &[u8], from: Progress) -> u64
+fn count_marked(program: &Program, marks: &mut Marks, area: &[u8], from: Progress) -> u64
     requires program { InRange program.now.steps.items }
     requires entry { program.now.entry < length program.now.steps.items }
     requires exit { program.now.exit < length program.now.steps.items }
@@ -301,4 +301,60 @@ pub fn count_marked(program: &Program, marks: &mut Marks, area: &[u8], from: Pro
         index += 1;
     }
     at.count
+}
+
+/// Whether the empty text matches inside a line, and so at each place: then each run ends where it begins.
+fn matches_empty_text(program: &Program, forward: &mut Forward) -> bool
+    requires program { InRange program.now.steps.items }
+    requires entry { program.now.entry < length program.now.steps.items }
+    requires exit { program.now.exit < length program.now.steps.items }
+    requires forward { AreRuns program.now.steps.items program.now.entry forward.old }
+    ensures { AreRuns program.now.steps.items program.now.entry forward.new }
+{
+    start_run(program, &mut forward.labels, &[0, 0], 1);
+    is_reached(&forward.labels, program.exit)
+}
+
+/// How many matches there are; those before the place are counted already. No place is marked: a run begins at each.
+fn count_unmarked(program: &Program, forward: &mut Forward, area: &[u8], from: Progress) -> u64
+    requires program { InRange program.now.steps.items }
+    requires entry { program.now.entry < length program.now.steps.items }
+    requires exit { program.now.exit < length program.now.steps.items }
+    requires forward { AreRuns program.now.steps.items program.now.entry forward.old }
+    requires few { from.count ≤ from.place }
+    requires within { from.place ≤ length area.now }
+    ensures forward { AreRuns program.now.steps.items program.now.entry forward.new }
+    ensures few { result ≤ length area.now }
+    ensures counted { (e : Re) (fold : Bool) → IsProgram program.now e fold
+        → CountsTo fold e area.now 0 from.count from.place
+        → (ms : List Found) × IsRun fold e area.now 0 ms × (result ≡ length ms) }
+{
+    let mut at = from;
+    while at.place < area.len() {
+        at = count_at(program, forward, area, true, at);
+    }
+    at.count
+}
+
+/// How many matches there are; those before the place are counted already. Marks save nothing where the empty text
+/// matches at each place.
+pub fn count_rest(program: &Program, marks: &mut Marks, area: &[u8], from: Progress) -> u64
+    requires program { InRange program.now.steps.items }
+    requires entry { program.now.entry < length program.now.steps.items }
+    requires exit { program.now.exit < length program.now.steps.items }
+    requires room { HasRoom program.now.steps.items program.now.entry program.now.exit marks.old }
+    requires few { from.count ≤ from.place }
+    requires within { from.place ≤ length area.now }
+    requires short { length area.now ≤ marks.old.reach }
+    ensures room { HasRoom program.now.steps.items program.now.entry program.now.exit marks.new }
+    ensures reach { marks.new.reach ≡ marks.old.reach }
+    ensures few { result ≤ length area.now }
+    ensures counted { (e : Re) (fold : Bool) → IsProgram program.now e fold
+        → CountsTo fold e area.now 0 from.count from.place
+        → (ms : List Found) × IsRun fold e area.now 0 ms × (result ≡ length ms) }
+{
+    if matches_empty_text(program, &mut marks.forward) {
+        return count_unmarked(program, &mut marks.forward, area, from);
+    }
+    count_marked(program, marks, area, from)
 }

@@ -12,7 +12,7 @@ use crate::build::build;
 use crate::cache::{Cache, least_start};
 use crate::find::{Match, find, find_within};
 use crate::labels::no_labels;
-use crate::marks::{Marks, Progress, count_marked, reaches};
+use crate::marks::{Marks, Progress, count_rest, reaches};
 use crate::spare::{VERY_LONG, is_needed, reserved_marks, spare_anywhere, spare_cache, tables};
 use pm_bytes::Memory;
 use pm_regex::Op;
@@ -406,7 +406,7 @@ impl Search {
     {
         match &mut self.marks {
             None => from.count,
-            Some(marks) => count_marked(&self.automata.left, marks, area, from),
+            Some(marks) => count_rest(&self.automata.left, marks, area, from),
         }
     }
 
