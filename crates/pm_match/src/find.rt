@@ -9,13 +9,12 @@ ghost use Rattle.pm_match.specs.Finding.{IsBestBefore, IsFirst, IsHeld, IsArrive
 ghost use Rattle.pm_match.specs.Finding.{right_seed};
 ghost use Rattle.pm_match.specs.Starts.{HaveAllBytes, IsExcluded};
 
-use crate::advancing::advance;
+use crate::advancing::go_to_next;
 use crate::automata::{Automata, Room};
 use crate::build::Program;
 use crate::closing::reach;
 use crate::labels::{Label, Labels, clear, none_before, none_through};
 use crate::starts::{Starts, go_on, is_ruled_out};
-use std::mem;
 
 /// Where a match stands.
 #[derive(Clone, Copy, Drop)]
@@ -178,22 +177,20 @@ pub fn hand_on(automata: &Automata, room: &mut Room, area: &[u8], place: usize)
         → IsArrived automata.now.right.steps.items area.now automata.now.right.entry
         (RightSeed left.steps.items area.now left.entry left.exit from) (place + 1) room.new.right.of.items }
 {
-    advance(
+    go_to_next(
         &automata.left.steps,
-        &room.left,
+        &mut room.left,
         &mut room.left_next,
         area,
         place,
     );
-    mem::swap(&mut room.left, &mut room.left_next);
-    advance(
+    go_to_next(
         &automata.right.steps,
-        &room.right,
+        &mut room.right,
         &mut room.right_next,
         area,
         place,
     );
-    mem::swap(&mut room.right, &mut room.right_next);
 }
 
 /// The first match from a place on: the least start, for it the least cut, and for both the greatest end. There is no

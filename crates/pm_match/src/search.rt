@@ -134,7 +134,12 @@ impl Search {
     {
         if is_needed(&self.automata.starts, area.len()) {
             let is_very_long = area.len() >= VERY_LONG;
-            self.automata.starts = tables(self.alloc, &self.automata.left, is_very_long);
+            self.automata.starts = tables(
+                self.alloc,
+                &self.automata.left,
+                &mut self.room,
+                is_very_long,
+            );
         }
     }
 

@@ -1,6 +1,6 @@
 //! What makes a search quicker, and is made once an area is long enough to pay for it. Where there is no memory for it
 //! the search goes on without.
-ghost use Rattle.std.specs.Prelude.{◌≡◌, ◌<◌, false, IfOk, IfSome, length};
+ghost use Rattle.std.specs.Prelude.{◌≡◌, ◌<◌, false, IfOk, IfSome, length, vec_len};
 ghost use Rattle.pm_match.specs.Labels.{InRange};
 ghost use Rattle.pm_match.specs.Starts.{AreStarts};
 ghost use Rattle.pm_match.specs.Cache.{AreReady};
@@ -8,6 +8,7 @@ ghost use Rattle.pm_match.specs.Checkpoints.{HasRoom};
 ghost use Rattle.pm_match.specs.Anywhere.{IsSound, IsAnywhere};
 
 use crate::anywhere::{Anywhere, make_anywhere};
+use crate::automata::Room;
 use crate::build::Program;
 use crate::cache::{Cache, make_cache};
 use crate::marks::{Marks, make_marks};
@@ -34,18 +35,31 @@ pub fn is_needed(starts: &Option<Starts>, size: usize) -> bool {
     }
 }
 
-/// The tables of an automaton. Where there is no memory for them the search goes on without.
-pub fn tables(alloc: Global, program: &Program, is_very_long: bool) -> Option<Starts>
+/// The tables of the automaton of a left part, by labels of its room. Where there is no memory for them the search goes on
+/// without.
+pub fn tables(
+    alloc: Global,
+    program: &Program,
+    room: &mut Room,
+    is_very_long: bool,
+) -> Option<Starts>
     requires range { InRange program.now.steps.items }
     requires entry { program.now.entry < length program.now.steps.items }
     requires exit { program.now.exit < length program.now.steps.items }
-    ensures { AreStarts program.now.steps.items program.now.entry program.now.exit result }
+    requires same_len { vec_len room.old.left.of ≡ length program.now.steps.items }
+    requires same_next { vec_len room.old.left_next.of ≡ length program.now.steps.items }
+    ensures starts { AreStarts program.now.steps.items program.now.entry program.now.exit result }
+    ensures left { vec_len room.new.left.of ≡ length program.now.steps.items }
+    ensures next { vec_len room.new.left_next.of ≡ length program.now.steps.items }
+    ensures right { room.new.right ≡ room.old.right }
+    ensures right_next { room.new.right_next ≡ room.old.right_next }
 {
     match starts_of(
         alloc,
         &program.steps,
         program.entry,
         program.exit,
+        room,
         is_very_long,
     ) {
         Err(_) => None,

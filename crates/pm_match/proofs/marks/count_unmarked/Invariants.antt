@@ -1,4 +1,4 @@
-use Rattle.std.proofs.Common.{ℕ, ◌-◌, ◌≤◌, Bool, length}
+use Rattle.std.proofs.Common.{◌-◌, ◌≤◌, Bool, length}
 use Rattle.pm_regex.specs.Re.{Re}
 use Rattle.pm_match.specs.Search.{IsProgram}
 use Rattle.pm_match.specs.Checkpoints.{CountsTo}

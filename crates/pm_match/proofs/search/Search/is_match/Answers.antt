@@ -1,4 +1,4 @@
-use Rattle.std.proofs.Common.{Some, true, false, ap, sym, ◌∙◌}
+use Rattle.std.proofs.Common.{Some, ap, ◌∙◌}
 use Rattle.pm_match.proofs.search.Search.is_match.Goals as goal
 
 pub is_match_in_all-requires : goal.is_match_in_all-requires
