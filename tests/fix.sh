@@ -177,9 +177,42 @@ the separator is removed: runs
 the length of a cache: runs
 :0 Wh\n| formail -D 2000000 msgid.cache\n:0:\nmbox\n
 :0 Wh\n| formail -D 1048576 msgid.cache\n:0:\nmbox\n
+an option of a cache: runs
+:0 Wh\n| formail -q- -D 8192 msgid.cache\n:0:\nmbox\n
+:0 Wh\n| formail -D 8192 msgid.cache\n:0:\nmbox\n
 an option without a reply: runs
 :0 w\n| formail -txSubject: >subject\n
 :0 w\n| formail -xSubject: >subject\n
+a copy by a variable: runs
+CC=\n:0 W ${CC:+c}:my.lock\n* ^Subject: hi\n| cat >one\n:0 aw\n| cat >two\n:0:\nmbox\n
+CC=\n:0 W c:my.lock\n* ^Subject: hi\n| cat >one\n:0 a\n{\n  :0\n  * ! CC ?? .\n  /dev/null\n}\n:0 aw\n| cat >two\n:0:\nmbox\n
+a copy by a variable that is set: runs
+CC=yes\n:0 W ${CC:+c}:my.lock\n* ^Subject: hi\n| cat >one\n:0 aw\n| cat >two\n:0:\nmbox\n
+CC=yes\n:0 W c:my.lock\n* ^Subject: hi\n| cat >one\n:0 a\n{\n  :0\n  * ! CC ?? .\n  /dev/null\n}\n:0 aw\n| cat >two\n:0:\nmbox\n
+a copy by a variable whose program fails: runs
+:0\n{\n  :0 W ${CC:+c}\n  | cat >one; false\n  :0 aw\n  | cat >two\n}\n:0 E:\nelse\n:0:\nmbox\n
+:0\n{\n  :0 W c\n  | cat >one; false\n:0 a\n{\n  :0\n  * ! CC ?? .\n  /dev/null\n}\n  :0 aw\n  | cat >two\n}\n:0 E:\nelse\n:0:\nmbox\n
+a mailbox that a variable makes a copy: runs
+CC=yes\n:0 ${CC:+c}:\n* ^Subject: hi\none # it\n:0:\nmbox\n
+CC=yes\n:0 c:\n* ^Subject: hi\none # it\n:0 a\n{\n  :0\n  * ! CC ?? .\n  /dev/null\n}\n:0:\nmbox\n
+a copy by a variable before E: stays
+:0 W ${CC:+c}\n| cat >one\n:0 a\n| cat >two\n:0 W ${CC:+c}\n| cat >one\n:0 E\n| cat >two\n
+:0 W c\n| cat >one\n:0 a\n{\n  :0\n  * ! CC ?? .\n  /dev/null\n}\n:0 a\n| cat >two\n:0 W ${CC:+c}\n| cat >one\n:0 E\n| cat >two\n
+the last score: runs
+:0\n* ^Subject: hi\n* 9876543210^0\n{ }\n:0:\n* $$=^0\n* -1^0\nmbox\n
+:0\n* ^Subject: hi\n* 2147483647^0\n{ }\nLASTSCORE=$=\n:0:\n* 2147483647^0 LASTSCORE ?? ^^2147483647^^\n* -1^0\nmbox\n
+the last score, which is 0: runs
+:0\n* 9876543210^0 ^Subject: ho\n{ }\n:0:\n* $ $=^0\n* -1^0\nmbox\n
+:0\n* 2147483647^0 ^Subject: ho\n{ }\nLASTSCORE=$=\n:0:\n* 2147483647^0 LASTSCORE ?? ^^2147483647^^\n* -1^0\nmbox\n
+the last score of several recipes: runs
+:0\n* B ?? > 5\n* 9876543210^0\n{ }\n:0\n* $$=^0\n* ! B ?? body\n* 9876543210^0 ^Subject: ho\n{ }\n:0:\n* $$=^0\n* -5^0 ^Subject\nmbox\n
+:0\n* B ?? > 5\n* 2147483647^0\n{ }\nLASTSCORE=$=\n:0\n* 2147483647^0 LASTSCORE ?? ^^2147483647^^\n* ! B ?? body\n* 2147483647^0 ^Subject: ho\n{ }\nLASTSCORE=$=\n:0:\n* 2147483647^0 LASTSCORE ?? ^^2147483647^^\n* -5^0 ^Subject\nmbox\n
+the last score of a recipe with other weights: stays
+:0\n* 5^0 ^Subject: hi\n{ }\n:0:\n* $ $=^0\nmbox\n
+:0\n* 5^0 ^Subject: hi\n{ }\n:0:\n* $ $=^0\nmbox\n
+the last score before a condition that must hold: stays
+:0\n* 2147483647^0 ^Subject: hi\n{ }\n:0:\n* $ $=^0\n* ^Subject: ho\nmbox\n
+:0\n* 2147483647^0 ^Subject: hi\n{ }\n:0:\n* $ $=^0\n* ^Subject: ho\nmbox\n
 several forms in one recipe: stays
 :0 f\n* 9876543210^0 ^Subject: hi\n*$ B ?? $SUPREME^1 x\\\n\t y\n| formail -I 'From '\n
 :0 fw\n* 2147483647^0 ^Subject: hi\n* 2147483647^1 $ B ?? x\\\ny\n| formail -f -I 'From '\n
@@ -203,7 +236,7 @@ while IFS= read -r title; do
     cmp -s there.tree here.tree || fail "$title (left: 3.22 by the old text): $(diff there.tree here.tree)"
     tried=$((tried + 1))
 done < rows
-[ "$count" -eq 46 ] || fail "only $count rows"
+[ "$count" -eq 57 ] || fail "only $count rows"
 [ -n "$old_procmail" ] || echo "$name: no procmail 3.22 here: what it does with the old texts: skipped"
 
 # What can't be brought over stays, and is reported for the new text; the status says whether anything is left.

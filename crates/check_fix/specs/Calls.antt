@@ -130,6 +130,12 @@ length_edits first text =
 abbrev pub appended_edits : ℕ → List ℕ → List Edit
 appended_edits first text = edit_at first text (drop 7 (from_part (codes "formail -f >>") text)) 3 []
 
+-- `formail -q- -D`: `formail -D`
+abbrev pub quiet_edits : ℕ → List ℕ → List Edit
+quiet_edits first text =
+    edit_at first text (drop 7 (from_part (codes "formail -q- -") text)) 4 []
+    ++ edit_at first text (drop 7 (from_part (codes "formail -q -") text)) 3 []
+
 -- `formail -tx`: `formail -x`; `formail -t`: `formail`
 abbrev pub trust_edits : ℕ → List ℕ → List Edit
 trust_edits first text =

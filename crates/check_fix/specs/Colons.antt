@@ -6,7 +6,8 @@ use Rattle.pm_recipe.specs.Colon.{flags_of, flags_part}
 use Rattle.pm_recipe.specs.declared.fronts.Kind.{Kind}
 use Rattle.pm_recipe.specs.declared.fronts.Kind.TheVariants as kind
 use Rattle.pm_recipe.specs.declared.tree.Flags.{Flags}
-use Rattle.check_moving.specs.Text.{behind_blanks}
+use Rattle.check_moving.specs.Text.{behind_blanks, has_part}
+use Rattle.check_fix.specs.Copies.{before_braces}
 use Rattle.check_fix.specs.Edits.{edit_at}
 use Rattle.check_fix.specs.Parts.{from_part}
 use Rattle.check_fix.specs.declared.edits.Edit.{Edit}
@@ -52,8 +53,9 @@ abbrev pub is_pipe : Kind → Bool
 is_pipe kind.Pipe = true
 is_pipe _ = false
 
--- `:0 f` before a program: `:0 fw`
+-- `:0 f` before a program: `:0 fw`; the `f` of a variable's name is no flag
 abbrev pub wait_edits : ℕ → List ℕ → Kind → List Edit
 wait_edits first text action =
-    if is_pipe action && lacks_wait (flags_of (flags_part text)) then edit_at first text (from_part (codes "f") text) 1 (codes "fw")
+    if is_pipe action && lacks_wait (flags_of (flags_part text)) && has_part (codes "f") (before_braces text)
+    then edit_at first text (from_part (codes "f") text) 1 (codes "fw")
     else []

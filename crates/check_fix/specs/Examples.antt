@@ -1,19 +1,21 @@
 -- What old forms are brought over by, as docs/MOVING.md says.
-use Rattle.std.specs.Prelude.{◌≡◌, ℕ, true, false, List, [], ◌∷◌, length, codes}
+use Rattle.std.specs.Prelude.{◌≡◌, ℕ, Bool, true, false, List, [], ◌∷◌, length, codes}
 use Rattle.pm_recipe.specs.Colon.{lock_of}
 use Rattle.pm_recipe.specs.declared.fronts.Kind.{Kind}
-use Rattle.pm_recipe.specs.declared.fronts.Kind.TheVariants.{Assign, Capture, Mailbox, Open, Pipe, Unset}
+use Rattle.pm_recipe.specs.declared.fronts.Kind.TheVariants.{Assign, Capture, Close, Colon, Condition, Gap, Mailbox, Open, Pipe, Unset}
 use Rattle.pm_recipe.specs.declared.spans.Span.{Span}
 use Rattle.check_fix.specs.Braces.{is_quoted, opens_brace, close_edits}
-use Rattle.check_fix.specs.Calls.{empty_edits, reply_edits, removed_edits, length_edits, appended_edits, trust_edits}
+use Rattle.check_fix.specs.Calls.{empty_edits, reply_edits, removed_edits, length_edits, appended_edits, quiet_edits, trust_edits}
 use Rattle.check_fix.specs.Changes.{chosen, rewritten}
 use Rattle.check_fix.specs.Colons.{automatic_edits, own_lock_edits, cache_lock_edits, wait_edits}
 use Rattle.check_fix.specs.Conditions.{great_edits, size_edits, late_edits, supreme_edits, backslash_edits, end_edits, anchor_edits, continued_edits}
+use Rattle.check_fix.specs.Copies.{copy_edits, copy_name, gives_copy, is_looked_at, stop_edits}
 use Rattle.check_fix.specs.Counts.{counted, is_bare, zero_edits}
 use Rattle.check_fix.specs.Locks.{cache_of, without_braces, uses_cache}
 use Rattle.check_fix.specs.Edits.{edit_at}
 use Rattle.check_fix.specs.Mailboxes.{several_edits, hash_edits, match_edits}
 use Rattle.check_fix.specs.Numbers.{from_variable, variable_name, is_number, is_past, is_value_of, keeps_value, value_edits, number_edits}
+use Rattle.check_fix.specs.Scores.{is_ended, is_greatest, is_plain, is_score, is_weighted, greatest_of}
 use Rattle.check_fix.specs.Values.{host_edits, idle_edits, log_edits, delivered_edits}
 use Rattle.check_fix.specs.declared.edits.Edit.{Edit}
 
@@ -82,6 +84,7 @@ pub record OfColons : Type 0 where
   pub filter : line (λ first text. wait_edits first text Pipe) (codes ":0 fbh") ≡ codes ":0 fwbh"
   pub waits : line (λ first text. wait_edits first text Pipe) (codes ":0 fW") ≡ codes ":0 fW"
   pub mailbox : line (λ first text. wait_edits first text Mailbox) (codes ":0 f:") ≡ codes ":0 f:"
+  pub name : line (λ first text. wait_edits first text Pipe) (codes ":0 ${foo:+c}") ≡ codes ":0 ${foo:+c}"
 
 -- conditions
 pub record OfConditions : Type 0 where
@@ -157,6 +160,65 @@ pub record OfNumbers : Type 0 where
   pub removed : keeps_value (codes "X") (codes "10") Unset (codes "X") [] ≡ false
   pub captured : keeps_value (codes "X") (codes "10") Capture (codes "X") (codes "10") ≡ false
 
+-- a span with no name
+abbrev pub bare : Kind → ℕ → List ℕ → Span
+bare kind first text = span_of kind first [] text
+
+-- a colon line at the place 0, an action at 30, and a newline at 40
+abbrev pub recipe : List ℕ → List Span
+recipe colon = bare Colon 0 colon ∷ bare Pipe 30 (codes "| cat") ∷ bare Gap 40 (codes "\n") ∷ []
+
+-- behind that action
+abbrev pub stopped : List ℕ → List Edit
+stopped colon = stop_edits (bare Pipe 30 (codes "| cat")) (bare Gap 40 (codes "\n") ∷ []) (recipe colon)
+
+-- copies that a variable decides on
+pub record OfCopies : Type 0 where
+  pub lock : gives_copy (codes ":0 W ${CC:+c}:my.lock") ≡ true
+  pub alone : gives_copy (codes ":0 ${CC:+c}") ≡ true
+  pub filter : gives_copy (codes ":0 fw ${CC:+c}") ≡ false
+  pub copy : gives_copy (codes ":0 c ${CC:+c}") ≡ false
+  pub more : gives_copy (codes ":0 ${CC:+cw}") ≡ false
+  pub other : gives_copy (codes ":0 ${CC:-c}") ≡ false
+  pub comment : gives_copy (codes ":0 # ${CC:+c}") ≡ false
+  pub name : copy_name (codes ":0 W ${CC:+c}:my.lock") ≡ codes "CC"
+  pub always : line (λ first text. copy_edits first text Pipe (bare Gap 9 (codes "\n") ∷ [])) (codes ":0 W ${CC:+c}:my.lock") ≡ codes ":0 W c:my.lock"
+  pub last : line (λ first text. copy_edits first text Pipe []) (codes ":0 ${CC:+c}") ≡ codes ":0 ${CC:+c}"
+  pub block : line (λ first text. copy_edits first text Open (bare Gap 9 (codes "\n") ∷ [])) (codes ":0 ${CC:+c}") ≡ codes ":0 ${CC:+c}"
+  pub stop : stopped (codes ":0 ${CC:+c}") ≡ edit_at 40 (codes "\n") (codes "\n") 0 (codes "\n:0 a\n{\n  :0\n  * ! CC ?? .\n  /dev/null\n}")
+  pub none : stopped (codes ":0 c") ≡ []
+  pub else_next : is_looked_at (bare Gap 9 (codes "\n") ∷ bare Colon 10 (codes ":0 E") ∷ []) ≡ true
+  pub and_next : is_looked_at (bare Colon 10 (codes ":0 a") ∷ bare Colon 20 (codes ":0 E") ∷ []) ≡ false
+  pub closed : is_looked_at (bare Close 10 (codes "}") ∷ bare Colon 20 (codes ":0 E") ∷ []) ≡ false
+
+-- a recipe with one condition and an empty block, before the place 40
+abbrev pub ended : List ℕ → Bool
+ended condition =
+    is_ended 40 false false false
+    (bare Colon 0 (codes ":0") ∷ bare Condition 4 condition ∷ bare Open 30 (codes "{") ∷ bare Gap 31 (codes " ") ∷ bare Close 32 (codes "}")
+    ∷ bare Colon 40 (codes ":0") ∷ [])
+
+-- weights by the score of the last recipe
+pub record OfScores : Type 0 where
+  pub score : is_score (codes "* $$=^0") ≡ true
+  pub blank : is_score (codes "*$ $=^0") ≡ true
+  pub other : is_score (codes "* $ $=^1") ≡ false
+  pub greatest : is_greatest (codes "9876543210^0 x") ≡ true
+  pub exponent : is_greatest (codes "9876543210^0.5 x") ≡ false
+  pub small : is_greatest (codes "2147483646^0") ≡ false
+  pub plain : is_plain (codes "* ! B ?? ^x.*$") ≡ true
+  pub variable : is_plain (codes "* ! $ $X") ≡ false
+  pub late : is_plain (codes "* B ?? 5^0 x") ≡ false
+  pub fraction : is_plain (codes "* .5^0 x") ≡ false
+  pub weighted : is_weighted (codes "* -25^0 x") ≡ true
+  pub optional : is_weighted (codes "* $${X:+5^0 x}") ≡ true
+  pub condition : is_weighted (codes "* $${X:+5 x}") ≡ false
+  pub ends : ended (codes "* 9876543210^0") ≡ true
+  pub adds : ended (codes "* 5^0") ≡ false
+  pub unknown : ended (codes "* $ $=^0") ≡ false
+  pub first : is_ended 9 false false false (bare Colon 9 (codes ":0") ∷ []) ≡ false
+  pub named : line (λ first text. greatest_of (bare Condition first text ∷ [])) (codes "* $$=^0") ≡ codes "* 2147483647^0 LASTSCORE ?? ^^2147483647^^"
+
 -- mailboxes
 pub record OfMailboxes : Type 0 where
   pub several : line several_edits (codes "my mail") ≡ codes "my"
@@ -181,6 +243,9 @@ pub record OfCalls : Type 0 where
   pub cache : line length_edits (codes "| formail -D 2000000 c") ≡ codes "| formail -D 1048576 c"
   pub short : line length_edits (codes "| formail -D 8192 c") ≡ codes "| formail -D 8192 c"
   pub appended : line appended_edits (codes "| formail -f >>o") ≡ codes "| formail >>o"
+  pub loud : line quiet_edits (codes "| formail -q- -D 8 c") ≡ codes "| formail -D 8 c"
+  pub quiet : line quiet_edits (codes "? formail -q -D 8 c") ≡ codes "? formail -D 8 c"
+  pub field : line quiet_edits (codes "| formail -I -q") ≡ codes "| formail -I -q"
   pub trust : line trust_edits (codes "| formail -txTo:") ≡ codes "| formail -xTo:"
   pub alone : line trust_edits (codes "| formail -t") ≡ codes "| formail"
 

@@ -4,9 +4,11 @@ pub mod Values
 pub mod Braces
 pub mod Counts
 pub mod Locks
-pub mod Colons
 pub mod Conditions
 pub mod Numbers
+pub mod Copies
+pub mod Scores
+pub mod Colons
 pub mod Mailboxes
 pub mod Calls
 pub mod Moved

@@ -19,7 +19,7 @@ use Rattle.check_moving.specs.declared.form.ProgramForm.TheVariants as program
 use Rattle.check_moving.specs.declared.form.ReplyForm.{ReplyForm}
 use Rattle.check_moving.specs.declared.form.ReplyForm.TheVariants as reply
 use Rattle.check_fix.specs.Braces.{brace_edits}
-use Rattle.check_fix.specs.Calls.{empty_edits, reply_edits, removed_edits, length_edits, appended_edits, trust_edits}
+use Rattle.check_fix.specs.Calls.{empty_edits, reply_edits, removed_edits, length_edits, appended_edits, quiet_edits, trust_edits}
 use Rattle.check_fix.specs.Colons.{automatic_edits, own_lock_edits, cache_lock_edits}
 use Rattle.check_fix.specs.Conditions.{late_edits, supreme_edits, backslash_edits, end_edits, anchor_edits, continued_edits}
 use Rattle.check_fix.specs.Locks.{held_edits}
@@ -67,6 +67,7 @@ mailbox_edits _ span = []
 abbrev pub program_edits : ProgramForm → Span → List Edit
 program_edits program.CacheLength span = length_edits span.first span.bytes.now
 program_edits program.FromAppended span = appended_edits span.first span.bytes.now
+program_edits program.OldOption span = quiet_edits span.first span.bytes.now
 program_edits _ span = []
 
 -- what a call of formail does with fields

@@ -6,9 +6,11 @@ use Rattle.pm_recipe.specs.declared.spans.Span.{Span}
 use Rattle.check_moving.specs.declared.finding.Finding.{Finding}
 use Rattle.check_moving.specs.declared.form.Form.{Form}
 use Rattle.check_fix.specs.Colons.{wait_edits}
+use Rattle.check_fix.specs.Copies.{is_between, copy_edits, stop_edits}
 use Rattle.check_fix.specs.Counts.{count_edits}
 use Rattle.check_fix.specs.Conditions.{great_edits, size_edits}
 use Rattle.check_fix.specs.Moved.{all_form_edits, all_lock_edits}
+use Rattle.check_fix.specs.Scores.{name_edits, score_edits}
 use Rattle.check_fix.specs.declared.edits.Edit.{Edit}
 
 -- the forms at a place; findings are in the order of their places
@@ -24,12 +26,6 @@ abbrev pub later_than : ℕ → List Finding → List Finding
 later_than place [] = []
 later_than place (finding ∷ findings) = if nat_le finding.first place then later_than place findings else finding ∷ findings
 
--- what can stand between a colon line and its action
-abbrev pub is_between : Kind → Bool
-is_between kind.Gap = true
-is_between kind.Condition = true
-is_between _ = false
-
 -- the spans from the action of a recipe on
 abbrev pub from_action : List Span → List Span
 from_action [] = []
@@ -38,20 +34,31 @@ from_action (span ∷ spans) = if is_between span.kind then from_action spans el
 -- a colon line before its action, and the spans after that one
 abbrev pub colon_edits : Span → List Span → List Finding → List Edit
 colon_edits span [] findings = []
-colon_edits span (action ∷ spans) findings = wait_edits span.first span.bytes.now action.kind ++ all_lock_edits (forms_at action.first findings) span
+colon_edits span (action ∷ spans) findings =
+    wait_edits span.first span.bytes.now action.kind
+    ++ (copy_edits span.first span.bytes.now action.kind spans ++ all_lock_edits (forms_at action.first findings) span)
 
--- what needs no finding: weights above the greatest, sizes by variables, filters that aren't waited for, and counts of
--- conditions
-abbrev pub kind_edits : Kind → Span → List Span → List Finding → List Edit
-kind_edits kind.Condition span spans findings = great_edits span.first span.bytes.now ++ size_edits span.first span.bytes.now
-kind_edits kind.Colon span spans findings = colon_edits span (from_action spans) findings
-kind_edits kind.Skipped span spans findings = count_edits span spans
-kind_edits _ span spans findings = []
+-- the score of the recipe before as a variable, the colon line, and the condition by that score
+abbrev pub recipe_edits : Span → List Span → List Span → List Finding → List Edit
+recipe_edits span spans all findings =
+    name_edits span spans (from_action spans) all
+    ++ (colon_edits span (from_action spans) findings ++ score_edits span spans (from_action spans) all)
+
+-- what needs no finding: weights above the greatest, sizes by variables, filters that aren't waited for, copies that a
+-- variable decides on, weights by the score of the recipe before, and counts of conditions
+abbrev pub kind_edits : Kind → Span → List Span → List Span → List Finding → List Edit
+kind_edits kind.Condition span spans all findings = great_edits span.first span.bytes.now ++ size_edits span.first span.bytes.now
+kind_edits kind.Colon span spans all findings = recipe_edits span spans all findings
+kind_edits kind.Skipped span spans all findings = count_edits span spans
+kind_edits kind.Mailbox span spans all findings = stop_edits span spans all
+kind_edits kind.Pipe span spans all findings = stop_edits span spans all
+kind_edits kind.Forward span spans all findings = stop_edits span spans all
+kind_edits _ span spans all findings = []
 
 -- a span before these, where all spans of the text are those
 abbrev pub span_edits : Span → List Span → List Span → List Finding → List Edit
 span_edits span spans all findings =
-    all_form_edits (forms_at span.first findings) span spans all ++ kind_edits span.kind span spans findings
+    all_form_edits (forms_at span.first findings) span spans all ++ kind_edits span.kind span spans all findings
 
 -- these spans of all
 abbrev pub edits_among : List Span → List Span → List Finding → List Edit

@@ -33,7 +33,8 @@ fn in_quotes(rest: &[u8]) -> &[u8]
     before(past(1, rest), from_close(rest))
 }
 
-fn ends_word(text: &[u8]) -> bool
+/// Whether nothing, a blank or a newline comes next.
+pub fn ends_word(text: &[u8]) -> bool
     ensures { result ≡ Braces.ends_word text.now }
 {
     match text {

@@ -10,7 +10,7 @@ ghost use Rattle.check_fix.specs.Calls.{split_edits, rename_edits};
 ghost use Rattle.check_moving.specs.Text;
 ghost use Rattle.check_moving.specs.Words;
 ghost use Rattle.check_fix.specs.Calls.{option_at, removed_edits, length_edits};
-ghost use Rattle.check_fix.specs.Calls.{appended_edits, trust_edits};
+ghost use Rattle.check_fix.specs.Calls.{appended_edits, quiet_edits, trust_edits};
 ghost use Rattle.check_fix.specs.Edits.{edit_at};
 ghost use Rattle.std.specs.Prelude.{codes};
 
@@ -320,6 +320,16 @@ pub fn put_appended(alloc: Global, span: &Span<'_>, edits: &mut Vec<Edit>) -> Re
 {
     let option = past(7, from_part(b"formail -f >>", span.bytes));
     put(alloc, span, option, 3, &[], edits)
+}
+
+/// `formail -q-` and `formail -q` before another option.
+pub fn put_quiet(alloc: Global, span: &Span<'_>, edits: &mut Vec<Edit>) -> Result<(), Memory>
+    ensures { OnOk result (edits.new.items ≡ edits.old.items ++ quiet_edits span.now.first span.now.bytes.now) }
+{
+    let loud = past(7, from_part(b"formail -q- -", span.bytes));
+    put(alloc, span, loud, 4, &[], edits)?;
+    let quiet = past(7, from_part(b"formail -q -", span.bytes));
+    put(alloc, span, quiet, 3, &[], edits)
 }
 
 /// `formail -t` without r.

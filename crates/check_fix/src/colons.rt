@@ -6,8 +6,9 @@ ghost use Rattle.check_fix.specs.Colons.{from_colon};
 ghost use Rattle.check_fix.specs.Colons.{automatic_edits, own_lock_edits};
 ghost use Rattle.check_fix.specs.Colons.{cache_lock_edits, wait_edits};
 
+use crate::copies::before_braces;
 use crate::edits::{Edit, put};
-use crate::parts::{from_part, is, past, past_blanks};
+use crate::parts::{from_part, has_part, is, past, past_blanks};
 use pm_bytes::{COLON, HASH, Memory};
 use pm_recipe::{Flags, Kind, Span, read_flags, read_lock};
 use std::alloc::Global;
@@ -110,7 +111,10 @@ pub fn put_wait(
 ) -> Result<(), Memory>
     ensures { OnOk result (edits.new.items ≡ edits.old.items ++ wait_edits span.now.first span.now.bytes.now action) }
 {
-    if is_pipe(action) && lacks_wait(read_flags(span.bytes)) {
+    if is_pipe(action)
+        && lacks_wait(read_flags(span.bytes))
+        && has_part(b"f", before_braces(span.bytes))
+    {
         put(alloc, span, from_part(b"f", span.bytes), 1, b"fw", edits)
     } else {
         Ok(())

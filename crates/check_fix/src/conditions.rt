@@ -39,7 +39,8 @@ fn is_bad(weight: Weight) -> bool
     }
 }
 
-fn past_sign(text: &[u8]) -> &[u8]
+/// The text without a sign at its front.
+pub fn past_sign(text: &[u8]) -> &[u8]
     ensures { result.now ≡ behind_sign text.now }
 {
     if text.starts_with(b"-") || text.starts_with(b"+") {
@@ -127,7 +128,8 @@ pub fn put_size(alloc: Global, span: &Span<'_>, edits: &mut Vec<Edit>) -> Result
     }
 }
 
-fn begins_weight(byte: u8) -> bool
+/// Whether it is a digit or a sign.
+pub fn begins_weight(byte: u8) -> bool
     ensures { result ≡ Conditions.begins_weight byte }
 {
     is_digit(byte) || byte == PLUS || byte == MINUS
@@ -168,7 +170,8 @@ fn weight_in(text: &[u8]) -> &[u8]
     rest
 }
 
-fn late_weight(text: &[u8]) -> &[u8]
+/// The text from a weight on after `$`, `!` or `??`.
+pub fn late_weight(text: &[u8]) -> &[u8]
     ensures { result.now ≡ Conditions.late_weight text.now }
 {
     weight_in(past_star(text))

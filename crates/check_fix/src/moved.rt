@@ -10,7 +10,9 @@ ghost use Rattle.check_fix.specs.Moved;
 ghost use Rattle.check_fix.specs.Moved.{moves_program, moves_field};
 
 use crate::braces::put_brace;
-use crate::calls::{put_appended, put_empty, put_length, put_removed, put_reply, put_trust};
+use crate::calls::{
+    put_appended, put_empty, put_length, put_quiet, put_removed, put_reply, put_trust,
+};
 use crate::colons::{put_automatic, put_cache_lock, put_own_lock};
 use crate::conditions::{put_late, put_supreme};
 use crate::edits::Edit;
@@ -118,6 +120,7 @@ fn put_program(
     match form {
         ProgramForm::CacheLength => put_length(alloc, span, edits),
         ProgramForm::FromAppended => put_appended(alloc, span, edits),
+        ProgramForm::OldOption => put_quiet(alloc, span, edits),
         _ => Ok(()),
     }
 }

@@ -11,7 +11,8 @@ use pm_bytes::{DOLLAR, Memory, begins_name, is_digit};
 use pm_recipe::{Kind, Span};
 use std::alloc::Global;
 
-fn begins_variable(text: &[u8]) -> bool
+/// Whether a variable's name or a brace begins here.
+pub fn begins_variable(text: &[u8]) -> bool
     ensures { result ≡ begins_variable text.now }
 {
     match text {
@@ -39,7 +40,8 @@ fn is_braced(text: &[u8]) -> bool
     text.starts_with(b"${")
 }
 
-fn name_on(text: &[u8]) -> &[u8]
+/// What is behind `$` or `${`.
+pub fn name_on(text: &[u8]) -> &[u8]
     ensures { result.now ≡ Numbers.name_on text.now }
 {
     if is_braced(text) {
@@ -49,13 +51,15 @@ fn name_on(text: &[u8]) -> &[u8]
     }
 }
 
-fn past_whole(text: &[u8]) -> &[u8]
+/// What is behind the name of the variable at the front.
+pub fn past_whole(text: &[u8]) -> &[u8]
     ensures { result.now ≡ Numbers.behind_whole text.now }
 {
     past_name(name_on(text))
 }
 
-fn variable_name(text: &[u8]) -> &[u8]
+/// The name of the variable at the front.
+pub fn variable_name(text: &[u8]) -> &[u8]
     ensures { result.now ≡ Numbers.variable_name text.now }
 {
     before(name_on(text), past_whole(text))
@@ -86,7 +90,8 @@ fn is_assignment(kind: Kind) -> bool
     }
 }
 
-fn is_opening(kind: Kind) -> bool
+/// Whether a block begins here.
+pub fn is_opening(kind: Kind) -> bool
     ensures { result ≡ Numbers.is_opening kind }
 {
     match kind {
@@ -154,7 +159,8 @@ fn is_number(value: &[u8]) -> bool
     !is(value, b"") && has_digits(value)
 }
 
-fn keep_value(name: &[u8], value: &[u8], spans: &[Span<'_>]) -> bool
+/// Whether no span gives the variable another value.
+pub fn keep_value(name: &[u8], value: &[u8], spans: &[Span<'_>]) -> bool
     ensures { result ≡ Numbers.keep_value name.now value.now spans.now }
 {
     spans.iter().all(|span| keeps_value(name, value, span.kind, span.name, span.text))

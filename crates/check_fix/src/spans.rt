@@ -1,13 +1,15 @@
 //! The edits of an rcfile, span for span.
 ghost use Rattle.std.specs.Prelude.{◌≡◌, ◌++◌, IfOk, OnOk};
 ghost use Rattle.check_fix.specs.Spans;
-ghost use Rattle.check_fix.specs.Spans.{colon_edits, kind_edits, span_edits};
+ghost use Rattle.check_fix.specs.Spans.{colon_edits, recipe_edits, kind_edits, span_edits};
 
 use crate::colons::put_wait;
 use crate::conditions::{put_great, put_size};
+use crate::copies::{is_between, put_copy, put_stop};
 use crate::counts::put_count;
 use crate::edits::Edit;
 use crate::moved::{put_forms, put_locks};
+use crate::scores::{put_name, put_score};
 use check_moving::{Finding, Form};
 use pm_bytes::Memory;
 use pm_recipe::{Kind, Span};
@@ -43,15 +45,6 @@ fn later_than(place: usize, findings: &[Finding]) -> &[Finding]
     rest
 }
 
-fn is_between(kind: Kind) -> bool
-    ensures { result ≡ Spans.is_between kind }
-{
-    match kind {
-        Kind::Gap | Kind::Condition => true,
-        _ => false,
-    }
-}
-
 fn from_action<'a, 'b>(spans: &'a [Span<'b>]) -> &'a [Span<'b>]
     ensures { result.now ≡ Spans.from_action spans.now }
 {
@@ -74,31 +67,51 @@ fn put_colon(
 {
     match action.split_first() {
         None => Ok(()),
-        Some((action, _)) => {
+        Some((action, later)) => {
             let forms = forms_at(alloc, action.first, findings)?;
             put_wait(alloc, span, action.kind, edits)?;
+            put_copy(alloc, span, action.kind, later, edits)?;
             put_locks(alloc, forms.as_slice(), span, edits)
         }
     }
+}
+
+fn put_recipe(
+    alloc: Global,
+    span: &Span<'_>,
+    spans: &[Span<'_>],
+    all: &[Span<'_>],
+    findings: &[Finding],
+    edits: &mut Vec<Edit>,
+) -> Result<(), Memory>
+    ensures { OnOk result (edits.new.items
+        ≡ edits.old.items ++ recipe_edits span.now spans.now all.now findings.now) }
+{
+    let action = from_action(spans);
+    put_name(alloc, span, spans, action, all, edits)?;
+    put_colon(alloc, span, action, findings, edits)?;
+    put_score(alloc, span, spans, action, all, edits)
 }
 
 fn put_kind(
     alloc: Global,
     span: &Span<'_>,
     spans: &[Span<'_>],
+    all: &[Span<'_>],
     findings: &[Finding],
     edits: &mut Vec<Edit>,
 ) -> Result<(), Memory>
     ensures { OnOk result (edits.new.items
-        ≡ edits.old.items ++ kind_edits span.now.kind span.now spans.now findings.now) }
+        ≡ edits.old.items ++ kind_edits span.now.kind span.now spans.now all.now findings.now) }
 {
     match span.kind {
         Kind::Condition => {
             put_great(alloc, span, edits)?;
             put_size(alloc, span, edits)
         }
-        Kind::Colon => put_colon(alloc, span, from_action(spans), findings, edits),
+        Kind::Colon => put_recipe(alloc, span, spans, all, findings, edits),
         Kind::Skipped => put_count(alloc, span, spans, edits),
+        Kind::Mailbox | Kind::Pipe | Kind::Forward => put_stop(alloc, span, spans, all, edits),
         _ => Ok(()),
     }
 }
@@ -115,7 +128,7 @@ fn put_span(
 {
     let forms = forms_at(alloc, span.first, findings)?;
     put_forms(alloc, forms.as_slice(), span, spans, all, edits)?;
-    put_kind(alloc, span, spans, findings, edits)
+    put_kind(alloc, span, spans, all, findings, edits)
 }
 
 /// The edits of these spans, in which these forms were found.

@@ -61,6 +61,7 @@ returns-clause-colons c = record {
   filter = refl;
   waits = refl;
   mailbox = refl;
+  name = refl;
 }
 
 pub returns-clause-conditions : goal.returns-clause-conditions
@@ -114,6 +115,48 @@ returns-clause-numbers c = record {
   captured = refl;
 }
 
+pub returns-clause-copies : goal.returns-clause-copies
+returns-clause-copies c = record {
+  lock = refl;
+  alone = refl;
+  filter = refl;
+  copy = refl;
+  more = refl;
+  other = refl;
+  comment = refl;
+  name = refl;
+  always = refl;
+  last = refl;
+  block = refl;
+  stop = refl;
+  none = refl;
+  else_next = refl;
+  and_next = refl;
+  closed = refl;
+}
+
+pub returns-clause-scores : goal.returns-clause-scores
+returns-clause-scores c = record {
+  score = refl;
+  blank = refl;
+  other = refl;
+  greatest = refl;
+  exponent = refl;
+  small = refl;
+  plain = refl;
+  variable = refl;
+  late = refl;
+  fraction = refl;
+  weighted = refl;
+  optional = refl;
+  condition = refl;
+  ends = refl;
+  adds = refl;
+  unknown = refl;
+  first = refl;
+  named = refl;
+}
+
 pub returns-clause-mailboxes : goal.returns-clause-mailboxes
 returns-clause-mailboxes c = record {
   several = refl;
@@ -139,6 +182,9 @@ returns-clause-calls c = record {
   cache = refl;
   short = refl;
   appended = refl;
+  loud = refl;
+  quiet = refl;
+  field = refl;
   trust = refl;
   alone = refl;
 }

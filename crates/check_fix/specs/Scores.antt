@@ -1,0 +1,151 @@
+-- Weights by the score of the last recipe, as docs/MOVING.md, "Recipes and conditions", has them.
+use Rattle.std.specs.Prelude.{ℕ, Bool, true, false, not, ◌||◌, ◌&&◌, List, [], ◌∷◌, ◌++◌, drop, length, nat_eq, nat_le, codes, if◌then◌else◌, position}
+use Rattle.std.specs.List.{starts_with}
+use Rattle.std.specs.Str.{bytes_eq}
+use Rattle.pm_bytes.specs.Letter.{is_blank_byte}
+use Rattle.pm_recipe.specs.Colon.{flags_of, flags_part}
+use Rattle.pm_recipe.specs.declared.fronts.Kind.{Kind}
+use Rattle.pm_recipe.specs.declared.fronts.Kind.TheVariants as kind
+use Rattle.pm_recipe.specs.declared.spans.Span.{Span}
+use Rattle.pm_recipe.specs.declared.tree.Flags.{Flags}
+use Rattle.check_moving.specs.Conditions.{behind_sign}
+use Rattle.check_moving.specs.Text.{behind_blanks, from_place, has_part}
+use Rattle.check_fix.specs.Braces.{ends_word}
+use Rattle.check_fix.specs.Conditions.{behind_star, begins_weight, is_lead_byte, late_weight}
+use Rattle.check_fix.specs.Copies.{is_between, is_closing, is_colon}
+use Rattle.check_fix.specs.Edits.{edit_at}
+use Rattle.check_fix.specs.Numbers.{behind_whole, is_opening, keep_value}
+use Rattle.check_fix.specs.Parts.{before, behind_digits, is_above}
+use Rattle.check_fix.specs.Values.{is_gap}
+use Rattle.check_fix.specs.declared.edits.Edit.{Edit}
+
+-- a condition that is expanded, without its `$`
+abbrev pub behind_dollar : List ℕ → List ℕ
+behind_dollar text =
+    if starts_with nat_eq (behind_star text) (codes "$") then behind_blanks (drop 1 (behind_star text)) else []
+
+-- `* $ $=^0`
+abbrev pub is_score : List ℕ → Bool
+is_score text = bytes_eq (behind_dollar text) (codes "$=^0")
+
+-- a weight of 2147483647 or more, once
+abbrev pub is_greatest : List ℕ → Bool
+is_greatest text =
+    is_above 2147483646 text && starts_with nat_eq (behind_digits text) (codes "^0") && ends_word (drop 2 (behind_digits text))
+
+-- from the first byte on that doesn't stand before an expression
+abbrev pub behind_lead : List ℕ → List ℕ
+behind_lead text = from_place text (position (λ byte. not (is_lead_byte byte || is_blank_byte byte)) text)
+
+-- a digit or a sign
+abbrev pub begins_number : List ℕ → Bool
+begins_number [] = false
+begins_number (byte ∷ rest) = begins_weight byte
+
+-- no weight at the front, and none that a variable can give
+abbrev pub is_bare : List ℕ → Bool
+is_bare text =
+    not (begins_number text) && not (has_part (codes "$") (before text (behind_lead text)))
+    && not (starts_with nat_eq (behind_lead text) (codes "."))
+
+-- no weight at all
+abbrev pub is_plain : List ℕ → Bool
+is_plain text = is_bare (behind_star text) && bytes_eq (late_weight text) []
+
+-- a condition after which the score is 0 or 2147483647, where that of the recipe before is so or isn't
+abbrev pub keeps_end : Bool → List ℕ → Bool
+keeps_end last text = if is_score text then last else is_greatest (behind_star text) || is_plain text
+
+-- a recipe that looks at no other
+abbrev pub is_first : Flags → Bool
+is_first flags = not (flags.and_chain || flags.and_ok) && not (flags.or_else || flags.on_error)
+
+-- whether the score of the recipe before is one of these numbers, behind a span
+abbrev pub last_after : Kind → Bool → Bool → Bool
+last_after kind last this = if is_colon kind then this else last
+
+-- and that of this recipe; a block is empty
+abbrev pub this_within : Span → Bool → Bool → Bool → Bool
+this_within span last this begun =
+    if is_between span.kind then this && keeps_end last span.bytes.now
+    else this && (is_opening span.kind || (is_closing span.kind && begun))
+
+abbrev pub this_after : Span → Bool → Bool → Bool → Bool
+this_after span last this begun =
+    if is_gap span.kind then this
+    else if is_colon span.kind then is_first (flags_of (flags_part span.bytes.now))
+    else this_within span last this begun
+
+-- whether a block has just begun
+abbrev pub open_after : Kind → Bool → Bool
+open_after kind begun = is_opening kind || (is_gap kind && begun)
+
+-- whether the score of the last recipe before a place is one of these numbers
+abbrev pub is_ended : ℕ → Bool → Bool → Bool → List Span → Bool
+is_ended place last this begun [] = false
+is_ended place last this begun (span ∷ spans) =
+    if nat_le place span.first then this
+    else is_ended place (last_after span.kind last this) (this_after span last this begun) (open_after span.kind begun) spans
+
+-- a weight
+abbrev pub begins_weighted : List ℕ → Bool
+begins_weighted text = begins_number text && starts_with nat_eq (behind_digits (behind_sign text)) (codes "^")
+
+-- `${X:+5^0 ..}`: a weight or nothing
+abbrev pub is_optional : List ℕ → Bool
+is_optional text =
+    starts_with nat_eq text (codes "${") && starts_with nat_eq (behind_whole text) (codes ":+")
+    && begins_weighted (drop 2 (behind_whole text))
+
+-- a condition that need not hold
+abbrev pub is_weighted : List ℕ → Bool
+is_weighted text = begins_weighted (behind_star text) || is_optional (behind_dollar text)
+
+-- all conditions that come next are such ones
+abbrev pub are_weighted : List Span → Bool
+are_weighted [] = false
+are_weighted (span ∷ spans) =
+    if not (is_between span.kind) then true
+    else (is_gap span.kind || is_weighted span.bytes.now) && are_weighted spans
+
+-- a block ends next
+abbrev pub closes_next : List Span → Bool
+closes_next [] = false
+closes_next (span ∷ spans) = if is_gap span.kind then closes_next spans else is_closing span.kind
+
+-- a block that does nothing
+abbrev pub is_empty_block : List Span → Bool
+is_empty_block [] = false
+is_empty_block (span ∷ spans) = is_opening span.kind && closes_next spans
+
+-- from the first span on that is something
+abbrev pub behind_gaps : List Span → List Span
+behind_gaps [] = []
+behind_gaps (span ∷ spans) = if is_gap span.kind then behind_gaps spans else span ∷ spans
+
+-- the first condition, and those behind it
+abbrev pub scores_first : List Span → List Span → Bool
+scores_first [] action = false
+scores_first (span ∷ spans) action =
+    is_between span.kind && is_score span.bytes.now && (are_weighted spans || is_empty_block action)
+
+-- a recipe at this place with these spans behind its colon line, its action and what follows, where all spans are those
+abbrev pub is_scored : ℕ → List Span → List Span → List Span → Bool
+is_scored place spans action all =
+    scores_first (behind_gaps spans) action && is_ended place false false false all
+    && keep_value (codes "LASTSCORE") (codes "$=") all
+
+-- the score as a variable, before the recipe
+abbrev pub name_edits : Span → List Span → List Span → List Span → List Edit
+name_edits span spans action all =
+    if is_scored span.first spans action all then edit_at span.first span.bytes.now span.bytes.now 0 (codes "LASTSCORE=$=\n") else []
+
+abbrev pub greatest_of : List Span → List Edit
+greatest_of [] = []
+greatest_of (span ∷ spans) =
+    edit_at span.first span.bytes.now (behind_star span.bytes.now) (length (behind_star span.bytes.now))
+    (codes "2147483647^0 LASTSCORE ?? ^^2147483647^^")
+
+-- and its condition: `* 2147483647^0 LASTSCORE ?? ^^2147483647^^`
+abbrev pub score_edits : Span → List Span → List Span → List Span → List Edit
+score_edits span spans action all = if is_scored span.first spans action all then greatest_of (behind_gaps spans) else []
