@@ -1,6 +1,6 @@
 #!/usr/bin/env bash
 # The built program procmail-explain: on random rcfiles and mails its entries, log lines and status are what bin/procmail
-# does in a copy of the tree, and strace sees no call that changes a file. A mailbox is explained mail by mail, and of 400
+# does in a copy of the tree, with formail and lockfile too, and strace sees no call that changes a file. A mailbox is explained mail by mail, and of 400
 # mails and two rcfiles exactly those are named that real runs put elsewhere. SEED and COUNT name other runs.
 set -eu
 . "$(dirname "$0")/common.bash"
@@ -117,11 +117,92 @@ for ((run = 1; run <= count; run++)); do
     cmp -s one other || fail "run $run: -q says $(cat quiet), without it $(cat last)"
 done
 
+# formail and lockfile are answered by their own code: what they write, their codes and what they leave are those of a real
+# run. `$?` is the code of the program that was run last.
+rm -rf real shown
+cp -r before real
+printf 'held' > real/held.lock
+cat > real/rc << END
+PATH=$programs:$folder/stubs:/bin:/usr/bin
+SHELL=/bin/sh
+LOGFILE=log
+LOGABSTRACT=all
+SUBJECT=\`formail -x Subject:\`
+LOG="\$SUBJECT \$?
+"
+:0 fhw
+| formail -I "X-Subject: \$SUBJECT" -a "X-New: yes"
+FIELD=\`$programs/formail -cx X-Subject: -X X-New\`
+LOG="\$FIELD
+"
+:0
+* ? formail -D 8192 cache
+never
+LOG="\$?
+"
+:0 c
+* ? formail -D 8192 cache
+twice
+MAILDIR=sub
+:0
+* ? formail -D 8192 cache
+never
+:0 c:
+* ^X-New: yes
+* ? formail -D 8192 cache
+twice
+:0
+* ! ? lockfile -r 0 mine.lock
+never
+:0
+* ? lockfile -r 0 mine.lock
+never
+LOG="\$?
+"
+:0
+* ? lockfile -1 -r 1 ../held.lock
+never
+LOG="\$?
+"
+:0
+* ? lockfile no/such/place
+never
+LOG="\$?
+"
+:0
+| formail +0 -s taker
+END
+cp -r real shown
+printf 'From ann@example.org  Thu Jan  1 00:00:00 1970\nSubject: two\n  words\nMessage-ID: <1@example.org>\n\nbody\n' > one
+(cd real && "$program" -m rc < ../one)
+(cd shown && "$explain" -m rc < ../one) > steps
+sed -n 's,^  log to \(sub/\)\?log: ,,p' steps | tr -d '\n' > steps.log
+cat real/log real/sub/log | tr '\n\t' '  ' | cmp -s - steps.log ||
+    fail "formail and lockfile: the log is $(cat real/log real/sub/log), but told is $(cat steps)"
+left real | grep -v -E '(log|cache|\.lock) [0-9]*$' > real.left || true
+told steps | grep -v '^sub/log ' > steps.left
+cmp -s real.left steps.left || fail "formail and lockfile (left: procmail): $(diff real.left steps.left) $(cat steps)"
+grep -q '^  append .* to sub/twice$' steps || fail "formail -D finds no mail that it has seen: $(cat steps)"
+[ -e real/sub/mine.lock ] && [ -e real/sub/cache ] || fail "the real run left $(find real)"
+[ ! -e shown/sub/mine.lock ] && [ ! -e shown/cache ] && [ ! -e shown/sub/cache ] || fail "formail or lockfile changed $(find shown)"
+# A cache that is there is read.
+cp real/cache shown/cache
+(cd shown && "$explain" -m rc < ../one) | grep -q '^  append .* bytes to never$' || fail "a cache on the disk isn't read"
+cmp -s real/cache shown/cache || fail "formail changed a cache"
+# A shell isn't started, nor what it would run; and an answer comes first.
+printf 'SHELL=/bin/sh\nX=`formail -x Subject: | cat`\nLOGFILE=log\n:0\nbox\n' > rc.shell
+"$explain" -m ./rc.shell < one | grep -q '^  run formail -x Subject: | cat < [0-9]* bytes: 0, output taken' ||
+    fail "a line of a shell: $("$explain" -m ./rc.shell < one)"
+printf 'LOGFILE=log\nX=`formail -x Subject:`\nLOG="$X$?"\n:0\nbox\n' > rc.answer
+printf given > given
+"$explain" --answer 'formail -x Subject:=7:given' -m ./rc.answer < one | grep -qx '  log to log: given7' ||
+    fail "an answer for formail: $("$explain" --answer 'formail -x Subject:=7:given' -m ./rc.answer < one)"
+
 # No call that writes, makes, moves or removes a file, but to standard output.
 if command -v strace > /dev/null; then
     rm -rf shown
     cp -r before shown
-    printf 'LOGFILE=log\n:0 f\n| filter\n:0 c:\nold\n:0 c\nmd/\n:0 c\nmh/.\n:0 c\nnewmh/.\n:0\n| taker\n' > shown/rc
+    printf 'LOGFILE=log\n:0 f\n| filter\n:0 fw\n| formail -I X-New:\n:0\n* ? formail -D 8192 cache\nnever\n:0\n* ! ? lockfile -r 0 my.lock\nnever\n:0 c:\nold\n:0 c\nmd/\n:0 c\nmh/.\n:0 c\nnewmh/.\n:0\n| taker\n' > shown/rc
     (cd shown && strace -f -o ../calls "$explain" -m rc < ../mail.txt > /dev/null)
     grep -E '^[0-9]* *(open|openat|creat|write|pwrite64|writev|rename|renameat|renameat2|link|linkat|symlink|unlink|unlinkat|mkdir|mkdirat|rmdir|truncate|ftruncate|fallocate|chmod|fchmod|utimensat|mknod|mknodat|execve|clone|clone3|fork|vfork)\(' calls |
         grep -v -E '^[0-9]* *(write|writev)\(1,|^[0-9]* *execve\("[^"]*procmail-explain"' |

@@ -42,6 +42,7 @@ printf '#!/bin/sh\nexec cat\n' > stubs/filter
 printf '#!/bin/sh\ncat > /dev/null\necho "$(basename "$0") $*" >> "$HOME/ran"\n' > stubs/taker
 printf '#!/bin/sh\ncat > /dev/null\nexit 1\n' > stubs/fails
 cp stubs/taker stubs/sendmail
+ln -s "$programs/formail" "$programs/lockfile" stubs/
 chmod +x stubs/*
 printf 'From ann@example.org Thu Jan  1 00:00:00 1970\nFrom: ann\nSubject: one\n\nbody\n' > one.eml
 
@@ -94,6 +95,12 @@ places 'default' 'inbox ran' ':0:' '* ? taker' '* ^Subject: two' 'box'
 places 'Mail/box' 'box' ':0 fw' '| filter' '' ':0:' 'box'
 places 'Mail/box' 'box' 'X=`filter`' ':0:' 'box'
 places 'Mail/box' 'box ran' 'TRAP=taker' ':0:' 'box'
+# formail and lockfile are answered by their own code, over the files of the test.
+places 'Mail/one' 'one' ':0 fhw' '| formail -I "X-Kind: one"' '' ':0:' '* ^X-Kind: one' 'one'
+places 'Mail/one' 'one' 'SUBJECT=`formail -zx Subject:`' ':0:' '* SUBJECT ?? ^^one^^' 'one'
+places 'Mail/again' 'again cache' ':0 fhw' '| formail -I "Message-ID: <1@example.org>"' '' ':0' '* ? formail -D 8192 cache' 'first' '' \
+    ':0:' '* ? formail -D 8192 cache' 'again'
+places 'Mail/two' 'k.lock two' ':0' '* ! ? lockfile -r 0 k.lock' 'one' '' ':0:' '* ! ? lockfile -r 0 k.lock' 'two'
 places 'default' 'inbox' ':0 w' '| fails' ''
 places '| fails' '' ':0' '| fails'
 places 'Mail/one, Mail/two' 'one two' ':0 c' '{' ':0:' 'one' '}' ':0:' 'two'

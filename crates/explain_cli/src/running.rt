@@ -1,6 +1,7 @@
 //! Runs of procmail over what is there, whose changes stay in memory.
 use explain_host::Machine;
 use explain_mails::{Outcome, destination_names};
+use explain_programs::{OwnCode, lines_of};
 use pm_bytes::{Blob, Memory};
 use pm_journal::Journal;
 use pm_overlay::{Given, Overlay, Void};
@@ -27,7 +28,9 @@ impl Runs {
         let mut source = MessageSource::new(mail.as_slice().to_vec(rt.alloc())?);
         let mut journal = Journal::new(rt.alloc());
         let given = copies(rt.alloc(), self.given.as_slice())?;
-        let mut host = Overlay::new(rt.alloc(), self.machine.base(rt)?, given);
+        let answered = lines_of(rt.alloc(), self.given.as_slice())?;
+        let overlay = Overlay::new(rt.alloc(), self.machine.base(rt)?, given);
+        let mut host = OwnCode::new(rt.alloc(), overlay, answered)?;
         let status = procmail(
             rt.alloc(),
             words,

@@ -3,6 +3,7 @@ use crate::files::{Place, bytes_of, given_of};
 use crate::status::Stopped;
 use bstr::ByteSlice;
 use explain_host::Machine;
+use explain_programs::{OwnCode, lines_of};
 use explain_text::{Destination, destinations_of, last_program, value_in};
 use pm_bytes::Blob;
 use pm_journal::{Entry, Journal};
@@ -33,7 +34,9 @@ pub fn run_test(
     let mut source = MessageSource::new(mail);
     let mut journal = Journal::new(rt.alloc());
     let words = words(rt.alloc(), place.home, rcfile)?;
-    let mut host = Overlay::new(rt.alloc(), machine.base(rt)?, given);
+    let answered = lines_of(rt.alloc(), given.as_slice())?;
+    let overlay = Overlay::new(rt.alloc(), machine.base(rt)?, given);
+    let mut host = OwnCode::new(rt.alloc(), overlay, answered)?;
     let status = procmail(
         rt.alloc(),
         words.as_slice(),

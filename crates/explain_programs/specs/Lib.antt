@@ -1,0 +1,4 @@
+pub mod Answering
+pub mod Passing
+pub mod Started
+pub mod Tools

@@ -1,0 +1,31 @@
+-- Which programs are answered by their own code.
+use Rattle.std.specs.Prelude.{ℕ, Bool, ◌||◌, ◌∷◌, codes, List, Option, Some, None, bytes_eq, map, nat_eq, if◌then◌else◌}
+use Rattle.std.specs.List.{ends_with, list_any}
+use Rattle.pm_host.specs.declared.command.Command.{Command}
+use Rattle.pm_overlay.specs.Given.{line_of}
+use Rattle.pm_overlay.specs.declared.programs.Given.{Given}
+use Rattle.explain_programs.specs.declared.tool.Tool.{Tool}
+use Rattle.explain_programs.specs.declared.tool.Tool.TheVariants.{Formail, Lockfile}
+
+-- it is the name itself, or a path whose last part is the name
+abbrev pub is_named : List ℕ → List ℕ → Bool
+is_named name program = bytes_eq program name || ends_with nat_eq program (47 ∷ name)
+
+-- the one of this name
+abbrev pub tool_of : List ℕ → Option Tool
+tool_of program =
+    if is_named (codes "formail") program then Some Formail
+    else if is_named (codes "lockfile") program then Some Lockfile
+    else None
+
+-- one of these lines is the command's
+abbrev pub is_answered : List (List ℕ) → Command → Bool
+is_answered lines command = list_any (λ line. bytes_eq line (line_of command)) lines
+
+-- which code answers a command, where the commands of these lines have other answers
+abbrev pub code_for : List (List ℕ) → Command → Option Tool
+code_for lines command = if is_answered lines command then None else tool_of command.program
+
+-- the lines of some answers
+abbrev pub lines_of : List Given → List (List ℕ)
+lines_of given = map (λ one. one.line) given
