@@ -98,7 +98,7 @@ places 'Mail/box' 'box ran' 'TRAP=taker' ':0:' 'box'
 # formail and lockfile are answered by their own code, over the files of the test.
 places 'Mail/one' 'one' ':0 fhw' '| formail -I "X-Kind: one"' '' ':0:' '* ^X-Kind: one' 'one'
 places 'Mail/one' 'one' 'SUBJECT=`formail -zx Subject:`' ':0:' '* SUBJECT ?? ^^one^^' 'one'
-places 'Mail/again' 'again cache' ':0 fhw' '| formail -I "Message-ID: <1@example.org>"' '' ':0' '* ? formail -D 8192 cache' 'first' '' \
+places 'Mail/again' 'again cache' ':0 fhw' '| formail -I "Message-ID: 1@example.org"' '' ':0' '* ? formail -D 8192 cache' 'first' '' \
     ':0:' '* ? formail -D 8192 cache' 'again'
 places 'Mail/two' 'k.lock two' ':0' '* ! ? lockfile -r 0 k.lock' 'one' '' ':0:' '* ! ? lockfile -r 0 k.lock' 'two'
 places 'default' 'inbox' ':0 w' '| fails' ''
