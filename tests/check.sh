@@ -298,6 +298,12 @@ block-auto-lock
 block-copy
 :0 c\n{\n:0:\nmbox\n}\n
 :0\n{\n:0 c:\nmbox\n}\n
+after-lock
+:0 c:prog.lock\n| prog\n:0 e:\nmbox\n
+:0 cw:prog.lock\n| prog\n:0 e:\nmbox\n
+after-lock
+:0:prog.lock\nX=| prog\nY=z\n:0 a:\nmbox\n
+:0:prog.lock\nX=| prog\nY=z\n:0 E:\nmbox\n
 late-weight
 :0:\n* B ?? 1^1 x\nmbox\n
 :0:\n* 1^1 B ?? x\nmbox\n
@@ -415,6 +421,18 @@ split-output
 from-appended
 :0 w\n| formail -f >>out\n
 :0 w\n| formail >>out\n
+lock-w
+:0:prog.lock\n| prog\n
+:0 w:prog.lock\n| prog\n
+lock-w
+:0 h:\n! ann@x.example\n
+:0 h\n! ann@x.example\n
+lock-w
+:0 i:out.lock\n| prog >>out\n
+:0 Wi:out.lock\n| prog >>out\n
+lock-w
+:0:out.lock\n* ^Subject: x\n| prog >>out\n
+:0 c:out.lock\n* ^Subject: x\n| prog >>out\n
 reply-field
 FROM=`formail -rtzxTo:`\n
 FROM=`formail -rt | formail -zxTo:`\n

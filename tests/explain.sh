@@ -1,6 +1,7 @@
 #!/usr/bin/env bash
 # The built program procmail-explain: on random rcfiles and mails its entries, log lines and status are what bin/procmail
-# does in a copy of the tree, with formail and lockfile too, and strace sees no call that changes a file. A mailbox is explained mail by mail, and of 400
+# does in a copy of the tree, with formail and lockfile too, its recipes and conditions are those of the rcfile, with what
+# another program says of each, and strace sees no call that changes a file. A mailbox is explained mail by mail, and of 400
 # mails and two rcfiles exactly those are named that real runs put elsewhere. SEED and COUNT name other runs.
 set -eu
 . "$(dirname "$0")/common.bash"
@@ -85,6 +86,57 @@ for line in lines:
 }
 
 command -v python3 > /dev/null || { echo "$name: no python3 here: skipped"; exit 0; }
+
+# The recipes and conditions of a run are those of the rcfile, from the first on, each condition up to one that decides,
+# with what came of it. Only after a recipe whose conditions held may the run be over.
+cat > judged.py << 'END'
+import re
+rcfile = open("rc").read().split("\n")
+mail = open("mail.txt").read()
+head, _, body = mail.partition("\n\n")
+
+def found(expression, area):
+    return "yes" if re.search(expression, area, re.I | re.M) else "no"
+
+def came(condition):
+    if condition == "* 1^1 o":
+        count = len(re.findall("o", head, re.I))
+        return "%d match%s, score %d" % (count, "" if count == 1 else "es", count)
+    if condition.startswith("* ? "):
+        return "no" if condition == "* ? fails" else "yes"
+    if condition == "* > 100":
+        return "yes" if len(mail) > 100 else "no"
+    if condition == "* B ?? body":
+        return found("body", body)
+    if condition.startswith("* ! "):
+        return "no" if found(condition[4:], head) == "yes" else "yes"
+    return found(condition[2:], head)
+
+def holds(result):
+    return result != "no" and not result.endswith(" score 0")
+
+recipes = []
+for number, line in enumerate(rcfile, 1):
+    if line.startswith(":0"):
+        recipes.append([(number, line.rstrip(), "yes")])
+        ended = False
+    elif line.startswith("*") and not ended:
+        recipes[-1].append((number, line, came(line)))
+        ended = recipes[-1][-1][2] == "no"
+told = []
+for line in open("steps"):
+    if recipe := re.fullmatch(r"rc:(\d+) +(:0.*)\n", line):
+        told.append([(int(recipe[1]), recipe[2].rstrip(), "yes")])
+    elif condition := re.fullmatch(r"  rc:(\d+) +(\*.*?)  +((?:yes|no|\d+ match).*)\n", line):
+        told[-1].append((int(condition[1]), condition[2], condition[3]))
+# The clones of blocks with c come after the first process, from their block on.
+for index in range(1, len(told)):
+    if told[index][0][0] <= told[index - 1][0][0]:
+        told = told[:index]
+        break
+assert told == recipes[:len(told)], "told %s, wanted %s" % (told, recipes)
+assert len(told) == len(recipes) or all(holds(result) for _, _, result in told[-1]), told
+END
 tree before
 for ((run = 1; run <= count; run++)); do
     rm -rf real shown
@@ -107,6 +159,7 @@ for ((run = 1; run <= count; run++)); do
     { tr '\n\t' '  ' < real/log 2> /dev/null || true; } | sed 's/Folder: \(md\|newmd\|plain\)\/[^ ]*/Folder: FILE/g' > real.log
     sed -n 's/^  log to log: //p' steps | tr -d '\n' | sed 's/Folder: \(md\|newmd\|plain\)\/[^ ]*/Folder: FILE/g' > steps.log
     cmp -s real.log steps.log || fail "run $run: the log is $(cat real.log), but told is $(cat steps.log)"
+    python3 judged.py || fail "run $run: recipes and conditions: $(cat steps) by $(cat rc)"
     rm -f shown/rc
     [ "$(cd shown && find . | sort | xargs ls -ld --time-style=+ | awk '{ print $5, $6 }')" = \
         "$(cd before && find . | sort | xargs ls -ld --time-style=+ | awk '{ print $5, $6 }')" ] || fail "run $run changed a file"
@@ -198,6 +251,106 @@ printf given > given
 "$explain" --answer 'formail -x Subject:=7:given' -m ./rc.answer < one | grep -qx '  log to log: given7' ||
     fail "an answer for formail: $("$explain" --answer 'formail -x Subject:=7:given' -m ./rc.answer < one)"
 
+# Recipes and conditions: an included rcfile, blocks, flags that keep a recipe from being tried, each kind of condition,
+# and lines that aren't understood before a recipe.
+printf '# a comment\n\n:0\n* ^From:\nnever\n' > rc.more
+printf 'INCLUDERC=rc.more\nEMPTY=\nSHELL=/bin/sh\nLONG=%0100d\n' 0 > rc.judged
+cat >> rc.judged << 'END'
+:0
+* ^Subject: none
+never
+:0 E
+* ^Subject: *\/.*
+* 20^0 ^Subject
+* 5^1 B ?? o
+* 10^1 > 102
+* 3^0 ? taker
+* -4^0 ? fails
+{
+    :0 A
+    never
+    :0
+    * ! ^X-None:
+    {
+        :0 a
+        never
+        :0 e
+        never
+        :0 c:
+        * < \
+          1000
+        inner
+    }
+}
+:0 E
+never
+:0 z
+* (
+never
+:0
+* $ $LONG$LONG
+never
+:0
+* 99999999999^1 x
+never
+:0 AE
+never
+:0
+| taker
+END
+cat > wanted << 'END'
+rc.more:3   :0
+  rc.more:4   * ^From:                            no
+rc.judged:5   :0
+  rc.judged:6   * ^Subject: none                    no
+rc.judged:8   :0 E
+  rc.judged:9   * ^Subject: *\/.*                   yes, MATCH is " two  words"
+  rc.judged:10  * 20^0 ^Subject                     1 match, score 20
+  rc.judged:11  * 5^1 B ?? o                        1 match, score 25
+  rc.judged:12  * 10^1 > 102                        102 bytes, limit 102, score 35
+  rc.judged:13  * 3^0 ? taker                       exit status 0, score 38
+  rc.judged:14  * -4^0 ? fails                      exit status 3, score 38
+rc.judged:16  :0 A                                  not tried: the last recipe without A or a didn't match
+rc.judged:18  :0
+  rc.judged:19  * ! ^X-None:                        yes
+rc.judged:21  :0 a                                  not tried: the last recipe without A or a didn't match, or the one before didn't succeed
+rc.judged:23  :0 e                                  not tried: the recipe before it didn't fail
+rc.judged:25  :0 c:
+  rc.judged:26  * < \           1000                yes
+rc.judged:31  :0 E                                  not tried: a recipe before it was executed
+rc.judged:33  :0 z
+  rc.judged:34  * (                                 not a condition
+rc.judged:36  :0
+  rc.judged:37  * $ $LONG$LONG                      no
+rc.judged:39  :0
+  rc.judged:40  * 99999999999^1 x                   not a condition
+rc.judged:42  :0 AE                                 not tried
+rc.judged:44  :0
+END
+"$explain" --answer fails=3 -m ./rc.judged < one > steps
+sed 's,^\( *\)\./,\1,' steps | grep '^ *rc\.[a-z]*:' > told || true
+cmp -s wanted told || fail "recipes and conditions: $(diff wanted told) $(cat steps)"
+# What a recipe does stands between its line and the next one, and a program of a condition before its condition.
+sed -n '/rc\.judged:26 /,/rc\.judged:31 /p' steps | sed '1d;$d;s/[0-9]* bytes/N bytes/' > told
+printf '  lock inner.lock\n  append N bytes to inner\n  unlock inner.lock\n' | cmp -s - told || fail "a recipe's entries: $(cat steps)"
+grep -A 1 '^  run taker' steps | sed -n 2p | grep -q 'rc\.judged:13 ' || fail "a program of a condition: $(cat steps)"
+"$explain" --format json --answer fails=3 -m ./rc.judged < one | python3 -c '
+import json, os, sys
+told = json.load(sys.stdin)
+recipes = {(os.path.basename(one["rcfile"]), one["line"]): one for one in told["recipes"]}
+assert len(told["recipes"]) == len(recipes) == 14, told["recipes"]
+assert recipes["rc.more", 3]["conditions"] == [{"line": 4, "text": "* ^From:", "holds": False}], told
+first = recipes["rc.judged", 8]
+assert first["text"] == ":0 E" and first["tried"], first
+assert [list(one)[2:] for one in first["conditions"]] == [["holds", "match"], ["matches", "score"], ["matches", "score"],
+    ["length", "limit", "score"], ["code", "score"], ["code", "score"]], first
+assert first["conditions"][0]["match"] == " two  words", first
+assert not recipes["rc.judged", 31]["tried"] and recipes["rc.judged", 31]["conditions"] == [], told
+assert recipes["rc.judged", 33]["conditions"][0]["error"] == "not a condition", told
+assert recipes["rc.judged", 36]["conditions"][0] == {"line": 37, "text": "* $ $LONG$LONG", "holds": False}, told
+inner = recipes["rc.judged", 25]
+assert [step["act"] for step in told["steps"][inner["steps"]:inner["steps"] + 3]] == ["lock", "append", "unlock"], told'
+
 # No call that writes, makes, moves or removes a file, but to standard output.
 if command -v strace > /dev/null; then
     rm -rf shown
@@ -287,6 +440,20 @@ on_page() {
     sed -n '/^\.Sh EXAMPLES/,/^\.Sh DIAGNOSTICS/p' "$top/man/procmail-explain.1" | sed 's/\\-/-/g' |
         awk -v line="\$ procmail-explain $* -m ./rc < last-week" '$0 == line { shown = 1; next } /^\.Ed/ { shown = 0 } shown'
 }
+# shown_on_page LINE: what the manual page shows after this line, up to the next command.
+shown_on_page() {
+    sed -n '/^\.Sh EXAMPLES/,/^\.Sh DIAGNOSTICS/p' "$top/man/procmail-explain.1" | sed 's/\\-/-/g; s/\\(ha/^/g; s/^\\&//' |
+        awk -v line="$1" '$0 == line { shown = 1; next } /^\.Ed/ || /^\$ / { shown = 0 } shown'
+}
+mkdir page
+shown_on_page '$ cat rc' > page/rc
+{
+    printf 'From ann@example.org  Thu Jan  1 00:00:00 1970\nSubject: urgent\n\n'
+    printf 'The deadline is today.\nAnd so is the other deadline.\n'
+} > page/mail
+(cd page && "$explain" -m ./rc < mail) > lines
+shown_on_page '$ procmail-explain -m ./rc < mail' | cmp -s - lines && [ -s lines ] ||
+    fail "the recipes aren't what the page shows: $(cat lines)"
 "$explain" -s -q -m ./page.rc < last-week > lines
 on_page -s -q | cmp -s - lines && [ -s lines ] || fail "-s -q isn't what the page shows: $(cat lines)"
 "$explain" -s --compare new.rc -m ./page.rc < last-week > lines

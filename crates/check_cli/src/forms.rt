@@ -26,13 +26,14 @@ const EXPANDED: [ExpandedForm; 5] = [
     ExpandedForm::Score,
 ];
 
-const RECIPE: [RecipeForm; 6] = [
+const RECIPE: [RecipeForm; 7] = [
     RecipeForm::FirstChain,
     RecipeForm::AfterBlock,
     RecipeForm::HeldLock,
     RecipeForm::BlockLock,
     RecipeForm::BlockAutoLock,
     RecipeForm::BlockCopy,
+    RecipeForm::AfterLock,
 ];
 
 const CONDITION: [ConditionForm; 7] = [
@@ -68,7 +69,7 @@ const MAILBOX: [MailboxForm; 7] = [
     MailboxForm::FolderLock,
 ];
 
-const PROGRAM: [ProgramForm; 8] = [
+const PROGRAM: [ProgramForm; 9] = [
     ProgramForm::StandardError,
     ProgramForm::CacheLock,
     ProgramForm::CacheOptions,
@@ -77,6 +78,7 @@ const PROGRAM: [ProgramForm; 8] = [
     ProgramForm::OldOption,
     ProgramForm::SplitOutput,
     ProgramForm::FromAppended,
+    ProgramForm::LockWait,
 ];
 
 const REPLY: [ReplyForm; 8] = [

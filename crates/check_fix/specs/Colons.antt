@@ -7,9 +7,9 @@ use Rattle.pm_recipe.specs.declared.fronts.Kind.{Kind}
 use Rattle.pm_recipe.specs.declared.fronts.Kind.TheVariants as kind
 use Rattle.pm_recipe.specs.declared.tree.Flags.{Flags}
 use Rattle.check_moving.specs.Text.{behind_blanks, has_part}
-use Rattle.check_fix.specs.Copies.{before_braces}
+use Rattle.check_fix.specs.Copies.{before_braces, has_front}
 use Rattle.check_fix.specs.Edits.{edit_at}
-use Rattle.check_fix.specs.Parts.{from_part}
+use Rattle.check_fix.specs.Parts.{before, from_part}
 use Rattle.check_fix.specs.declared.edits.Edit.{Edit}
 
 -- from a colon on that no comment is before
@@ -58,4 +58,15 @@ abbrev pub wait_edits : ℕ → List ℕ → Kind → List Edit
 wait_edits first text action =
     if is_pipe action && lacks_wait (flags_of (flags_part text)) && has_part (codes "f") (before_braces text)
     then edit_at first text (from_part (codes "f") text) 1 (codes "fw")
+    else []
+
+-- the flag behind these others
+abbrev pub wait_flag : List ℕ → List ℕ
+wait_flag front = if bytes_eq front (codes ":0") then codes " w" else codes "w"
+
+-- `:0:prog.lock`: `:0 w:prog.lock`, if there are only flags before the second colon
+abbrev pub lock_wait_edits : ℕ → List ℕ → List Edit
+lock_wait_edits first text =
+    if has_front (before text (second_colon text))
+    then edit_at first text (second_colon text) 0 (wait_flag (before text (second_colon text)))
     else []

@@ -1,13 +1,14 @@
 -- What old forms are brought over by, as docs/MOVING.md says.
-use Rattle.std.specs.Prelude.{◌≡◌, ℕ, Bool, true, false, List, [], ◌∷◌, length, codes}
+use Rattle.std.specs.Prelude.{◌≡◌, ℕ, Bool, true, false, List, [], ◌∷◌, ◌++◌, length, codes}
 use Rattle.pm_recipe.specs.Colon.{lock_of}
 use Rattle.pm_recipe.specs.declared.fronts.Kind.{Kind}
-use Rattle.pm_recipe.specs.declared.fronts.Kind.TheVariants.{Assign, Capture, Close, Colon, Condition, Gap, Mailbox, Open, Pipe, Unset}
+use Rattle.pm_recipe.specs.declared.fronts.Kind.TheVariants.{Assign, Capture, Close, Colon, Condition, Forward}
+use Rattle.pm_recipe.specs.declared.fronts.Kind.TheVariants.{Gap, Mailbox, Open, Pipe, Unset}
 use Rattle.pm_recipe.specs.declared.spans.Span.{Span}
 use Rattle.check_fix.specs.Braces.{is_quoted, opens_brace, close_edits}
 use Rattle.check_fix.specs.Calls.{empty_edits, reply_edits, removed_edits, length_edits, appended_edits, quiet_edits, trust_edits}
 use Rattle.check_fix.specs.Changes.{chosen, rewritten}
-use Rattle.check_fix.specs.Colons.{automatic_edits, own_lock_edits, cache_lock_edits, wait_edits}
+use Rattle.check_fix.specs.Colons.{automatic_edits, own_lock_edits, cache_lock_edits, lock_wait_edits, wait_edits}
 use Rattle.check_fix.specs.Conditions.{great_edits, size_edits, late_edits, supreme_edits, backslash_edits, end_edits, anchor_edits, continued_edits}
 use Rattle.check_fix.specs.Copies.{copy_edits, copy_name, gives_copy, is_looked_at, stop_edits}
 use Rattle.check_fix.specs.Counts.{counted, is_bare, zero_edits}
@@ -15,7 +16,8 @@ use Rattle.check_fix.specs.Locks.{cache_of, without_braces, uses_cache}
 use Rattle.check_fix.specs.Edits.{edit_at}
 use Rattle.check_fix.specs.Mailboxes.{several_edits, hash_edits, match_edits}
 use Rattle.check_fix.specs.Numbers.{from_variable, variable_name, is_number, is_past, is_value_of, keeps_value, value_edits, number_edits}
-use Rattle.check_fix.specs.Scores.{is_ended, is_greatest, is_plain, is_score, is_weighted, greatest_of}
+use Rattle.check_fix.specs.Scores.{is_empty_block, is_ended, is_greatest, is_plain, is_score, is_weighted}
+use Rattle.check_fix.specs.Scores.{greatest_of, name_edits}
 use Rattle.check_fix.specs.Values.{host_edits, idle_edits, log_edits, delivered_edits}
 use Rattle.check_fix.specs.declared.edits.Edit.{Edit}
 
@@ -85,6 +87,10 @@ pub record OfColons : Type 0 where
   pub waits : line (λ first text. wait_edits first text Pipe) (codes ":0 fW") ≡ codes ":0 fW"
   pub mailbox : line (λ first text. wait_edits first text Mailbox) (codes ":0 f:") ≡ codes ":0 f:"
   pub name : line (λ first text. wait_edits first text Pipe) (codes ":0 ${foo:+c}") ≡ codes ":0 ${foo:+c}"
+  pub locked : line lock_wait_edits (codes ":0:prog.lock") ≡ codes ":0 w:prog.lock"
+  pub locked_flags : line lock_wait_edits (codes ":0 h: # x") ≡ codes ":0 hw: # x"
+  pub lock_by_name : line lock_wait_edits (codes ":0 ${foo:+c}:l") ≡ codes ":0 ${foo:+c}:l"
+  pub not_locked : line lock_wait_edits (codes ":0 # x: y") ≡ codes ":0 # x: y"
 
 -- conditions
 pub record OfConditions : Type 0 where
@@ -164,6 +170,10 @@ pub record OfNumbers : Type 0 where
 abbrev pub bare : Kind → ℕ → List ℕ → Span
 bare kind first text = span_of kind first [] text
 
+-- a newline
+abbrev pub gap : ℕ → Span
+gap first = bare Gap first (codes "\n")
+
 -- a colon line at the place 0, an action at 30, and a newline at 40
 abbrev pub recipe : List ℕ → List Span
 recipe colon = bare Colon 0 colon ∷ bare Pipe 30 (codes "| cat") ∷ bare Gap 40 (codes "\n") ∷ []
@@ -171,6 +181,18 @@ recipe colon = bare Colon 0 colon ∷ bare Pipe 30 (codes "| cat") ∷ bare Gap 
 -- behind that action
 abbrev pub stopped : List ℕ → List Edit
 stopped colon = stop_edits (bare Pipe 30 (codes "| cat")) (bare Gap 40 (codes "\n") ∷ []) (recipe colon)
+
+-- behind the action at the place 30 of a recipe with such a variable, and these spans between
+abbrev pub behind_copy : List Span → Span → List Edit
+behind_copy between action =
+    stop_edits action (gap 40 ∷ []) (bare Colon 0 (codes ":0 ${CC:+c}") ∷ (between ++ (action ∷ gap 40 ∷ [])))
+
+-- with no such span, and with one before a program
+abbrev pub stops : Span → List Edit
+stops action = behind_copy [] action
+
+abbrev pub under : Span → List Edit
+under span = behind_copy (span ∷ []) (bare Pipe 30 (codes "| cat"))
 
 -- copies that a variable decides on
 pub record OfCopies : Type 0 where
@@ -181,12 +203,22 @@ pub record OfCopies : Type 0 where
   pub more : gives_copy (codes ":0 ${CC:+cw}") ≡ false
   pub other : gives_copy (codes ":0 ${CC:-c}") ≡ false
   pub comment : gives_copy (codes ":0 # ${CC:+c}") ≡ false
+  pub blank : gives_copy (codes ":0 ${CC:+c} # x") ≡ true
+  pub letter : gives_copy (codes ":0 ${CC:+c}w") ≡ false
+  pub argument : gives_copy (codes ":0 ${1:+c}") ≡ false
   pub name : copy_name (codes ":0 W ${CC:+c}:my.lock") ≡ codes "CC"
   pub always : line (λ first text. copy_edits first text Pipe (bare Gap 9 (codes "\n") ∷ [])) (codes ":0 W ${CC:+c}:my.lock") ≡ codes ":0 W c:my.lock"
   pub last : line (λ first text. copy_edits first text Pipe []) (codes ":0 ${CC:+c}") ≡ codes ":0 ${CC:+c}"
   pub block : line (λ first text. copy_edits first text Open (bare Gap 9 (codes "\n") ∷ [])) (codes ":0 ${CC:+c}") ≡ codes ":0 ${CC:+c}"
   pub stop : stopped (codes ":0 ${CC:+c}") ≡ edit_at 40 (codes "\n") (codes "\n") 0 (codes "\n:0 a\n{\n  :0\n  * ! CC ?? .\n  /dev/null\n}")
   pub none : stopped (codes ":0 c") ≡ []
+  -- a mailbox and a forward end the delivery too, and what comes after an assignment is no action of the recipe
+  pub mailbox : stops (bare Mailbox 30 (codes "m")) ≡ stops (bare Pipe 30 (codes "| cat"))
+  pub forward : stops (bare Forward 30 (codes "! joe")) ≡ stops (bare Pipe 30 (codes "| cat"))
+  pub captures : stops (bare Capture 30 (codes "X=| cat")) ≡ []
+  pub conditions : under (bare Condition 20 (codes "* x")) ≡ stops (bare Pipe 30 (codes "| cat"))
+  pub other_line : under (bare Assign 20 (codes "X=y")) ≡ []
+  pub error_next : is_looked_at (bare Colon 10 (codes ":0 e") ∷ []) ≡ true
   pub else_next : is_looked_at (bare Gap 9 (codes "\n") ∷ bare Colon 10 (codes ":0 E") ∷ []) ≡ true
   pub and_next : is_looked_at (bare Colon 10 (codes ":0 a") ∷ bare Colon 20 (codes ":0 E") ∷ []) ≡ false
   pub closed : is_looked_at (bare Close 10 (codes "}") ∷ bare Colon 20 (codes ":0 E") ∷ []) ≡ false
@@ -198,6 +230,24 @@ ended condition =
     (bare Colon 0 (codes ":0") ∷ bare Condition 4 condition ∷ bare Open 30 (codes "{") ∷ bare Gap 31 (codes " ") ∷ bare Close 32 (codes "}")
     ∷ bare Colon 40 (codes ":0") ∷ [])
 
+-- the same before a colon line at the place 40, after these spans of a recipe
+abbrev pub ended_after : Bool → List Span → Bool
+ended_after last spans = is_ended 40 last true false (spans ++ (bare Colon 40 (codes ":0") ∷ []))
+
+-- a recipe with this condition and the next, after one with that condition and an empty block
+abbrev pub conditions : List ℕ → List ℕ → List Span
+conditions condition next = bare Condition 44 condition ∷ bare Condition 50 next ∷ bare Mailbox 60 (codes "m") ∷ []
+
+abbrev pub scored : List ℕ → List ℕ → List ℕ → List Edit
+scored before condition next =
+    name_edits (bare Colon 40 (codes ":0")) (conditions condition next) []
+    (bare Colon 0 (codes ":0") ∷ bare Condition 4 before ∷ bare Open 30 (codes "{") ∷ bare Close 32 (codes "}")
+    ∷ bare Colon 40 (codes ":0") ∷ conditions condition next)
+
+-- the score as a variable, at the place 40
+abbrev pub named_there : List Edit
+named_there = edit_at 40 (codes ":0") (codes ":0") 0 (codes "LASTSCORE=$=\n")
+
 -- weights by the score of the last recipe
 pub record OfScores : Type 0 where
   pub score : is_score (codes "* $$=^0") ≡ true
@@ -206,6 +256,7 @@ pub record OfScores : Type 0 where
   pub greatest : is_greatest (codes "9876543210^0 x") ≡ true
   pub exponent : is_greatest (codes "9876543210^0.5 x") ≡ false
   pub small : is_greatest (codes "2147483646^0") ≡ false
+  pub least : is_greatest (codes "2147483647^0") ≡ true
   pub plain : is_plain (codes "* ! B ?? ^x.*$") ≡ true
   pub variable : is_plain (codes "* ! $ $X") ≡ false
   pub late : is_plain (codes "* B ?? 5^0 x") ≡ false
@@ -216,6 +267,21 @@ pub record OfScores : Type 0 where
   pub ends : ended (codes "* 9876543210^0") ≡ true
   pub adds : ended (codes "* 5^0") ≡ false
   pub unknown : ended (codes "* $ $=^0") ≡ false
+  pub adds_first : ended_after false (bare Condition 4 (codes "* 5^0") ∷ bare Condition 9 (codes "* x") ∷ []) ≡ false
+  -- the score of the recipe before that
+  pub goes_on : ended_after true (bare Condition 4 (codes "* $ $=^0") ∷ []) ≡ true
+  -- a recipe that isn't always executed, and a block that does something
+  pub chained : ended_after true (bare Colon 0 (codes ":0 A") ∷ []) ≡ false
+  pub otherwise : ended_after true (bare Colon 0 (codes ":0 e") ∷ []) ≡ false
+  pub something : ended_after true (bare Open 4 (codes "{") ∷ bare Assign 9 [] ∷ bare Close 32 (codes "}") ∷ []) ≡ false
+  pub only_closed : ended_after true (bare Close 32 (codes "}") ∷ []) ≡ false
+  -- the recipe with the condition
+  pub weights_follow : scored (codes "* 9876543210^0") (codes "* $ $=^0") (codes "* 1^0 x") ≡ named_there
+  pub other_follows : scored (codes "* 9876543210^0") (codes "* $ $=^0") (codes "* x") ≡ []
+  pub other_score : scored (codes "* 5^0") (codes "* $ $=^0") (codes "* 1^0 x") ≡ []
+  pub no_score : scored (codes "* 9876543210^0") (codes "* x") (codes "* 1^0 x") ≡ []
+  pub empty_block : is_empty_block (bare Open 50 (codes "{") ∷ gap 51 ∷ bare Close 52 (codes "}") ∷ []) ≡ true
+  pub block : is_empty_block (bare Open 50 (codes "{") ∷ bare Colon 51 (codes ":0") ∷ []) ≡ false
   pub first : is_ended 9 false false false (bare Colon 9 (codes ":0") ∷ []) ≡ false
   pub named : line (λ first text. greatest_of (bare Condition first text ∷ [])) (codes "* $$=^0") ≡ codes "* 2147483647^0 LASTSCORE ?? ^^2147483647^^"
 

@@ -20,7 +20,7 @@ use Rattle.check_moving.specs.declared.form.ReplyForm.{ReplyForm}
 use Rattle.check_moving.specs.declared.form.ReplyForm.TheVariants as reply
 use Rattle.check_fix.specs.Braces.{brace_edits}
 use Rattle.check_fix.specs.Calls.{empty_edits, reply_edits, removed_edits, length_edits, appended_edits, quiet_edits, trust_edits}
-use Rattle.check_fix.specs.Colons.{automatic_edits, own_lock_edits, cache_lock_edits}
+use Rattle.check_fix.specs.Colons.{automatic_edits, own_lock_edits, cache_lock_edits, lock_wait_edits}
 use Rattle.check_fix.specs.Conditions.{late_edits, supreme_edits, backslash_edits, end_edits, anchor_edits, continued_edits}
 use Rattle.check_fix.specs.Locks.{held_edits}
 use Rattle.check_fix.specs.Mailboxes.{several_edits, hash_edits, match_edits}
@@ -102,6 +102,7 @@ mailbox_lock_edits _ span = []
 -- a lock file of a program
 abbrev pub program_lock_edits : ProgramForm → Span → List Edit
 program_lock_edits program.CacheLock span = cache_lock_edits span.first span.bytes.now (lock_of span.bytes.now)
+program_lock_edits program.LockWait span = lock_wait_edits span.first span.bytes.now
 program_lock_edits _ span = []
 
 -- a form of an action, in the colon line of its recipe
@@ -158,6 +159,7 @@ abbrev pub moves_program : ProgramForm → Bool
 moves_program program.CacheLock = true
 moves_program program.CacheLength = true
 moves_program program.FromAppended = true
+moves_program program.LockWait = true
 moves_program _ = false
 
 abbrev pub moves_field : ReplyForm → Bool

@@ -4,11 +4,11 @@ ghost use Rattle.pm_recipe.specs.Colon.{lock_of};
 ghost use Rattle.check_fix.specs.Colons;
 ghost use Rattle.check_fix.specs.Colons.{from_colon};
 ghost use Rattle.check_fix.specs.Colons.{automatic_edits, own_lock_edits};
-ghost use Rattle.check_fix.specs.Colons.{cache_lock_edits, wait_edits};
+ghost use Rattle.check_fix.specs.Colons.{cache_lock_edits, lock_wait_edits, wait_edits};
 
-use crate::copies::before_braces;
+use crate::copies::{before_braces, has_front};
 use crate::edits::{Edit, put};
-use crate::parts::{from_part, has_part, is, past, past_blanks};
+use crate::parts::{before, from_part, has_part, is, past, past_blanks};
 use pm_bytes::{COLON, HASH, Memory};
 use pm_recipe::{Flags, Kind, Span, read_flags, read_lock};
 use std::alloc::Global;
@@ -116,6 +116,25 @@ pub fn put_wait(
         && has_part(b"f", before_braces(span.bytes))
     {
         put(alloc, span, from_part(b"f", span.bytes), 1, b"fw", edits)
+    } else {
+        Ok(())
+    }
+}
+
+fn wait_flag(front: &[u8]) -> &'static [u8]
+    ensures { result.now ≡ Colons.wait_flag front.now }
+{
+    if is(front, b":0") { b" w" } else { b"w" }
+}
+
+/// A program with a lock file and without w.
+pub fn put_lock_wait(alloc: Global, span: &Span<'_>, edits: &mut Vec<Edit>) -> Result<(), Memory>
+    ensures { OnOk result (edits.new.items ≡ edits.old.items ++ lock_wait_edits span.now.first span.now.bytes.now) }
+{
+    let rest = second_colon(span.bytes);
+    let front = before(span.bytes, rest);
+    if has_front(front) {
+        put(alloc, span, rest, 0, wait_flag(front), edits)
     } else {
         Ok(())
     }

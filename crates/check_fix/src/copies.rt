@@ -42,7 +42,8 @@ fn is_delivering(flags: Flags) -> bool
     !flags.filter && !flags.copy
 }
 
-fn has_front(front: &[u8]) -> bool
+/// Whether it is a colon line's front, with flags that deliver the mail.
+pub fn has_front(front: &[u8]) -> bool
     ensures { result ≡ Copies.has_front front.now }
 {
     front.starts_with(b":0") && has_flag_bytes(past(2, front)) && is_delivering(read_flags(front))

@@ -13,7 +13,7 @@ use crate::braces::put_brace;
 use crate::calls::{
     put_appended, put_empty, put_length, put_quiet, put_removed, put_reply, put_trust,
 };
-use crate::colons::{put_automatic, put_cache_lock, put_own_lock};
+use crate::colons::{put_automatic, put_cache_lock, put_lock_wait, put_own_lock};
 use crate::conditions::{put_late, put_supreme};
 use crate::edits::Edit;
 use crate::locks::put_held;
@@ -222,6 +222,7 @@ fn put_program_lock(
 {
     match form {
         ProgramForm::CacheLock => put_cache_lock(alloc, span, edits),
+        ProgramForm::LockWait => put_lock_wait(alloc, span, edits),
         _ => Ok(()),
     }
 }
@@ -329,7 +330,10 @@ fn moves_program(form: ProgramForm) -> bool
     ensures { result ≡ moves_program form }
 {
     match form {
-        ProgramForm::CacheLock | ProgramForm::CacheLength | ProgramForm::FromAppended => true,
+        ProgramForm::CacheLock
+        | ProgramForm::CacheLength
+        | ProgramForm::FromAppended
+        | ProgramForm::LockWait => true,
         _ => false,
     }
 }

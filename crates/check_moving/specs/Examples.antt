@@ -1,14 +1,18 @@
 -- Which forms short texts have, as procmailrc(5), procmailsc(5) and formail(1) tell them apart.
 use Rattle.std.specs.Prelude.{◌≡◌, ℕ, Bool, true, false, List, [], ◌∷◌, ◌++◌, codes, None, Some}
 use Rattle.pm_recipe.specs.Weights.{condition_of}
+use Rattle.pm_recipe.specs.declared.fronts.Kind.{Kind}
+use Rattle.pm_recipe.specs.declared.fronts.Kind.TheVariants.{Assign, Capture, Close, Forward, Pipe}
+use Rattle.pm_recipe.specs.declared.spans.Span.{Span}
 use Rattle.check_moving.specs.Calls.{calls_in}
 use Rattle.check_moving.specs.Conditions.{conditioned}
 use Rattle.check_moving.specs.Expanded.{expanded}
 use Rattle.check_moving.specs.Kept.{kept}
 use Rattle.check_moving.specs.Leads.{front_of}
 use Rattle.check_moving.specs.Mailboxes.{filed_by}
-use Rattle.check_moving.specs.Recipes.{begun, opened}
+use Rattle.check_moving.specs.Recipes.{begun, opened, sent}
 use Rattle.check_moving.specs.Searches.{searched_by}
+use Rattle.check_moving.specs.Standing.{after, after_colon, begin}
 use Rattle.check_moving.specs.Variables.{assigned, valued}
 use Rattle.check_moving.specs.Words.{words_of}
 use Rattle.check_moving.specs.declared.form.Form.{Form}
@@ -21,6 +25,7 @@ use Rattle.check_moving.specs.declared.form.SearchForm.TheVariants as search
 use Rattle.check_moving.specs.declared.form.MailboxForm.TheVariants as mailbox
 use Rattle.check_moving.specs.declared.form.ProgramForm.TheVariants as program
 use Rattle.check_moving.specs.declared.form.ReplyForm.TheVariants as reply
+use Rattle.check_moving.specs.declared.standing.Standing.{Standing}
 
 -- the forms of an assignment
 abbrev pub of_value : List ℕ → List ℕ → List Form
@@ -110,6 +115,26 @@ pub record OfConditions : Type 0 where
   -- a program's line and a size are none
   pub program : of_search (codes " ? test  \\$^") ≡ []
 
+-- a span of this kind without a text
+abbrev pub bare : Kind → Span
+bare kind = record {
+  kind = kind;
+  line = 1;
+  first = 0;
+  name = record { ref_ptr = (0, 0); now = [] };
+  text = record { ref_ptr = (0, 0); now = [] };
+  bytes = record { ref_ptr = (0, 0); now = [] };
+}
+
+-- whether a recipe's exit status isn't looked at, after spans of these kinds
+abbrev pub unwatched_from : Standing → List Kind → Bool
+unwatched_from standing [] = standing.unwatched
+unwatched_from standing (kind ∷ kinds) = unwatched_from (after (bare kind) standing) kinds
+
+-- below this colon line
+abbrev pub unwatched_by : List ℕ → List Kind → Bool
+unwatched_by colon kinds = unwatched_from (after_colon colon (begin [])) kinds
+
 -- mailboxes, colon lines and blocks
 pub record OfRecipes : Type 0 where
   pub several : kept (filed_by (codes ":0:") false (codes "my mail")) ≡ any.Mailbox mailbox.Several ∷ []
@@ -122,13 +147,32 @@ pub record OfRecipes : Type 0 where
   pub raw : kept (filed_by (codes ":0 r:") false (codes "mbox")) ≡ any.Mailbox mailbox.Raw ∷ []
   pub own : kept (filed_by (codes ":0:mbox") false (codes "mbox")) ≡ any.Mailbox mailbox.OwnLock ∷ []
   pub folder : kept (filed_by (codes ":0:") true (codes "md/")) ≡ any.Mailbox mailbox.FolderLock ∷ []
-  pub chain : kept (begun true false [] (codes ":0 A")) ≡ any.Recipe recipe.FirstChain ∷ []
-  pub no_chain : kept (begun false false [] (codes ":0 A")) ≡ []
-  pub after : kept (begun false true [] (codes ":0 e")) ≡ any.Recipe recipe.AfterBlock ∷ []
-  pub held : kept (begun false false (codes "g") (codes ":0:g")) ≡ any.Recipe recipe.HeldLock ∷ []
+  pub chain : kept (begun true false false [] (codes ":0 A")) ≡ any.Recipe recipe.FirstChain ∷ []
+  pub no_chain : kept (begun false false false [] (codes ":0 A")) ≡ []
+  pub after : kept (begun false true false [] (codes ":0 e")) ≡ any.Recipe recipe.AfterBlock ∷ []
+  pub held : kept (begun false false false (codes "g") (codes ":0:g")) ≡ any.Recipe recipe.HeldLock ∷ []
   pub lock : kept (opened (codes ":0:b.lock")) ≡ any.Recipe recipe.BlockLock ∷ []
   pub automatic : kept (opened (codes ":0:")) ≡ any.Recipe recipe.BlockAutoLock ∷ []
   pub copy : kept (opened (codes ":0 c")) ≡ any.Recipe recipe.BlockCopy ∷ []
+  -- an exit status that 3.22 looks at
+  pub locked : kept (sent (codes ":0:p.lock")) ≡ any.Program program.LockWait ∷ []
+  pub locked_itself : kept (sent (codes ":0 h:")) ≡ any.Program program.LockWait ∷ []
+  pub not_locked : kept (sent (codes ":0 h # x: y")) ≡ []
+  pub waits : kept (sent (codes ":0 w:p.lock")) ≡ []
+  pub waits_quietly : kept (sent (codes ":0 W:p.lock")) ≡ []
+  pub filters : kept (sent (codes ":0 f:p.lock")) ≡ []
+  pub copies : kept (sent (codes ":0 c:p.lock")) ≡ []
+  pub after_lock : kept (begun false false true [] (codes ":0 a")) ≡ any.Recipe recipe.AfterLock ∷ []
+  pub error_after_lock : kept (begun false false true [] (codes ":0 e")) ≡ any.Recipe recipe.AfterLock ∷ []
+  pub else_after_lock : kept (begun false false true [] (codes ":0 E")) ≡ []
+  pub copy_before : unwatched_by (codes ":0 c:p.lock") (Pipe ∷ []) ≡ true
+  pub forward_before : unwatched_by (codes ":0 c:") (Forward ∷ []) ≡ true
+  pub capture_before : unwatched_by (codes ":0:p.lock") (Capture ∷ []) ≡ true
+  pub waits_before : unwatched_by (codes ":0 w:p.lock") (Capture ∷ []) ≡ false
+  pub delivery_before : unwatched_by (codes ":0:p.lock") (Pipe ∷ []) ≡ false
+  pub filter_before : unwatched_by (codes ":0 fc:p.lock") (Pipe ∷ []) ≡ false
+  pub block_between : unwatched_by (codes ":0 c:p.lock") (Pipe ∷ Close ∷ []) ≡ false
+  pub value_between : unwatched_by (codes ":0 c:p.lock") (Pipe ∷ Assign ∷ []) ≡ true
 
 -- calls of formail
 pub record OfCalls : Type 0 where

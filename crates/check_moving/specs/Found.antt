@@ -16,7 +16,7 @@ use Rattle.check_moving.specs.Expanded.{expanded}
 use Rattle.check_moving.specs.Kept.{kept}
 use Rattle.check_moving.specs.Leads.{Front, front_of}
 use Rattle.check_moving.specs.Mailboxes.{filed_by}
-use Rattle.check_moving.specs.Recipes.{begun, opened}
+use Rattle.check_moving.specs.Recipes.{begun, opened, sent}
 use Rattle.check_moving.specs.Searches.{searched_by}
 use Rattle.check_moving.specs.Standing.{begin, after, names_maildir}
 use Rattle.check_moving.specs.Text.{has_part}
@@ -96,21 +96,33 @@ of_program standing text =
     kept (programmed text) ++ kept (expanded standing.weighted (expanded_line text))
     ++ calls_in (lock_held (lock_of standing.colon) standing.held) (words_of text)
 
+-- of a program that gets the mail
+abbrev pub of_pipe : Standing → List ℕ → List Form
+of_pipe standing text = kept (sent standing.colon) ++ of_program standing text
+
+-- the forms of a forward's line
+abbrev pub of_forward : Standing → List ℕ → List Form
+of_forward standing text = kept (sent standing.colon) ++ kept (expanded standing.weighted (expanded_line text))
+
 -- the forms of a mailbox's line
 abbrev pub of_mailbox : Standing → List ℕ → List Form
 of_mailbox standing text = kept (filed_by standing.colon standing.told text) ++ kept (expanded standing.weighted text)
 
+-- the forms of a colon line
+abbrev pub of_colon : Standing → List ℕ → List Form
+of_colon standing text = kept (begun standing.fresh standing.closed standing.unwatched standing.held text)
+
 -- the forms of a span of this kind
 abbrev pub of_kind : Standing → Kind → List ℕ → List ℕ → List Form
-of_kind standing kind.Colon name text = kept (begun standing.fresh standing.closed standing.held text)
+of_kind standing kind.Colon name text = of_colon standing text
 of_kind standing kind.Condition name text = of_read standing text (condition_of text)
 of_kind standing kind.Open name text = kept (opened standing.colon)
 of_kind standing kind.Assign name text = of_assign standing name text
 of_kind standing kind.Unset name text = kept (unset name)
 of_kind standing kind.Mailbox name text = of_mailbox standing text
-of_kind standing kind.Pipe name text = of_program standing text
+of_kind standing kind.Pipe name text = of_pipe standing text
 of_kind standing kind.Capture name text = of_program standing text
-of_kind standing kind.Forward name text = kept (expanded standing.weighted (expanded_line text))
+of_kind standing kind.Forward name text = of_forward standing text
 of_kind standing _ name text = []
 
 -- the forms of a span

@@ -49,6 +49,7 @@ recipe_code recipe.HeldLock = codes "held-lock"
 recipe_code recipe.BlockLock = codes "block-lock"
 recipe_code recipe.BlockAutoLock = codes "block-auto-lock"
 recipe_code recipe.BlockCopy = codes "block-copy"
+recipe_code recipe.AfterLock = codes "after-lock"
 
 -- codes of forms of this kind
 abbrev pub condition_code : ConditionForm → List ℕ
@@ -93,6 +94,7 @@ program_code program.Digest = codes "digest"
 program_code program.OldOption = codes "old-option"
 program_code program.SplitOutput = codes "split-output"
 program_code program.FromAppended = codes "from-appended"
+program_code program.LockWait = codes "lock-w"
 
 -- codes of forms of this kind
 abbrev pub reply_code : ReplyForm → List ℕ
@@ -146,6 +148,7 @@ recipe_text recipe.HeldLock = codes "this lock file is already held by LOCKFILE:
 recipe_text recipe.BlockLock = codes "this lock file is held to the end of the block"
 recipe_text recipe.BlockAutoLock = codes "a block has no automatic lock file: remove the second colon"
 recipe_text recipe.BlockCopy = codes "the clone of this block is executed after the whole process, and not beside it"
+recipe_text recipe.AfterLock = codes "the recipe before has a lock file and no w: its exit status is not looked at"
 
 -- what is said of forms of this kind
 abbrev pub condition_text : ConditionForm → List ℕ
@@ -190,6 +193,7 @@ program_text program.Digest = codes "formail has no -d: nothing is written, with
 program_text program.OldOption = codes "formail has not all of these options: nothing is written, with the status 64"
 program_text program.SplitOutput = codes "the output of the programs that formail -s starts is lost"
 program_text program.FromAppended = codes "formail -f adds no empty line at the end of the mail"
+program_text program.LockWait = codes "if this fails, the mail is lost in spite of the lock file: add the flag w"
 
 -- what is said of forms of this kind
 abbrev pub reply_text : ReplyForm → List ℕ

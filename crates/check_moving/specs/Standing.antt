@@ -2,13 +2,16 @@
 use Rattle.std.specs.Prelude.{ℕ, Bool, true, false, not, ◌||◌, ◌&&◌, List, [], ◌∷◌, codes, if◌then◌else◌}
 use Rattle.std.specs.List.{list_any}
 use Rattle.std.specs.Str.{bytes_eq}
+use Rattle.pm_recipe.specs.Colon.{flags_of, flags_part}
 use Rattle.pm_recipe.specs.Weights.{condition_of}
 use Rattle.pm_recipe.specs.declared.fronts.Kind.{Kind}
 use Rattle.pm_recipe.specs.declared.fronts.Kind.TheVariants as kind
 use Rattle.pm_recipe.specs.declared.spans.Span.{Span}
+use Rattle.pm_recipe.specs.declared.tree.Flags.{Flags}
 use Rattle.pm_recipe.specs.declared.tree.Weight.{Weight}
 use Rattle.check_moving.specs.Conditions.{is_weight, is_greatest}
 use Rattle.check_moving.specs.Mailboxes.{is_maildir}
+use Rattle.check_moving.specs.Recipes.{is_unwatched}
 use Rattle.check_moving.specs.Text.{has_part, without_quotes}
 use Rattle.check_moving.specs.Variables.{is_mailbox}
 use Rattle.check_moving.specs.declared.standing.Standing.{Standing}
@@ -30,6 +33,7 @@ begin spans = record {
   greatest = false;
   fresh = false;
   closed = false;
+  unwatched = false;
   told = list_any is_stripped spans;
 }
 
@@ -42,6 +46,7 @@ after_colon text standing = record {
   greatest = false;
   fresh = false;
   closed = false;
+  unwatched = false;
   told = standing.told;
 }
 
@@ -54,6 +59,7 @@ after_weight worth standing = record {
   greatest = standing.greatest || is_greatest worth;
   fresh = standing.fresh;
   closed = standing.closed;
+  unwatched = standing.unwatched;
   told = standing.told;
 }
 
@@ -66,6 +72,7 @@ after_brace opens standing = record {
   greatest = standing.greatest;
   fresh = opens;
   closed = not opens;
+  unwatched = false;
   told = standing.told;
 }
 
@@ -86,6 +93,7 @@ after_value name value standing = record {
   greatest = standing.greatest;
   fresh = standing.fresh;
   closed = standing.closed;
+  unwatched = standing.unwatched;
   told = standing.told || names_maildir name value;
 }
 
@@ -98,8 +106,26 @@ after_mailbox text standing = record {
   greatest = standing.greatest;
   fresh = standing.fresh;
   closed = standing.closed;
+  unwatched = standing.unwatched;
   told = standing.told || is_maildir text;
 }
+
+-- after a program that gets the mail, where the recipes after it get it too, or not
+abbrev pub after_program : Bool → Standing → Standing
+after_program goes_on standing = record {
+  colon = standing.colon;
+  held = standing.held;
+  weighted = standing.weighted;
+  greatest = standing.greatest;
+  fresh = standing.fresh;
+  closed = standing.closed;
+  unwatched = goes_on && is_unwatched standing.colon;
+  told = standing.told;
+}
+
+-- a copy that is no filter
+abbrev pub is_copy : Flags → Bool
+is_copy flags = flags.copy && not flags.filter
 
 -- after a span of this kind
 abbrev pub after_kind : Kind → List ℕ → List ℕ → Standing → Standing
@@ -110,6 +136,9 @@ after_kind kind.Close name text standing = after_brace false standing
 after_kind kind.Assign name text standing = after_value name text standing
 after_kind kind.Unset name text standing = after_value name [] standing
 after_kind kind.Mailbox name text standing = after_mailbox text standing
+after_kind kind.Pipe name text standing = after_program (is_copy (flags_of (flags_part standing.colon))) standing
+after_kind kind.Forward name text standing = after_program (is_copy (flags_of (flags_part standing.colon))) standing
+after_kind kind.Capture name text standing = after_program true standing
 after_kind _ name text standing = standing
 
 -- after a span

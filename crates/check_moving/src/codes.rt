@@ -64,6 +64,7 @@ fn recipe_code(form: RecipeForm) -> &'static str
         RecipeForm::BlockLock => "block-lock",
         RecipeForm::BlockAutoLock => "block-auto-lock",
         RecipeForm::BlockCopy => "block-copy",
+        RecipeForm::AfterLock => "after-lock",
     }
 }
 
@@ -124,6 +125,7 @@ fn program_code(form: ProgramForm) -> &'static str
         ProgramForm::OldOption => "old-option",
         ProgramForm::SplitOutput => "split-output",
         ProgramForm::FromAppended => "from-appended",
+        ProgramForm::LockWait => "lock-w",
     }
 }
 

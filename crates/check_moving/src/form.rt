@@ -71,6 +71,8 @@ pub enum RecipeForm {
     BlockAutoLock,
     /// A block with c.
     BlockCopy,
+    /// a or e after a copy or a capture with a lock file and without w.
+    AfterLock,
 }
 
 /// Weights, and what stands before an expression.
@@ -155,6 +157,8 @@ pub enum ProgramForm {
     SplitOutput,
     /// `formail -f >>`.
     FromAppended,
+    /// A lock file without w.
+    LockWait,
 }
 
 /// What formail does with fields.

@@ -84,6 +84,9 @@ fn recipe_text(form: RecipeForm) -> &'static str
         RecipeForm::BlockCopy => {
             "the clone of this block is executed after the whole process, and not beside it"
         }
+        RecipeForm::AfterLock => {
+            "the recipe before has a lock file and no w: its exit status is not looked at"
+        }
     }
 }
 
@@ -174,6 +177,9 @@ fn program_text(form: ProgramForm) -> &'static str
         }
         ProgramForm::SplitOutput => "the output of the programs that formail -s starts is lost",
         ProgramForm::FromAppended => "formail -f adds no empty line at the end of the mail",
+        ProgramForm::LockWait => {
+            "if this fails, the mail is lost in spite of the lock file: add the flag w"
+        }
     }
 }
 

@@ -2,9 +2,9 @@
 ghost use Rattle.std.specs.Prelude.{◌≡◌, IfOk};
 ghost use Rattle.check_moving.specs.Kept;
 ghost use Rattle.check_moving.specs.Recipes;
-ghost use Rattle.check_moving.specs.Recipes.{begun, opened};
+ghost use Rattle.check_moving.specs.Recipes.{begun, opened, sent};
 
-use crate::form::{Form, RecipeForm};
+use crate::form::{Form, ProgramForm, RecipeForm};
 use crate::kept::kept;
 use crate::mailboxes::is_automatic;
 use crate::text::is;
@@ -12,16 +12,17 @@ use pm_bytes::{Blob, Memory};
 use pm_recipe::{Flags, read_flags, read_lock};
 use std::alloc::Global;
 
-/// The forms of a colon line: `fresh` as the first of a block, `closed` right after a block, and under the lock file
-/// `held`, or none.
+/// The forms of a colon line: `fresh` as the first of a block, `closed` right after a block, `unwatched` after a recipe
+/// with a lock file and without w, and under the lock file `held`, or none.
 pub fn colon_forms(
     alloc: Global,
     fresh: bool,
     closed: bool,
+    unwatched: bool,
     held: &[u8],
     colon: &[u8],
 ) -> Result<Vec<Form>, Memory>
-    ensures { IfOk result (λ forms. forms.items ≡ Kept.kept (begun fresh closed held.now colon.now)) }
+    ensures { IfOk result (λ forms. forms.items ≡ Kept.kept (begun fresh closed unwatched held.now colon.now)) }
 {
     let flags = read_flags(colon);
     let lock = read_lock(alloc, colon)?;
@@ -35,6 +36,10 @@ pub fn colon_forms(
             Form::Recipe(RecipeForm::AfterBlock),
         ),
         (is_lock(held, &lock), Form::Recipe(RecipeForm::HeldLock)),
+        (
+            is_after_lock(unwatched, flags),
+            Form::Recipe(RecipeForm::AfterLock),
+        ),
     ];
     kept(alloc, &reasons)
 }
@@ -53,6 +58,14 @@ pub fn block_forms(alloc: Global, colon: &[u8]) -> Result<Vec<Form>, Memory>
         (is_automatic(&lock), Form::Recipe(RecipeForm::BlockAutoLock)),
         (flags.copy, Form::Recipe(RecipeForm::BlockCopy)),
     ];
+    kept(alloc, &reasons)
+}
+
+/// The forms of a program or a forward under this colon line.
+pub fn sent_forms(alloc: Global, colon: &[u8]) -> Result<Vec<Form>, Memory>
+    ensures { IfOk result (λ forms. forms.items ≡ Kept.kept (sent colon.now)) }
+{
+    let reasons = [(is_lost(alloc, colon)?, Form::Program(ProgramForm::LockWait))];
     kept(alloc, &reasons)
 }
 
@@ -90,4 +103,41 @@ fn is_block_lock(flags: Flags, lock: &Option<Blob>) -> bool
     ensures { result ≡ Recipes.is_block_lock flags lock.now }
 {
     is_named(lock) && !flags.copy
+}
+
+fn is_after_lock(unwatched: bool, flags: Flags) -> bool
+    ensures { result ≡ Recipes.is_after_lock unwatched flags }
+{
+    unwatched && (flags.and_ok || flags.on_error)
+}
+
+fn lacks_wait(flags: Flags) -> bool
+    ensures { result ≡ Recipes.lacks_wait flags }
+{
+    !(flags.wait || flags.wait_quiet)
+}
+
+fn is_locked(flags: Flags, lock: &Option<Blob>) -> bool
+    ensures { result ≡ Recipes.is_locked flags lock.now }
+{
+    match lock {
+        None => false,
+        Some(_) => lacks_wait(flags),
+    }
+}
+
+/// Whether the exit status of a program under this colon line isn't looked at, though it has a lock file.
+pub fn is_unwatched(alloc: Global, colon: &[u8]) -> Result<bool, Memory>
+    ensures { IfOk result (λ unwatched. unwatched ≡ Recipes.is_unwatched colon.now) }
+{
+    let lock = read_lock(alloc, colon)?;
+    Ok(is_locked(read_flags(colon), &lock))
+}
+
+fn is_lost(alloc: Global, colon: &[u8]) -> Result<bool, Memory>
+    ensures { IfOk result (λ lost. lost ≡ Recipes.is_lost colon.now) }
+{
+    let flags = read_flags(colon);
+    let unwatched = is_unwatched(alloc, colon)?;
+    Ok(unwatched && !flags.filter && !flags.copy)
 }

@@ -17,7 +17,7 @@ use crate::form::{Form, MailboxForm, ProgramForm, VariableForm};
 use crate::kept::kept;
 use crate::leads::{Lead, read_lead};
 use crate::mailboxes::mailbox_forms;
-use crate::recipes::{block_forms, colon_forms};
+use crate::recipes::{block_forms, colon_forms, sent_forms};
 use crate::searches::search_forms;
 use crate::standing::{Standing, names_maildir};
 use crate::text::{has_part, is};
@@ -37,6 +37,7 @@ pub fn forms_of(alloc: Global, standing: &Standing, span: &Span<'_>) -> Result<V
             alloc,
             standing.fresh,
             standing.closed,
+            standing.unwatched,
             standing.held.as_slice(),
             text,
         ),
@@ -45,8 +46,9 @@ pub fn forms_of(alloc: Global, standing: &Standing, span: &Span<'_>) -> Result<V
         Kind::Assign => of_assign(alloc, standing, span.name, text),
         Kind::Unset => of_unset(alloc, span.name),
         Kind::Mailbox => of_mailbox(alloc, standing, text),
-        Kind::Pipe | Kind::Capture => of_program(alloc, standing, text),
-        Kind::Forward => expanded_forms(alloc, standing.weighted, expanded_line(text)),
+        Kind::Pipe => of_pipe(alloc, standing, text),
+        Kind::Capture => of_program(alloc, standing, text),
+        Kind::Forward => of_forward(alloc, standing, text),
         _ => Ok(Vec::new(alloc)),
     }
 }
@@ -221,6 +223,24 @@ fn of_program(alloc: Global, standing: &Standing, text: &[u8]) -> Result<Vec<For
     let called = calls_of(alloc, lock_held(&lock, standing.held.as_slice()), text)?;
     put(expanded.as_slice(), &mut forms)?;
     put(called.as_slice(), &mut forms)?;
+    Ok(forms)
+}
+
+fn of_pipe(alloc: Global, standing: &Standing, text: &[u8]) -> Result<Vec<Form>, Memory>
+    ensures { IfOk result (λ forms. forms.items ≡ Found.of_pipe standing.now text.now) }
+{
+    let mut forms = sent_forms(alloc, standing.colon.as_slice())?;
+    let others = of_program(alloc, standing, text)?;
+    put(others.as_slice(), &mut forms)?;
+    Ok(forms)
+}
+
+fn of_forward(alloc: Global, standing: &Standing, text: &[u8]) -> Result<Vec<Form>, Memory>
+    ensures { IfOk result (λ forms. forms.items ≡ Found.of_forward standing.now text.now) }
+{
+    let mut forms = sent_forms(alloc, standing.colon.as_slice())?;
+    let expanded = expanded_forms(alloc, standing.weighted, expanded_line(text))?;
+    put(expanded.as_slice(), &mut forms)?;
     Ok(forms)
 }
 

@@ -1,15 +1,17 @@
 //! What is known where a span stands, by the spans before it.
 ghost use Rattle.std.specs.Prelude.{◌≡◌, IfOk};
 ghost use Rattle.std.specs.List.{list_any};
-ghost use Rattle.check_moving.specs.Standing.{after, after_brace, after_colon, after_mailbox, after_value};
-ghost use Rattle.check_moving.specs.Standing.{after_weight, begin, held_after, is_stripped, names_maildir, strips};
+ghost use Rattle.check_moving.specs.Standing.{after, after_brace, after_colon, after_mailbox, after_program};
+ghost use Rattle.check_moving.specs.Standing.{after_value, after_weight, begin, held_after, is_copy, is_stripped};
+ghost use Rattle.check_moving.specs.Standing.{names_maildir, strips};
 
 use crate::conditions::{is_greatest, is_weight};
 use crate::mailboxes::is_maildir;
+use crate::recipes::is_unwatched;
 use crate::text::{has_part, is, unquoted};
 use crate::variables::is_mailbox;
 use pm_bytes::{Blob, Memory};
-use pm_recipe::{Kind, Span, Weight, read_condition};
+use pm_recipe::{Flags, Kind, Span, Weight, read_condition, read_flags};
 use std::alloc::Global;
 
 /// What is known.
@@ -26,6 +28,8 @@ pub struct Standing {
     pub fresh: bool,
     /// No recipe has begun since a block ended.
     pub closed: bool,
+    /// The exit status of the last recipe's program isn't looked at, though it has a lock file.
+    pub unwatched: bool,
     /// No maildir is told of any more.
     pub told: bool,
 }
@@ -41,6 +45,7 @@ pub fn begin(alloc: Global, spans: &[Span<'_>]) -> Standing
         greatest: false,
         fresh: false,
         closed: false,
+        unwatched: false,
         told: has_stripped(spans),
     }
 }
@@ -78,6 +83,11 @@ pub fn after(alloc: Global, span: &Span<'_>, standing: Standing) -> Result<Stand
         Kind::Assign => after_value(alloc, span.name, span.text, standing),
         Kind::Unset => after_value(alloc, span.name, &[], standing),
         Kind::Mailbox => Ok(after_mailbox(span.text, standing)),
+        Kind::Pipe | Kind::Forward => {
+            let goes_on = is_copy(read_flags(standing.colon.as_slice()));
+            after_program(alloc, goes_on, standing)
+        }
+        Kind::Capture => after_program(alloc, true, standing),
         _ => Ok(standing),
     }
 }
@@ -91,6 +101,7 @@ fn after_colon(alloc: Global, text: &[u8], standing: Standing) -> Result<Standin
         greatest: false,
         fresh: false,
         closed: false,
+        unwatched: false,
         ..standing
     })
 }
@@ -111,6 +122,7 @@ fn after_brace(opens: bool, standing: Standing) -> Standing
     Standing {
         fresh: opens,
         closed: !opens,
+        unwatched: false,
         ..standing
     }
 }
@@ -148,6 +160,7 @@ fn after_value(
         greatest: standing.greatest,
         fresh: standing.fresh,
         closed: standing.closed,
+        unwatched: standing.unwatched,
         told,
     })
 }
@@ -159,4 +172,20 @@ fn after_mailbox(text: &[u8], standing: Standing) -> Standing
         told: standing.told || is_maildir(text),
         ..standing
     }
+}
+
+fn is_copy(flags: Flags) -> bool
+    ensures { result ≡ is_copy flags }
+{
+    flags.copy && !flags.filter
+}
+
+fn after_program(alloc: Global, goes_on: bool, standing: Standing) -> Result<Standing, Memory>
+    ensures { IfOk result (λ next. next ≡ after_program goes_on standing) }
+{
+    let unwatched = is_unwatched(alloc, standing.colon.as_slice())?;
+    Ok(Standing {
+        unwatched: goes_on && unwatched,
+        ..standing
+    })
 }

@@ -10,7 +10,8 @@ use crate::words::{line_of, owned, telling};
 use explain_host::Machine;
 use explain_json::{mail_object, outcome_object, run_object};
 use explain_mails::{mail_heading, mail_line, subject_of};
-use explain_text::{explain as steps_text, result_line, steps_of};
+use explain_notes::explain as run_text;
+use explain_text::{result_line, steps_of};
 use pm_bytes::{Blob, Memory};
 use std::alloc::Global;
 
@@ -80,13 +81,14 @@ fn complain_of(rt: &HostRuntime, status: u8) -> Result<(), Stopped> {
 
 fn text_of(alloc: Global, options: &Options<'_>, ran: &Ran) -> Result<Blob, Memory> {
     let entries = ran.journal.entries();
+    let notes = ran.notes.as_slice();
     match options.format {
-        Format::Json => run_object(alloc, options.quiet, entries, ran.status),
+        Format::Json => run_object(alloc, options.quiet, entries, notes, ran.status),
         Format::Text if options.quiet => {
             let steps = steps_of(alloc, entries)?;
             result_line(alloc, steps.as_slice(), ran.status)
         }
-        Format::Text => steps_text(alloc, entries, ran.status),
+        Format::Text => run_text(alloc, entries, notes, ran.status),
     }
 }
 
@@ -119,12 +121,13 @@ fn mail_text(
     let subject = subject_of(rt.alloc(), mail.as_slice())?;
     let ran = runs.run(rt, words, mail)?;
     let entries = ran.journal.entries();
+    let notes = ran.notes.as_slice();
     match format {
-        Format::Json => mail_object(rt.alloc(), number, &subject, entries, ran.status),
+        Format::Json => mail_object(rt.alloc(), number, &subject, entries, notes, ran.status),
         Format::Text => {
             let mut text = mail_heading(rt.alloc(), number, &subject)?;
-            let steps = steps_text(rt.alloc(), entries, ran.status)?;
-            text.push_slice(steps.as_slice())?;
+            let lines = run_text(rt.alloc(), entries, notes, ran.status)?;
+            text.push_slice(lines.as_slice())?;
             Ok(text)
         }
     }

@@ -1,11 +1,13 @@
 //! Runs of procmail over what is there, whose changes stay in memory.
 use explain_host::Machine;
 use explain_mails::{Outcome, destination_names};
+use explain_notes::Notes;
 use explain_programs::{OwnCode, lines_of};
 use pm_bytes::{Blob, Memory};
+use pm_conds::{NoObserver, Observer};
 use pm_journal::Journal;
 use pm_overlay::{Given, Overlay, Void};
-use pm_top::{MessageSource, procmail};
+use pm_top::{MessageSource, procmail_observed};
 use std::alloc::Global;
 
 /// What all runs share. Each begins with the files as they are on the disk.
@@ -15,33 +17,24 @@ pub struct Runs {
     pub given: Vec<Given>,
 }
 
-/// What one did.
+/// What one did, and what was heard of its recipes.
 #[derive(Drop)]
 pub struct Ran {
     pub journal: Journal,
+    pub notes: Notes,
     pub status: u8,
 }
 
 impl Runs {
     /// Runs procmail by these words on a mail.
     pub fn run(&self, rt: &HostRuntime, words: &[String], mail: &Blob) -> Result<Ran, Memory> {
-        let mut source = MessageSource::new(mail.as_slice().to_vec(rt.alloc())?);
-        let mut journal = Journal::new(rt.alloc());
-        let given = copies(rt.alloc(), self.given.as_slice())?;
-        let answered = lines_of(rt.alloc(), self.given.as_slice())?;
-        let overlay = Overlay::new(rt.alloc(), self.machine.base(rt)?, given);
-        let mut host = OwnCode::new(rt.alloc(), overlay, answered)?;
-        let status = procmail(
-            rt.alloc(),
-            words,
-            self.machine.env(),
-            &mut source,
-            &mut host,
-            &mut Void::new(),
-            &mut Void::new(),
-            &mut journal,
-        );
-        Ok(Ran { journal, status })
+        let mut notes = Notes::new(rt.alloc());
+        let (journal, status) = self.observe(rt, words, mail, &mut notes)?;
+        Ok(Ran {
+            journal,
+            notes,
+            status,
+        })
     }
 
     /// What a mail comes to by these words.
@@ -51,9 +44,37 @@ impl Runs {
         words: &[String],
         mail: &Blob,
     ) -> Result<Outcome, Memory> {
-        let ran = self.run(rt, words, mail)?;
-        let names = destination_names(rt.alloc(), ran.journal.entries())?;
-        Ok(Outcome::new(names, ran.status))
+        let (journal, status) = self.observe(rt, words, mail, &mut NoObserver)?;
+        let names = destination_names(rt.alloc(), journal.entries())?;
+        Ok(Outcome::new(names, status))
+    }
+
+    // The entries and the status of a run that this observer follows.
+    fn observe<N: Observer>(
+        &self,
+        rt: &HostRuntime,
+        words: &[String],
+        mail: &Blob,
+        observer: &mut N,
+    ) -> Result<(Journal, u8), Memory> {
+        let mut source = MessageSource::new(mail.as_slice().to_vec(rt.alloc())?);
+        let mut journal = Journal::new(rt.alloc());
+        let given = copies(rt.alloc(), self.given.as_slice())?;
+        let answered = lines_of(rt.alloc(), self.given.as_slice())?;
+        let overlay = Overlay::new(rt.alloc(), self.machine.base(rt)?, given);
+        let mut host = OwnCode::new(rt.alloc(), overlay, answered)?;
+        let status = procmail_observed(
+            rt.alloc(),
+            words,
+            self.machine.env(),
+            &mut source,
+            &mut host,
+            &mut Void::new(),
+            &mut Void::new(),
+            &mut journal,
+            observer,
+        );
+        Ok((journal, status))
     }
 }
 

@@ -1,3 +1,4 @@
 pub mod Examples
 pub mod Members
 pub mod Objects
+pub mod Recipes

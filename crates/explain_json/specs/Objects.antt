@@ -2,6 +2,7 @@
 use Rattle.std.specs.Prelude.{ℕ, Bool, false, List, [], ◌∷◌, ◌++◌, length, flat_map, count_by, Option, codes, if◌then◌else◌}
 use Rattle.json.specs.Print.{print}
 use Rattle.json.specs.Token.{Token, begin_object, end_object, begin_array, end_array, key}
+use Rattle.pm_conds.specs.declared.observer.Note.{Note}
 use Rattle.pm_journal.specs.declared.acts.Entry.{Entry}
 use Rattle.explain_text.specs.Steps.{steps_of}
 use Rattle.explain_text.specs.Lines.{delivered_to}
@@ -11,6 +12,7 @@ use Rattle.explain_text.specs.declared.step.Step.{Step}
 use Rattle.explain_mails.specs.Compared.{goes_elsewhere}
 use Rattle.explain_mails.specs.Went.{Went}
 use Rattle.explain_mails.specs.declared.outcome.Compared.{Compared}
+use Rattle.explain_json.specs.Recipes.{recipes_member}
 use Rattle.explain_json.specs.Members.{text_member, maybe_member, number_member, truth_member, texts_member}
 
 -- an object with these members, on a line
@@ -48,21 +50,21 @@ step_tokens s = begin_object ∷ (what_members s ++ how_members s ++ end_object 
 abbrev pub steps_member : Bool → List Step → List Token
 steps_member quiet steps = if quiet then [] else key (codes "steps") ∷ begin_array ∷ (flat_map step_tokens steps ++ end_array ∷ [])
 
-abbrev pub run_members : Bool → List Entry → ℕ → List Token
-run_members quiet entries status =
-    steps_member quiet (steps_of entries) ++ maybe_member (codes "delivered_to") (delivered_to (steps_of entries)) ++ number_member (codes "status") status
+abbrev pub run_members : Bool → List Entry → List Note → ℕ → List Token
+run_members quiet entries notes status =
+    steps_member quiet (steps_of entries) ++ recipes_member quiet entries notes ++ maybe_member (codes "delivered_to") (delivered_to (steps_of entries)) ++ number_member (codes "status") status
 
 -- a run
-abbrev pub run_object : Bool → List Entry → ℕ → List ℕ
-run_object quiet entries status = object_line (run_members quiet entries status)
+abbrev pub run_object : Bool → List Entry → List Note → ℕ → List ℕ
+run_object quiet entries notes status = object_line (run_members quiet entries notes status)
 
 -- the number of a mail and its subject
 abbrev pub mail_members : ℕ → Option (List ℕ) → List Token
 mail_members n subject = number_member (codes "mail") n ++ maybe_member (codes "subject") subject
 
 -- the run of a mail
-abbrev pub mail_object : ℕ → Option (List ℕ) → List Entry → ℕ → List ℕ
-mail_object n subject entries status = object_line (mail_members n subject ++ run_members false entries status)
+abbrev pub mail_object : ℕ → Option (List ℕ) → List Entry → List Note → ℕ → List ℕ
+mail_object n subject entries notes status = object_line (mail_members n subject ++ run_members false entries notes status)
 
 -- where a mail goes, and the status
 abbrev pub outcome_members : Went → List Token

@@ -4,6 +4,7 @@
 mod laws;
 mod mails;
 mod members;
+mod recipes;
 mod runs;
 
 pub use laws::examples;

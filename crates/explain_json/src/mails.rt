@@ -11,6 +11,7 @@ use crate::runs::{line_of, put_run};
 use explain_mails::{Compared, Outcome, count_moved, goes_elsewhere};
 use json::Writer;
 use pm_bytes::{Blob, Memory};
+use pm_conds::Note;
 use pm_journal::Entry;
 use std::alloc::Global;
 
@@ -20,14 +21,15 @@ pub fn mail_object(
     number: u64,
     subject: &Option<Blob>,
     entries: &[Entry],
+    notes: &[Note],
     status: u8,
 ) -> Result<Blob, Memory>
-    ensures { IfOk result (λ text. text ≡ mail_object number subject.now entries.now status) }
+    ensures { IfOk result (λ text. text ≡ mail_object number subject.now entries.now notes.now status) }
 {
     let mut writer = Writer::new(Vec::new(alloc));
     writer.begin_object()?;
     put_mail(alloc, &mut writer, number, subject)?;
-    put_run(alloc, &mut writer, false, entries, status)?;
+    put_run(alloc, &mut writer, false, entries, notes, status)?;
     writer.end_object()?;
     line_of(writer)
 }

@@ -1,7 +1,7 @@
 //! Members of objects. Bytes that are no UTF-8 are written as U+FFFD.
 ghost use Rattle.std.specs.Prelude.{OnOk, ◌∷◌, [], map, option_copied};
 ghost use Rattle.explain_json.specs.Members.{Adds, text_token, text_member, maybe_member, number_member, truth_member};
-ghost use Rattle.explain_json.specs.Members.{texts_member};
+ghost use Rattle.explain_json.specs.Members.{texts_member, maybe_number_member, signed_member};
 
 use bstr::ByteSlice;
 use json::Writer;
@@ -52,6 +52,32 @@ pub(crate) fn put_number_member(writer: &mut Writer, name: &str, number: u64) ->
 {
     writer.key(name)?;
     writer.u64(number)?;
+    Ok(())
+}
+
+/// `null` where there is none.
+pub(crate) fn put_maybe_number_member(
+    writer: &mut Writer,
+    name: &str,
+    number: Option<u64>,
+) -> Result<(), Memory>
+    ensures { OnOk result (Adds writer.old writer.new (maybe_number_member name.now number)) }
+{
+    match number {
+        Some(number) => put_number_member(writer, name, number),
+        None => {
+            writer.key(name)?;
+            writer.null()?;
+            Ok(())
+        }
+    }
+}
+
+pub(crate) fn put_signed_member(writer: &mut Writer, name: &str, number: i32) -> Result<(), Memory>
+    ensures { OnOk result (Adds writer.old writer.new (signed_member name.now number)) }
+{
+    writer.key(name)?;
+    writer.i64(number as i64)?;
     Ok(())
 }
 

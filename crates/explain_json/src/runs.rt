@@ -8,19 +8,27 @@ ghost use Rattle.explain_json.specs.Objects.{run_object, run_members, steps_memb
 ghost use Rattle.explain_json.specs.Objects.{how_members, act_member, act_of};
 
 use crate::members::{put_maybe_member, put_number_member, put_text_member, put_truth_member};
+use crate::recipes::put_recipes_member;
 use explain_text::{Kind, Step, delivered_to, steps_of};
 use json::Writer;
 use pm_bytes::{Blob, Memory};
+use pm_conds::Note;
 use pm_journal::Entry;
 use std::alloc::Global;
 
-/// `steps`, `delivered_to` and `status`; with `quiet` without `steps`.
-pub fn run_object(alloc: Global, quiet: bool, entries: &[Entry], status: u8) -> Result<Blob, Memory>
-    ensures { IfOk result (λ text. text ≡ run_object quiet entries.now status) }
+/// `steps`, `recipes`, `delivered_to` and `status`; with `quiet` the last two alone.
+pub fn run_object(
+    alloc: Global,
+    quiet: bool,
+    entries: &[Entry],
+    notes: &[Note],
+    status: u8,
+) -> Result<Blob, Memory>
+    ensures { IfOk result (λ text. text ≡ run_object quiet entries.now notes.now status) }
 {
     let mut writer = Writer::new(Vec::new(alloc));
     writer.begin_object()?;
-    put_run(alloc, &mut writer, quiet, entries, status)?;
+    put_run(alloc, &mut writer, quiet, entries, notes, status)?;
     writer.end_object()?;
     line_of(writer)
 }
@@ -39,12 +47,14 @@ pub(crate) fn put_run(
     writer: &mut Writer,
     quiet: bool,
     entries: &[Entry],
+    notes: &[Note],
     status: u8,
 ) -> Result<(), Memory>
-    ensures { OnOk result (Adds writer.old writer.new (run_members quiet entries.now status)) }
+    ensures { OnOk result (Adds writer.old writer.new (run_members quiet entries.now notes.now status)) }
 {
     let steps = steps_of(alloc, entries)?;
     put_steps_member(alloc, writer, quiet, steps.as_slice())?;
+    put_recipes_member(alloc, writer, quiet, entries, notes)?;
     put_maybe_member(
         alloc,
         writer,

@@ -3,6 +3,7 @@ pub mod LeadLemmas
 pub mod SearchLemmas
 pub mod WeighLemmas
 pub mod ConditionLemmas
+mod NoteLemmas
 mod Beside
 mod QuietConditions
 mod HoldLemmas

@@ -1,14 +1,16 @@
 //! The conditions of a recipe, with the programs that they ask (procmailrc(5), "Conditions").
-ghost use Rattle.std.specs.Prelude.{◌≡◌};
+ghost use Rattle.std.specs.Prelude.{◌≡◌, IfOk};
 ghost use Rattle.pm_journal.specs.Executed.{Carries};
 ghost use Rattle.pm_meaning.specs.Leads.{asking_of};
 ghost use Rattle.pm_meaning.specs.Judging.{judged_with, comes_of, comes_within, come_with};
 ghost use Rattle.pm_meaning.specs.Judging;
 ghost use Rattle.pm_meaning.specs.Judging.{tested};
 ghost use Rattle.pm_meaning.specs.Minds.{mind_of};
+ghost use Rattle.pm_conds.specs.Notes.{Hears};
 
 use crate::judging::{exited, has_weight, judge_one, question_of, test};
 use crate::leads::read_lead;
+use crate::observer::Observer;
 use crate::scoring::{end_of_all, note_score};
 use crate::searching::program_input;
 use pm_bytes::Memory;
@@ -27,23 +29,29 @@ use std::alloc::Global;
 const MOST_DOLLARS: u64 = 8;
 
 /// Judges the conditions in order, up to one that ends it. MATCH is set by each that matches after a `\/`, `$?` by each
-/// program, and `$=` where one of them has a weight.
-pub fn judge<D: Asks>(
+/// program, and `$=` where one of them has a weight. The observer hears what came of each.
+pub fn judge<D: Asks, N: Observer>(
     alloc: Global,
     run: &mut Run<D>,
     conditions: &[Condition],
     flags: Flags,
+    observer: &mut N,
 ) -> Result<Judgement, Memory>
     ensures carries { Carries (Judging.judge conditions.now flags (mind_of run.old.process))
         (λ verdict. judged_with verdict (mind_of run.new.process)) result
         run.old.journal run.new.journal (D.told run.old.outside) (D.told run.new.outside) }
+    ensures hears { IfOk result (λ verdict. Hears conditions.now flags (mind_of run.old.process)
+        (judged_with verdict (mind_of run.new.process)) run.old.journal run.new.journal
+        (N.heard observer.old) (N.heard observer.new)) }
 {
     let weighted = has_weight(conditions);
     let mut total = 0;
     for condition in conditions {
         let outcome = outcome(alloc, run, condition, flags)?;
         let text = &condition.text;
-        if let Some(end) = judge_one(alloc, text, outcome, &mut total, &mut run.process.vars)? {
+        let ended = judge_one(alloc, text, &outcome, &mut total, &mut run.process.vars)?;
+        observer.judged(&outcome, total, run.journal.entries().len())?;
+        if let Some(end) = ended {
             note_score(weighted, total, &mut run.process.vars);
             return Ok(end);
         }

@@ -1,5 +1,5 @@
 //! Whether the conditions of a recipe hold, over a host and the sink for errors (procmailrc(5), "Conditions").
-ghost use Rattle.std.specs.Prelude.{◌≡◌, false};
+ghost use Rattle.std.specs.Prelude.{◌≡◌, false, IfOk};
 ghost use Rattle.pm_host.specs.Streams.{StreamView};
 ghost use Rattle.pm_journal.specs.Entries.{view_of};
 ghost use Rattle.pm_journal.specs.Executed.{Carries};
@@ -10,9 +10,11 @@ ghost use Rattle.pm_meaning.specs.Judging.{holding, held_with, told_judgement};
 ghost use Rattle.pm_meaning.specs.Minds.{mind_of};
 ghost use Rattle.pm_meaning.specs.Turns.{say_then};
 ghost use Rattle.pm_conds.specs.Holding.{Holds, verdict_of};
+ghost use Rattle.pm_conds.specs.Notes.{HearsHeld};
 
 use crate::asked::Asked;
 use crate::conditions::judge;
+use crate::observer::{NoObserver, Observer};
 use core::mem::replace_with;
 use pm_bytes::{Blob, Memory};
 use pm_host::{Host, Sink};
@@ -154,7 +156,7 @@ fn hold_all<D: Asks>(outside: D, asking: Asking<'_>) -> (D, Held)
         journal,
         outside,
     };
-    let held = conditions_hold(alloc, &mut run, conditions, flags);
+    let held = conditions_hold(alloc, &mut run, conditions, flags, &mut NoObserver);
     let Run {
         process,
         journal,
@@ -170,18 +172,22 @@ fn hold_all<D: Asks>(outside: D, asking: Asking<'_>) -> (D, Held)
     )
 }
 
-/// The same as [`holds`] for a run: whether the conditions hold; a defect is told.
-pub fn conditions_hold<D: Asks>(
+/// The same as [`holds`] for a run: whether the conditions hold; a defect is told. The observer hears what came of each.
+pub fn conditions_hold<D: Asks, N: Observer>(
     alloc: Global,
     run: &mut Run<D>,
     conditions: &[Condition],
     flags: Flags,
+    observer: &mut N,
 ) -> Result<bool, Memory>
     ensures carries { Carries (holding conditions.now flags (mind_of run.old.process))
         (λ held. held_with held (mind_of run.new.process)) result
         run.old.journal run.new.journal (D.told run.old.outside) (D.told run.new.outside) }
+    ensures hears { IfOk result (λ held. HearsHeld conditions.now flags (mind_of run.old.process)
+        (held_with held (mind_of run.new.process)) run.old.journal run.new.journal
+        (N.heard observer.old) (N.heard observer.new)) }
 {
-    let judgement = judge(alloc, run, conditions, flags)?;
+    let judgement = judge(alloc, run, conditions, flags, observer)?;
     tell_judgement(alloc, run, judgement)
 }
 

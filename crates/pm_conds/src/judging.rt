@@ -78,21 +78,21 @@ pub fn exited(question: &Question, code: u8) -> Outcome
 pub fn judge_one(
     alloc: Global,
     text: &Blob,
-    outcome: Outcome,
+    outcome: &Outcome,
     total: &mut i32,
     vars: &mut Vars,
 ) -> Result<Option<Judgement>, Memory>
     requires low { neg_ℤ (pos 2147483647) ≤ℤ total.old }
     requires high { total.old ≤ℤ pos 2147483647 }
     ensures course { IfOk result (λ end.
-        judged_one text.now outcome total.old vars.old ≡ course_of end total.new vars.new) }
+        judged_one text.now outcome.now total.old vars.old ≡ course_of end total.new vars.new) }
     ensures low { neg_ℤ (pos 2147483647) ≤ℤ total.new }
     ensures high { total.new ≤ℤ pos 2147483647 }
 {
     match outcome {
         Outcome::Holds => Ok(None),
         Outcome::Matched(bytes) => {
-            vars.set(b"MATCH", bytes)?;
+            vars.set(b"MATCH", bytes.copy(alloc)?)?;
             Ok(None)
         }
         Outcome::Fails => Ok(Some(Judgement::Unmatched)),
@@ -101,8 +101,8 @@ pub fn judge_one(
             matches,
             bytes,
         } => {
-            set_match(bytes, vars)?;
-            *total = add_matches(*total, weight.w, weight.x, matches);
+            set_match(alloc, bytes, vars)?;
+            *total = add_matches(*total, weight.w, weight.x, *matches);
             Ok(end_at(*total))
         }
         Outcome::Compared {
@@ -110,7 +110,7 @@ pub fn judge_one(
             above,
             length,
             number,
-        } => match add_share(*total, weight.w, weight.x, length, number, above) {
+        } => match add_share(*total, weight.w, weight.x, *length, *number, *above) {
             None => Ok(Some(Judgement::Defective(text.copy(alloc)?))),
             Some(score) => {
                 *total = score;
@@ -122,11 +122,11 @@ pub fn judge_one(
             inverted,
             code,
         } => {
-            *total = add_code(*total, weight.w, weight.x, inverted, code);
+            *total = add_code(*total, weight.w, weight.x, *inverted, *code);
             Ok(end_at(*total))
         }
         Outcome::Defective => Ok(Some(Judgement::Defective(text.copy(alloc)?))),
-        Outcome::TooLong(length) => Ok(Some(Judgement::TooLong(length))),
+        Outcome::TooLong(length) => Ok(Some(Judgement::TooLong(*length))),
     }
 }
 

@@ -9,13 +9,15 @@ mod holding;
 mod judging;
 mod laws;
 mod leads;
+mod observer;
 mod scoring;
 mod searching;
 mod sizes;
 
 pub use holding::{Verdict, conditions_hold, holds};
 pub use judging::{exited, has_weight, judge_one, question_of, test};
-pub use laws::examples;
+pub use laws::{examples, notes_are_meant};
 pub use leads::read_lead;
+pub use observer::{NoObserver, Note, Observer};
 pub use scoring::{end_of_all, note_score};
 pub use searching::program_input;

@@ -6,6 +6,7 @@ ghost use Rattle.pm_meaning.specs.Weighing;
 use pm_bytes::{Blob, Memory};
 use pm_meaning::question::Judgement;
 use pm_vars::Vars;
+use std::alloc::Global;
 
 /// How a score ends the judging, if it does.
 pub fn end_at(total: i32) -> Option<Judgement>
@@ -41,11 +42,11 @@ pub fn note_score(weighted: bool, total: i32, vars: &mut Vars)
 }
 
 /// MATCH gets these bytes, if there are any.
-pub fn set_match(bytes: Option<Blob>, vars: &mut Vars) -> Result<(), Memory>
-    ensures { IfOk result (λ _. vars.new ≡ with_matched bytes vars.old) }
+pub fn set_match(alloc: Global, bytes: &Option<Blob>, vars: &mut Vars) -> Result<(), Memory>
+    ensures { IfOk result (λ _. vars.new ≡ with_matched bytes.now vars.old) }
 {
     match bytes {
         None => Ok(()),
-        Some(bytes) => vars.set(b"MATCH", bytes),
+        Some(bytes) => vars.set(b"MATCH", bytes.copy(alloc)?),
     }
 }

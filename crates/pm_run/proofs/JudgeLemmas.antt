@@ -1,5 +1,5 @@
 -- What comes of a recipe whose conditions were judged.
-use Rattle.std.proofs.Common.{◌≡◌, Bool, true, false, List, Result, sym, refl, ap, ◌∙◌, subst}
+use Rattle.std.proofs.Common.{◌≡◌, ℕ, Bool, true, false, List, [], ◌∷◌, Option, Result, length, sym, refl, ap, ◌∙◌, subst}
 use Rattle.std.specs.Prelude.{not, if◌then◌else◌}
 use Rattle.pm_bytes.specs.declared.error.Memory.{Memory}
 use Rattle.pm_journal.specs.JournalState.{JournalState}
@@ -16,6 +16,11 @@ use Rattle.pm_meaning.specs.Judging.{Held, held_with, holding, behind_conditions
 use Rattle.pm_meaning.specs.Minds.{Mind}
 use Rattle.pm_meaning.specs.Turns.{Turn, GoesOn}
 use Rattle.pm_meaning.proofs.Choices.{ok_map, err_map}
+use Rattle.pm_host.specs.Told.{Tells, Adds}
+use Rattle.pm_conds.specs.Notes.{HearsHeld}
+use Rattle.pm_conds.specs.declared.observer.Note.{Note}
+use Rattle.pm_conds.specs.declared.observer.Note.TheVariants.{CameTo}
+use Rattle.pm_run.specs.Coming.{HearsConditions, HearsCome}
 
 module _ (top : Top) (p : Mind) where
   -- what comes after the conditions
@@ -71,3 +76,27 @@ acts_on whole rest to answer x y z a b c h k = (
   ok_map answer _ _ (λ v l. leads_to_end whole rest (to v) x y z a b c h l) k.0,
   err_map answer _ _ (λ l. leads_to_want whole rest x y z a b c h l) k.1,
 )
+
+-- what is heard of a recipe
+module _ (top : Top) (place : ℕ) (p : Mind) (admitted : Bool) (before between : Option (List Note)) where
+  -- the observer heard that the run came to it
+  abbrev HeardCome : JournalState → Type 0
+  HeardCome x = (admitted ≡ is_admitted top.flags p.chain) × Tells (Adds (CameTo p.rcfile place admitted (length x.entries) ∷ [])) before between
+
+  came_at : (x : JournalState) → HeardCome x → Tells (Adds (CameTo p.rcfile place (is_admitted top.flags p.chain) (length x.entries) ∷ [])) before between
+  came_at x h = subst (λ b. Tells (Adds (CameTo p.rcfile place b (length x.entries) ∷ [])) before between) h.0 h.1
+
+  pub hears_no_more : (x : JournalState) → HeardCome x → admitted ≡ false → HearsCome top place p x x before between
+  hears_no_more x h refused = record {
+    between = between;
+    came = came_at x h;
+    conditions = subst (λ b. HearsConditions b top p x x between between) (sym refused ∙ h.0) refl;
+  }
+
+  pub hears_conditions : (conditions : List Condition) (held : Held) (x y : JournalState) (after : Option (List Note)) → HeardCome x → admitted ≡ true → conditions ≡ top.conditions
+      → HearsHeld conditions top.flags p held x y between after → HearsCome top place p x y before after
+  hears_conditions conditions held x y after h granted same heard = record {
+    between = between;
+    came = came_at x h;
+    conditions = subst (λ b. HearsConditions b top p x y between after) (sym granted ∙ h.0) (held, subst (λ l. HearsHeld l top.flags p held x y between after) same heard);
+  }

@@ -22,6 +22,7 @@ ghost use Rattle.pm_run.specs.Walk.{gate_turn};
 use crate::judging::{Come, come_to};
 use pm_actions::{lock_rule, refuse};
 use pm_bytes::{Blob, Memory, Name, full};
+use pm_conds::Observer;
 use pm_journal::{Effects, LockEnd, couldnt_lock, forcing_lock, no_lock, take};
 use pm_meaning::{
     End, Expansion, Process, Run, expand_text, file_name, first_word, outputs_of, skip_value, tell,
@@ -40,18 +41,20 @@ pub enum Gate {
     Clones,
 }
 
-/// Comes to a recipe with a block.
-pub fn pass_gate<D: Effects>(
+/// Comes to the recipe with a block at this place of the rcfile.
+pub fn pass_gate<D: Effects, N: Observer>(
     alloc: Global,
     run: &mut Run<D>,
     recipe: &Recipe,
+    place: usize,
+    observer: &mut N,
 ) -> Result<Gate, Memory>
     ensures carries { let top = top_of recipe.now in
         Carries (judge_first top (λ p. Blocks.enter_block top p) (mind_of run.old.process))
         (λ gate. gate_turn gate (mind_of run.new.process)) result
         run.old.journal run.new.journal (D.told run.old.outside) (D.told run.new.outside) }
 {
-    match come_to(alloc, run, recipe)? {
+    match come_to(alloc, run, recipe, place, observer)? {
         Come::Acts => enter_block(alloc, run, recipe),
         Come::Ended(end) => Ok(gate_by(end)),
     }

@@ -12,7 +12,7 @@ ghost use Rattle.pm_meaning.specs.Turns.{Turn};
 ghost use Rattle.pm_actions.specs.Names.{top_of};
 ghost use Rattle.pm_actions.specs.Undelivered.{Undelivered};
 ghost use Rattle.pm_meaning.specs.Turning.{turn_of};
-ghost use Rattle.pm_run.specs.Coming.{ComesTo};
+ghost use Rattle.pm_run.specs.Coming.{ComesTo, HearsCome};
 ghost use Rattle.pm_run.specs.Drafts.{IsDrafted};
 ghost use Rattle.pm_run.specs.RunningOut.{LeavesUndelivered, OfNew};
 
@@ -20,7 +20,7 @@ use crate::draft::Draft;
 use crate::drafting::draft_for;
 use pm_actions::perform;
 use pm_bytes::Memory;
-use pm_conds::conditions_hold;
+use pm_conds::{Observer, conditions_hold};
 use pm_journal::Effects;
 use pm_meaning::{End, Process, Run, admits, after};
 use pm_recipe::{Flags, Recipe};
@@ -33,22 +33,33 @@ pub enum Come {
     Ended(Option<End>),
 }
 
-/// Comes to a recipe: its conditions are judged where its flags admit it.
-pub fn come_to<D: Effects>(alloc: Global, run: &mut Run<D>, recipe: &Recipe) -> Result<Come, Memory>
+/// Comes to the recipe at this place of the rcfile: its conditions are judged where its flags admit it.
+pub fn come_to<D: Effects, N: Observer>(
+    alloc: Global,
+    run: &mut Run<D>,
+    recipe: &Recipe,
+    place: usize,
+    observer: &mut N,
+) -> Result<Come, Memory>
     ensures comes { IfOk result (λ come. ComesTo come (top_of recipe.now)
         (mind_of run.old.process) (mind_of run.new.process)
         run.old.journal run.new.journal (D.told run.old.outside) (D.told run.new.outside)) }
     ensures memory { OnErr result ((acts : Mind → Plan Turn) →
         OutOfMemory (judge_first (top_of recipe.now) acts (mind_of run.old.process))
         run.old.journal run.new.journal (D.told run.old.outside) (D.told run.new.outside)) }
+    ensures hears { IfOk result (λ _. HearsCome (top_of recipe.now) place (mind_of run.old.process)
+        run.old.journal run.new.journal (N.heard observer.old) (N.heard observer.new)) }
 {
     let flags = recipe.flags;
-    if !admits(&flags, &run.process.chain) {
+    let admitted = admits(&flags, &run.process.chain);
+    let entries = run.journal.entries().len();
+    observer.came_to(&run.process.rcfile, place, admitted, entries)?;
+    if !admitted {
         pass(&flags, &mut run.process);
         return Ok(Come::Ended(None));
     }
     let conditions = recipe.conditions.as_slice();
-    if conditions_hold(alloc, run, conditions, flags)? {
+    if conditions_hold(alloc, run, conditions, flags, observer)? {
         execute(&flags, &mut run.process);
         return Ok(Come::Acts);
     }
@@ -73,11 +84,13 @@ fn execute(flags: &Flags, process: &mut Process)
 }
 
 /// Comes to a recipe without a block, and does its action where it is executed.
-pub fn run_recipe<D: Effects>(
+pub fn run_recipe<D: Effects, N: Observer>(
     alloc: Global,
     run: &mut Run<D>,
     recipe: &Recipe,
+    place: usize,
     draft: &mut Option<Draft>,
+    observer: &mut N,
 ) -> Result<Option<End>, Memory>
     ensures carries { let top = top_of recipe.now in
         Carries (judge_first top (λ p. act_on top (act_of recipe.now.action) p) (mind_of run.old.process))
@@ -86,7 +99,7 @@ pub fn run_recipe<D: Effects>(
     ensures sure { OnErr result (OfNew (LeavesUndelivered (top_of recipe.now) (mind_of run.old.process))
         run.old.journal run.new.journal) }
 {
-    match come_to(alloc, run, recipe)? {
+    match come_to(alloc, run, recipe, place, observer)? {
         Come::Acts => act(alloc, run, recipe, draft),
         Come::Ended(end) => Ok(end),
     }

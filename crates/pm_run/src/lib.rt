@@ -28,5 +28,5 @@ mod walk;
 
 pub use copies::copy_for_block;
 pub use frames::{Open, RcFrame, Waiting};
-pub use process::run_processes;
+pub use process::{run_observed, run_processes};
 pub use queue::{Copy, Queue};

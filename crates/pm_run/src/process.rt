@@ -21,6 +21,7 @@ use crate::queue::{Copy, Queue};
 use crate::walk::run_frame;
 use core::mem::replace_with;
 use pm_bytes::{Blob, Environ, Memory};
+use pm_conds::{NoObserver, Observer};
 use pm_journal::{Effects, Journal, give_all};
 use pm_meaning::{CommandLine, Ending, Process, Run};
 use std::alloc::Global;
@@ -34,12 +35,13 @@ pub struct Counts {
 }
 
 /// What a whole run is given besides what does its acts.
-pub struct Start<'a> {
+pub struct Start<'a, N: Observer> {
     pub alloc: Global,
     pub line: CommandLine,
     pub env: &'a Environ,
     pub bytes: Blob,
     pub journal: Journal,
+    pub observer: &'a mut N,
 }
 
 /// How the first process of a run ended, and the journal of all.
@@ -66,6 +68,27 @@ pub fn run_processes<D: Effects>(
         journal.old journal.new (D.told outside.old) (D.told outside.new)) }
     ensures keeping { Keeping journal.new [] }
 {
+    run_observed(alloc, line, env, bytes, outside, journal, &mut NoObserver)
+}
+
+/// The same as [`run_processes`]. The observer hears of the recipes that the processes come to, and of the conditions
+/// that are judged.
+pub fn run_observed<D: Effects, N: Observer>(
+    alloc: Global,
+    line: CommandLine,
+    env: &Environ,
+    bytes: Blob,
+    outside: &mut D,
+    journal: &mut Journal,
+    observer: &mut N,
+) -> Result<Ending, Memory>
+    requires keeping { Keeping journal.old [] }
+    ensures ok { IfOk result (λ ending. Completes advance (run_of line env.now bytes) ending
+        journal.old journal.new (D.told outside.old) (D.told outside.new)) }
+    ensures memory { OnErr result (GaveUp (run_of line env.now bytes)
+        journal.old journal.new (D.told outside.old) (D.told outside.new)) }
+    ensures keeping { Keeping journal.new [] }
+{
     let begun = mem::replace(journal, Journal::new(alloc));
     let start = Start {
         alloc,
@@ -73,6 +96,7 @@ pub fn run_processes<D: Effects>(
         env,
         bytes,
         journal: begun,
+        observer,
     };
     let Ran {
         ended,
@@ -83,7 +107,7 @@ pub fn run_processes<D: Effects>(
 }
 
 // The processes, while what does their acts is theirs.
-fn run_all<D: Effects>(mut outside: D, start: Start<'_>) -> (D, Ran)
+fn run_all<D: Effects, N: Observer>(mut outside: D, start: Start<'_, N>) -> (D, Ran)
     requires keeping { Keeping start.journal [] }
     ensures ok { IfOk result.1.ended (λ ending.
         Completes advance (run_of start.entry.line start.entry.env.now start.entry.bytes) ending
@@ -99,6 +123,7 @@ fn run_all<D: Effects>(mut outside: D, start: Start<'_>) -> (D, Ran)
         env,
         bytes,
         mut journal,
+        observer,
     } = start;
     let process = match arrive(alloc, &line, env, bytes, &mut outside, &mut journal) {
         Ok(process) => process,
@@ -116,7 +141,7 @@ fn run_all<D: Effects>(mut outside: D, start: Start<'_>) -> (D, Ran)
         outside,
     };
     let mut queue = Queue::new(alloc);
-    let ended = run_first(alloc, &mut run, &line, env, &mut queue);
+    let ended = run_first(alloc, &mut run, &line, env, &mut queue, &mut *observer);
     let Run {
         mut process,
         mut journal,
@@ -127,7 +152,7 @@ fn run_all<D: Effects>(mut outside: D, start: Start<'_>) -> (D, Ran)
         Ok(first) => {
             let counts = counts_of(&process);
             drop(process);
-            run_copies(alloc, first, counts, queue, outside, journal)
+            run_copies(alloc, first, counts, queue, outside, journal, observer)
         }
         Err(Memory) => (
             outside,
@@ -150,12 +175,13 @@ fn counts_of(process: &Process) -> Counts
 }
 
 // The first process, from the words of the command line to its end.
-fn run_first<D: Effects>(
+fn run_first<D: Effects, N: Observer>(
     alloc: Global,
     run: &mut Run<D>,
     line: &CommandLine,
     env: &Environ,
     queue: &mut Queue,
+    observer: &mut N,
 ) -> Result<Ending, Memory>
     ensures proceeds { let home = home_by line.now.values (home_folder env.now) in
         Proceeds queue.old queue.new (Setting line.now.values line.now home (mind_of run.old.process))
@@ -166,7 +192,7 @@ fn run_first<D: Effects>(
     match begin_rcfiles(alloc, run, line, env)? {
         Opened::Read(code) => {
             let mut frame = begin_frame(alloc, code);
-            run_to_end(alloc, run, &mut frame, queue)
+            run_to_end(alloc, run, &mut frame, queue, observer)
         }
         Opened::Ended(end) => close(alloc, run, end, None),
         Opened::Nothing => close_without(alloc, run),
@@ -185,11 +211,12 @@ fn close_without<D: Effects>(alloc: Global, run: &mut Run<D>) -> Result<Ending, 
 }
 
 // A process, from what is left of its rcfiles to its end.
-fn run_to_end<D: Effects>(
+fn run_to_end<D: Effects, N: Observer>(
     alloc: Global,
     run: &mut Run<D>,
     frame: &mut RcFrame,
     queue: &mut Queue,
+    observer: &mut N,
 ) -> Result<Ending, Memory>
     ensures proceeds { Proceeds queue.old queue.new (Running (items_of frame.old) (mind_of run.old.process))
         (λ ending. Closing ending (mind_of run.new.process)) result
@@ -197,20 +224,21 @@ fn run_to_end<D: Effects>(
     ensures few { copies_left queue.new ≤ copies_left queue.old }
 {
     let mut draft = None;
-    match run_frame(alloc, run, frame, queue, &mut draft)? {
+    match run_frame(alloc, run, frame, queue, &mut draft, observer)? {
         Some(end) => close(alloc, run, end, draft),
         None => close_without(alloc, run),
     }
 }
 
 // The copies, one after the other, each from its block on.
-fn run_copies<D: Effects>(
+fn run_copies<D: Effects, N: Observer>(
     alloc: Global,
     first: Ending,
     counts: Counts,
     mut queue: Queue,
     mut outside: D,
     mut journal: Journal,
+    observer: &mut N,
 ) -> (D, Ran)
     requires keeping { Keeping journal [] }
     ensures ok { IfOk result.1.ended (λ ending. GoesOn (next_in queue first counts) (Stop ending)
@@ -232,7 +260,7 @@ fn run_copies<D: Effects>(
             journal,
             outside,
         };
-        let ended = run_to_end(alloc, &mut run, &mut frame, &mut queue);
+        let ended = run_to_end(alloc, &mut run, &mut frame, &mut queue, &mut *observer);
         let Run {
             process: mut over,
             journal: noted,

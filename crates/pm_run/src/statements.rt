@@ -15,17 +15,20 @@ use crate::judging::run_recipe;
 use crate::turned::{Turned, turned_by, turned_of};
 use pm_bytes::Memory;
 use pm_code::Step;
+use pm_conds::Observer;
 use pm_journal::{Effects, skipped};
 use pm_meaning::{End, Run, tell};
 use std::alloc::Global;
 
-/// Does a step that is a statement; the beginning and the end of a block are none. The draft is that of a recipe's
-/// abstract.
-pub fn run_statement<D: Effects>(
+/// Does the step at this place of the rcfile, which is a statement; the beginning and the end of a block are none. The
+/// draft is that of a recipe's abstract.
+pub fn run_statement<D: Effects, N: Observer>(
     alloc: Global,
     run: &mut Run<D>,
     step: &Step,
+    place: usize,
     draft: &mut Option<Draft>,
+    observer: &mut N,
 ) -> Result<Turned, Memory>
     ensures carries { Carries (plan_of (flat_of step.now) (mind_of run.old.process))
         (λ turned. turn_in turned (mind_of run.new.process)) result
@@ -37,7 +40,7 @@ pub fn run_statement<D: Effects>(
         Step::Assign { name, value } => assign_text(alloc, run, name.as_slice(), value.as_slice()),
         Step::Unset { name } => unset_variable(alloc, run, name.as_slice()),
         Step::Plain(recipe) => {
-            let ended = run_recipe(alloc, run, recipe, draft)?;
+            let ended = run_recipe(alloc, run, recipe, place, draft, observer)?;
             Ok(turned_of(ended))
         }
         Step::Defect { text, .. } => turned_by(skip_line(alloc, run, text.as_slice())),

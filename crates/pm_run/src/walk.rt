@@ -21,6 +21,7 @@ use crate::statements::run_statement;
 use crate::turned::Turned;
 use pm_bytes::{Memory, Name};
 use pm_code::Step;
+use pm_conds::Observer;
 use pm_journal::Effects;
 use pm_meaning::{End, Process, Run, new_chain, succeed};
 use std::alloc::Global;
@@ -40,13 +41,14 @@ pub enum Stepped {
 }
 
 /// Runs what is left of the rcfiles, up to the process's end, if a statement ends it. Then the open blocks are left.
-/// The draft is that of the last action's abstract.
-pub fn run_frame<D: Effects>(
+/// The draft is that of the last action's abstract. The observer hears of the recipes and their conditions.
+pub fn run_frame<D: Effects, N: Observer>(
     alloc: Global,
     run: &mut Run<D>,
     frame: &mut RcFrame,
     queue: &mut Queue,
     draft: &mut Option<Draft>,
+    observer: &mut N,
 ) -> Result<Option<End>, Memory>
     ensures proceeds { Proceeds queue.old queue.new (Running (items_of frame.old) (mind_of run.old.process))
         (λ end. stands_at end (mind_of run.new.process)) result
@@ -54,7 +56,7 @@ pub fn run_frame<D: Effects>(
     ensures few { copies_left queue.new ≤ copies_left queue.old }
 {
     loop {
-        match step_frame(alloc, run, frame, draft)? {
+        match step_frame(alloc, run, frame, draft, observer)? {
             Stepped::Went => {}
             Stepped::Over => return Ok(None),
             Stepped::Halts(end) => match halt(alloc, run, end, frame)? {
@@ -93,11 +95,12 @@ fn halt<D: Effects>(
 }
 
 // Does the first item. What a statement does leaves the count of openings as it was.
-fn step_frame<D: Effects>(
+fn step_frame<D: Effects, N: Observer>(
     alloc: Global,
     run: &mut Run<D>,
     frame: &mut RcFrame,
     draft: &mut Option<Draft>,
+    observer: &mut N,
 ) -> Result<Stepped, Memory>
     ensures walks { Walks (Running (items_of frame.old) (mind_of run.old.process))
         (λ stepped. stands stepped frame.new (mind_of run.new.process)) result
@@ -119,7 +122,7 @@ fn step_frame<D: Effects>(
             }
             Step::Enter { recipe, end } => {
                 let behind = *end + 1;
-                match pass_gate(alloc, run, recipe) {
+                match pass_gate(alloc, run, recipe, frame.place, observer) {
                     Err(Memory) => Err(Memory),
                     Ok(gate) => {
                         run.process.openings = opened;
@@ -127,7 +130,7 @@ fn step_frame<D: Effects>(
                     }
                 }
             }
-            _ => match run_statement(alloc, run, step, draft) {
+            _ => match run_statement(alloc, run, step, frame.place, draft, observer) {
                 Err(Memory) => Err(Memory),
                 Ok(turned) => {
                     run.process.openings = opened;

@@ -18,10 +18,10 @@ pub mod words;
 
 pub use delivering::{TrialEnd, deliver_all};
 pub use messages::make_message;
-pub use program::procmail;
+pub use program::{procmail, procmail_observed};
 pub use report::make_report;
 pub use source::MessageSource;
-pub use top::{deliver_mail, refuse};
+pub use top::{deliver_mail, deliver_observed, refuse};
 pub use totals::Totals;
 pub use trial_words::read_trial;
 pub use words::read_words;

@@ -6,10 +6,11 @@ ghost use Rattle.pm_top.specs.Trials.{Tried, WritesReport};
 ghost use Rattle.pm_top.specs.ProgramPromise.{Promise};
 
 use crate::delivering::{TrialEnd, deliver_all};
-use crate::top::{deliver_mail, refuse};
+use crate::top::{deliver_observed, refuse};
 use crate::trial_words::read_trial;
 use pm_append::{WriteEnd, write_text};
 use pm_bytes::{Environ, Memory};
+use pm_conds::{NoObserver, Observer};
 use pm_host::{Host, Sink, Source};
 use pm_journal::Journal;
 use pm_meaning::Status;
@@ -40,9 +41,48 @@ pub fn procmail<S: Source, H: Host, O: Sink, E: Sink>(
       after = view_of (H.told host.new) (O.told out.new) (E.told err.new);
     }) }
 {
+    procmail_observed(
+        alloc,
+        words,
+        env,
+        source,
+        host,
+        out,
+        err,
+        journal,
+        &mut NoObserver,
+    )
+}
+
+/// The same as [`procmail`]. In the run of one message the observer hears of the recipes that it comes to, and of the
+/// conditions that are judged; of a trial it hears nothing.
+pub fn procmail_observed<S: Source, H: Host, O: Sink, E: Sink, N: Observer>(
+    alloc: Global,
+    words: &[String],
+    env: &Environ,
+    source: &mut S,
+    host: &mut H,
+    out: &mut O,
+    err: &mut E,
+    journal: &mut Journal,
+    observer: &mut N,
+) -> u8
+    requires empty { journal.old.entries ≡ [] }
+    requires no_child { (H.told host.old).child ≡ Child.NoChild }
+    ensures promise { Promise (record {
+      words = words.now;
+      env = env.now;
+      status = result;
+      source = S.told source.old;
+      rest = S.told source.new;
+      entries = journal.new.entries;
+      before = view_of (H.told host.old) (O.told out.old) (E.told err.old);
+      after = view_of (H.told host.new) (O.told out.new) (E.told err.new);
+    }) }
+{
     match read_trial(words) {
         Some(count) => try_rcfile(alloc, count, env, host, out, err),
-        None => deliver_mail(alloc, words, env, source, host, out, err, journal),
+        None => deliver_observed(alloc, words, env, source, host, out, err, journal, observer),
     }
 }
 

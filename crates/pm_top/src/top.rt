@@ -13,11 +13,12 @@ ghost use Rattle.pm_top.specs.Traced.{RunsLine, RunsMail};
 use crate::words::read_words;
 use pm_append::write_text;
 use pm_bytes::{Blob, Environ, Memory};
+use pm_conds::{NoObserver, Observer};
 use pm_host::{Child, Host, Sink, Source};
 use pm_journal::Journal;
 use pm_meaning::{CommandLine, End, Ending, Status};
 use pm_objects::{Objects, lend};
-use pm_run::run_processes;
+use pm_run::run_observed;
 use pm_streams::{Mail, read_mail};
 use std::alloc::Global;
 
@@ -46,17 +47,57 @@ pub fn deliver_mail<S: Source, H: Host, O: Sink, E: Sink>(
       after = view_of (H.told host.new) (O.told out.new) (E.told err.new);
     }) }
 {
-    let mut objects = lend(host, out, err);
-    run_words(alloc, words, env, source, &mut objects, journal)
+    deliver_observed(
+        alloc,
+        words,
+        env,
+        source,
+        host,
+        out,
+        err,
+        journal,
+        &mut NoObserver,
+    )
 }
 
-fn run_words<'a, S: Source, H: Host, O: Sink, E: Sink>(
+/// The same as [`deliver_mail`]. The observer hears of the recipes that the run comes to, and of the conditions that
+/// are judged.
+pub fn deliver_observed<S: Source, H: Host, O: Sink, E: Sink, N: Observer>(
+    alloc: Global,
+    words: &[String],
+    env: &Environ,
+    source: &mut S,
+    host: &mut H,
+    out: &mut O,
+    err: &mut E,
+    journal: &mut Journal,
+    observer: &mut N,
+) -> u8
+    requires empty { journal.old.entries ≡ [] }
+    requires no_child { (H.told host.old).child ≡ Child.NoChild }
+    ensures promise { Promise (record {
+      words = words.now;
+      env = env.now;
+      status = result;
+      source = S.told source.old;
+      rest = S.told source.new;
+      entries = journal.new.entries;
+      before = view_of (H.told host.old) (O.told out.old) (E.told err.old);
+      after = view_of (H.told host.new) (O.told out.new) (E.told err.new);
+    }) }
+{
+    let mut objects = lend(host, out, err);
+    run_words(alloc, words, env, source, &mut objects, journal, observer)
+}
+
+fn run_words<'a, S: Source, H: Host, O: Sink, E: Sink, N: Observer>(
     alloc: Global,
     words: &[String],
     env: &Environ,
     source: &mut S,
     objects: &mut Objects<'a, H, O, E>,
     journal: &mut Journal,
+    observer: &mut N,
 ) -> u8
     requires empty { journal.old.entries ≡ [] }
     requires no_child { (H.told objects.old.host.now).child ≡ Child.NoChild }
@@ -77,19 +118,20 @@ fn run_words<'a, S: Source, H: Host, O: Sink, E: Sink>(
     ensures err { objects.new.err.ghost_name ≡ objects.old.err.ghost_name }
 {
     match read_words(alloc, words) {
-        Ok(Some(line)) => run_line(alloc, line, env, source, objects, journal),
+        Ok(Some(line)) => run_line(alloc, line, env, source, objects, journal, observer),
         Ok(None) => refuse(&mut *objects.err, Status::Usage),
         Err(Memory) => refuse(&mut *objects.err, Status::SystemError),
     }
 }
 
-fn run_line<'a, S: Source, H: Host, O: Sink, E: Sink>(
+fn run_line<'a, S: Source, H: Host, O: Sink, E: Sink, N: Observer>(
     alloc: Global,
     line: CommandLine,
     env: &Environ,
     source: &mut S,
     objects: &mut Objects<'a, H, O, E>,
     journal: &mut Journal,
+    observer: &mut N,
 ) -> u8
     requires empty { journal.old.entries ≡ [] }
     ensures run { RunsLine line (λ words. record {
@@ -110,20 +152,21 @@ fn run_line<'a, S: Source, H: Host, O: Sink, E: Sink>(
     ensures err { objects.new.err.ghost_name ≡ objects.old.err.ghost_name }
 {
     match read_mail(alloc, source) {
-        Ok(Mail::Bytes(bytes)) => run_mail(alloc, line, env, bytes, objects, journal),
+        Ok(Mail::Bytes(bytes)) => run_mail(alloc, line, env, bytes, objects, journal, observer),
         Ok(Mail::TooMany) => refuse(&mut *objects.err, Status::DataError),
         Ok(Mail::Failed) => refuse(&mut *objects.err, Status::InputOutput),
         Err(Memory) => refuse(&mut *objects.err, Status::SystemError),
     }
 }
 
-fn run_mail<'a, H: Host, O: Sink, E: Sink>(
+fn run_mail<'a, H: Host, O: Sink, E: Sink, N: Observer>(
     alloc: Global,
     line: CommandLine,
     env: &Environ,
     bytes: Blob,
     objects: &mut Objects<'a, H, O, E>,
     journal: &mut Journal,
+    observer: &mut N,
 ) -> u8
     requires empty { journal.old.entries ≡ [] }
     ensures run { RunsMail line bytes (λ words source rest. record {
@@ -143,20 +186,21 @@ fn run_mail<'a, H: Host, O: Sink, E: Sink>(
     ensures out { objects.new.out.ghost_name ≡ objects.old.out.ghost_name }
     ensures err { objects.new.err.ghost_name ≡ objects.old.err.ghost_name }
 {
-    match run_objects(alloc, line, env, bytes, objects, journal) {
+    match run_objects(alloc, line, env, bytes, objects, journal, observer) {
         Ok(ending) => finish(&mut *objects.err, ending),
         Err(Memory) => refuse(&mut *objects.err, Status::SystemError),
     }
 }
 
 // The processes, after which the objects are the same ones.
-fn run_objects<'a, H: Host, O: Sink, E: Sink>(
+fn run_objects<'a, H: Host, O: Sink, E: Sink, N: Observer>(
     alloc: Global,
     line: CommandLine,
     env: &Environ,
     bytes: Blob,
     objects: &mut Objects<'a, H, O, E>,
     journal: &mut Journal,
+    observer: &mut N,
 ) -> Result<Ending, Memory>
     requires keeping { Keeping journal.old [] }
     ensures ok { IfOk result (λ ending. Completes advance (run_of line env.now bytes) ending
@@ -172,7 +216,7 @@ fn run_objects<'a, H: Host, O: Sink, E: Sink>(
     ensures out { objects.new.out.ghost_name ≡ objects.old.out.ghost_name }
     ensures err { objects.new.err.ghost_name ≡ objects.old.err.ghost_name }
 {
-    run_processes(alloc, line, env, bytes, objects, journal)
+    run_observed(alloc, line, env, bytes, objects, journal, observer)
 }
 
 // The status of a run that ended so; a mail filter without its rcfile says so.

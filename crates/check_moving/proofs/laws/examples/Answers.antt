@@ -87,6 +87,24 @@ returns-clause-recipes c = record {
   lock = refl;
   automatic = refl;
   copy = refl;
+  locked = refl;
+  locked_itself = refl;
+  not_locked = refl;
+  waits = refl;
+  waits_quietly = refl;
+  filters = refl;
+  copies = refl;
+  after_lock = refl;
+  error_after_lock = refl;
+  else_after_lock = refl;
+  copy_before = refl;
+  forward_before = refl;
+  capture_before = refl;
+  waits_before = refl;
+  delivery_before = refl;
+  filter_before = refl;
+  block_between = refl;
+  value_between = refl;
 }
 
 pub returns-clause-calls : goal.returns-clause-calls

@@ -18,3 +18,14 @@ returns-clause-tests c = c.condition_examples.ensures.tests
 
 pub returns-clause-judging : goal.returns-clause-judging
 returns-clause-judging c = c.condition_examples.ensures.judging
+
+pub returns-clause-notes : goal.returns-clause-notes
+returns-clause-notes c = record {
+  none_asked = refl;
+  one_asked = λ act. refl;
+  no_condition = λ p. refl;
+  one_holds = λ p. refl;
+  second_fails = λ p. refl;
+  defect = λ p. refl;
+  scores = λ p. refl;
+}
