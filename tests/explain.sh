@@ -17,27 +17,32 @@ printf '#!/bin/sh\ncat > /dev/null\n' > stubs/taker
 printf '#!/bin/sh\ncat > /dev/null\nexit 3\n' > stubs/fails
 chmod +x stubs/*
 
-# one_of WORD ..: one of them.
-one_of() { shift $((RANDOM % $#)); echo "$1"; }
+# pick WORD ..: `picked` is one of them. In a shell below this one RANDOM would begin anew, and not with SEED.
+pick() {
+    shift $((RANDOM % $#))
+    picked=$1
+}
 
 condition() {
-    one_of '* ^Subject: one' '* ! ^Subject: one' '* > 100' '* ^From:.*ann' '* B ?? body' '* 1^1 o' '* ? taker' '* ? fails' \
+    pick '* ^Subject: one' '* ! ^Subject: one' '* > 100' '* ^From:.*ann' '* B ?? body' '* 1^1 o' '* ? taker' '* ? fails' \
         '* ^X-None:' '*'
+    echo "$picked"
 }
 
 action() {
-    one_of one two old sub/box md/ newmd/ mh/. newmh/. plain no/such/place '| taker' '| fails' '!ann@example.org' \
+    pick one two old sub/box md/ newmd/ mh/. newmh/. plain no/such/place '| taker' '| fails' '!ann@example.org' \
         /dev/null '{ NOTE=seen }'
+    echo "$picked"
 }
 
 recipe() {
-    local kinds
-    kinds=$(one_of '' '' : :own.lock c c: cw w)
     if [ $((RANDOM % 5)) -eq 0 ]; then
-        printf ':0 f%s\n| filter\n\n' "$(one_of '' w h b)"
+        pick '' w h b
+        printf ':0 f%s\n| filter\n\n' "$picked"
         return
     fi
-    printf ':0 %s\n' "$kinds"
+    pick '' '' : :own.lock c c: cw w
+    printf ':0 %s\n' "$picked"
     for ((k = RANDOM % 3; k > 0; k--)); do condition; done
     action
     echo
@@ -50,8 +55,14 @@ rcfile() {
 }
 
 mail() {
-    printf 'From ann@example.org  Thu Jan  1 00:00:00 1970\nFrom: %s\nSubject: %s\n\n' "$(one_of ann bob)" "$(one_of one two)"
-    for ((n = RANDOM % 40; n > 0; n--)); do one_of body 'From a line' '' 'another line'; done
+    pick ann bob
+    printf 'From ann@example.org  Thu Jan  1 00:00:00 1970\nFrom: %s\n' "$picked"
+    pick one two
+    printf 'Subject: %s\n\n' "$picked"
+    for ((n = RANDOM % 40; n > 0; n--)); do
+        pick body 'From a line' '' 'another line'
+        echo "$picked"
+    done
 }
 
 # The tree in which a run begins.
@@ -98,10 +109,15 @@ head, _, body = mail.partition("\n\n")
 def found(expression, area):
     return "yes" if re.search(expression, area, re.I | re.M) else "no"
 
-def came(condition):
+# What comes of a condition after weighted ones that left this score, and the score after it.
+def came(condition, score):
     if condition == "* 1^1 o":
         count = len(re.findall("o", head, re.I))
-        return "%d match%s, score %d" % (count, "" if count == 1 else "es", count)
+        score += count
+        return "%d match%s, score %d" % (count, "" if count == 1 else "es", score), score
+    return plainly(condition), score
+
+def plainly(condition):
     if condition.startswith("* ? "):
         return "no" if condition == "* ? fails" else "yes"
     if condition == "* > 100":
@@ -120,8 +136,10 @@ for number, line in enumerate(rcfile, 1):
     if line.startswith(":0"):
         recipes.append([(number, line.rstrip(), "yes")])
         ended = False
+        score = 0
     elif line.startswith("*") and not ended:
-        recipes[-1].append((number, line, came(line)))
+        result, score = came(line, score)
+        recipes[-1].append((number, line, result))
         ended = recipes[-1][-1][2] == "no"
 told = []
 for line in open("steps"):
