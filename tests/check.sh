@@ -343,6 +343,24 @@ inverted-match
 match-end
 :0:\n* ^Subject: \\/.*$\nmbox\n
 :0:\n* ^Subject: \\/.*\\$\nmbox\n
+match-end
+:0:\n* ^Subject:.*\\/hi\\>\nmbox\n
+:0:\n* ^Subject:.*\\/hi>\nmbox\n
+match-end
+:0:\n* B ?? ()\\/(.*$)+\nmbox\n
+:0:\n* B ?? ()\\/(.*)+\nmbox\n
+match-begin
+:0:\n* ()\\/^Subject:.*\nmbox\n
+:0:\n* ^\\/Subject:.*\nmbox\n
+match-begin
+:0:\n* B ?? ()\\/(hi|\\<ho)\nmbox\n
+:0:\n* B ?? ()\\/(hi|h(i|\\<o))\nmbox\n
+match-begin
+X="(\\\nhi|\\<ho)"\n:0:\n*$ B ?? ()\\/$X.*\nmbox\n
+X="(\\\nhi|\\<ho)"\nX=hi\n:0:\n*$ B ?? ()\\/$X.*\nmbox\n
+match-begin
+X='^'\nY="$X|hi"\n:0:\n*$ B ?? ()\\/(${Y})\nmbox\n
+X='^'\nY='|hi'\n:0:\n*$ B ?? ()\\/${Y}$X\nmbox\n
 weighted-match
 :0:\n* 1^1 x\\/[0-9]\nmbox\n
 :0:\n* 1^0 x\\/[0-9]\nmbox\n
@@ -500,6 +518,9 @@ ends 2 --no-disk rc
 grep -q '^rc:3:[0-9]*: error: the regular expression is not valid \[expression\]$' out || fail "a line: $(cat out)"
 printf ':0\nmbox\n' > rc
 ends 1 --no-disk rc
+cp rc $'r\177\001c'
+ends 1 --no-disk $'./r\177\001c'
+grep -q '^\./r  c:2:1: warning: ' out || fail "control characters in a name: $(cat out)"
 printf ':0:\nmbox\n' > rc
 ends 0 --no-disk rc
 [ ! -s out ] || fail "a right rcfile: $(cat out)"
@@ -538,16 +559,17 @@ printf ':0\n# check: allow no-lock\n\nmbox\n' > rc
 ends 1 --no-disk rc
 
 # The other formats.
-printf ':0\n* ^Subject: (x\nmbox\n' > 'an rc'
+printf ':0\n* ^Subject: (x\nmbox\n:0 c\nother\n' > 'an rc'
 ends 2 --no-disk --format json 'an rc'
 if command -v jq > /dev/null; then
-    [ "$(jq -r '.errors, .warnings, .findings[0].file, .findings[1].code' out | paste -sd ' ')" = '1 1 an rc no-lock' ] ||
+    [ "$(jq -r '.errors, .warnings, .findings[0].file, .findings[1].code' out | paste -sd ' ')" = '1 2 an rc no-lock' ] ||
         fail "JSON: $(cat out)"
     jq -e '.findings | all(.line >= 1 and .column >= 1 and .message != "" and .severity != "")' out > same || fail "JSON: $(cat out)"
     ends 2 --no-disk --format sarif 'an rc'
     [ "$(jq -r '.version, .runs[0].tool.driver.name' out | paste -sd ' ')" = '2.1.0 procmail-check' ] || fail "SARIF: $(cat out)"
     [ "$(jq -r '.runs[0].results[] | select(.ruleId == "expression") | .level, .locations[0].physicalLocation.artifactLocation.uri,
-        .locations[0].physicalLocation.region.startLine' out | paste -sd ' ')" = 'error an%20rc 2' ] || fail "SARIF: $(cat out)"
+        (.locations[0].physicalLocation.region | .startLine, .startColumn)' out | paste -sd ' ')" = 'error an%20rc 2 1' ] ||
+        fail "SARIF: $(cat out)"
     # A path of a URI: slashes and what RFC 3986 calls unreserved are themselves, and all other bytes are percent-encoded.
     mkdir -p sub
     odd=$'sub/AZaz09-._~ !"#$%&\'()*+,:;<>?@[]^`{|}\xc3\xa9'

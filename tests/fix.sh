@@ -207,6 +207,15 @@ a copy by a variable whose program fails: runs
 a mailbox that a variable makes a copy: runs
 CC=yes\n:0 ${CC:+c}:\n* ^Subject: hi\none # it\n:0:\nmbox\n
 CC=yes\n:0 c:\n* ^Subject: hi\none # it\n:0 a\n{\n  :0\n  * ! CC ?? .\n  /dev/null\n}\n:0:\nmbox\n
+a forward that a variable makes a copy: runs
+SENDMAIL=/usr/bin/tee\nSENDMAILFLAGS=-a\nCC=\n:0 ${CC:+c}\n! joe\n:0:\nmbox\n
+SENDMAIL=/usr/bin/tee\nSENDMAILFLAGS=-a\nCC=\n:0 c\n! joe\n:0 a\n{\n  :0\n  * ! CC ?? .\n  /dev/null\n}\n:0:\nmbox\n
+a filter with a copy by a variable: stays
+CC=yes\n:0 fw ${CC:+c}\n| cat\n:0:\nmbox\n
+CC=yes\n:0 fw ${CC:+c}\n| cat\n:0:\nmbox\n
+a copy by a variable before e: stays
+:0 W ${CC:+c}\n| cat >one\n:0 e\n| cat >two\n
+:0 W ${CC:+c}\n| cat >one\n:0 e\n| cat >two\n
 a copy by a variable before E: stays
 :0 W ${CC:+c}\n| cat >one\n:0 a\n| cat >two\n:0 W ${CC:+c}\n| cat >one\n:0 E\n| cat >two\n
 :0 W c\n| cat >one\n:0 a\n{\n  :0\n  * ! CC ?? .\n  /dev/null\n}\n:0 a\n| cat >two\n:0 W ${CC:+c}\n| cat >one\n:0 E\n| cat >two\n
@@ -219,9 +228,15 @@ the last score, which is 0: runs
 the last score of several recipes: runs
 :0\n* B ?? > 5\n* 9876543210^0\n{ }\n:0\n* $$=^0\n* ! B ?? body\n* 9876543210^0 ^Subject: ho\n{ }\n:0:\n* $$=^0\n* -5^0 ^Subject\nmbox\n
 :0\n* B ?? > 5\n* 2147483647^0\n{ }\nLASTSCORE=$=\n:0\n* 2147483647^0 LASTSCORE ?? ^^2147483647^^\n* ! B ?? body\n* 2147483647^0 ^Subject: ho\n{ }\nLASTSCORE=$=\n:0:\n* 2147483647^0 LASTSCORE ?? ^^2147483647^^\n* -5^0 ^Subject\nmbox\n
+the last score of the greatest weight as it is: runs
+:0\n* ^Subject: hi\n* 2147483647^0\n{ }\n:0:\n* $$=^0\n* -1^0\nmbox\n
+:0\n* ^Subject: hi\n* 2147483647^0\n{ }\nLASTSCORE=$=\n:0:\n* 2147483647^0 LASTSCORE ?? ^^2147483647^^\n* -1^0\nmbox\n
 the last score of a recipe with other weights: stays
 :0\n* 5^0 ^Subject: hi\n{ }\n:0:\n* $ $=^0\nmbox\n
 :0\n* 5^0 ^Subject: hi\n{ }\n:0:\n* $ $=^0\nmbox\n
+the last score of a recipe whose first weight is another: stays
+:0\n* 5^0 ^Subject: hi\n* B ?? body\n{ }\n:0:\n* $ $=^0\nmbox\n
+:0\n* 5^0 ^Subject: hi\n* B ?? body\n{ }\n:0:\n* $ $=^0\nmbox\n
 the last score before a condition that must hold: stays
 :0\n* 2147483647^0 ^Subject: hi\n{ }\n:0:\n* $ $=^0\n* ^Subject: ho\nmbox\n
 :0\n* 2147483647^0 ^Subject: hi\n{ }\n:0:\n* $ $=^0\n* ^Subject: ho\nmbox\n
@@ -248,7 +263,7 @@ while IFS= read -r title; do
     cmp -s there.tree here.tree || fail "$title (left: 3.22 by the old text): $(diff there.tree here.tree)"
     tried=$((tried + 1))
 done < rows
-[ "$count" -eq 61 ] || fail "only $count rows"
+[ "$count" -eq 66 ] || fail "only $count rows"
 [ -n "$old_procmail" ] || echo "$name: no procmail 3.22 here: what it does with the old texts: skipped"
 
 # What can't be brought over stays, and is reported for the new text; the status says whether anything is left.

@@ -8,7 +8,7 @@ use crate::replacing::replace;
 use crate::report::lines_of;
 use crate::status::{Status, status_of};
 use check_find::Severity;
-use check_fix::{FixRefused, bring_over};
+use check_fix::{FixRefused, Outcome, bring_over};
 use check_text::lines_text;
 use pm_bytes::{Blob, Memory};
 use std::alloc::Global;
@@ -66,10 +66,11 @@ fn brought_over(alloc: Global, text: &[u8]) -> Result<Blob, Memory> {
             Err(FixRefused::Memory) => return Err(Memory),
             Err(_) => return Ok(new),
         };
-        if fixed.changes.is_empty() {
+        let has_more = matches!(fixed.outcome, Outcome::More);
+        new = fixed.text;
+        if !has_more {
             return Ok(new);
         }
-        new = fixed.text;
     }
     Ok(new)
 }

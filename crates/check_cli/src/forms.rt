@@ -46,11 +46,12 @@ const CONDITION: [ConditionForm; 7] = [
     ConditionForm::SignalCode,
 ];
 
-const SEARCH: [SearchForm; 10] = [
+const SEARCH: [SearchForm; 11] = [
     SearchForm::Backslash,
     SearchForm::Quote,
     SearchForm::InvertedMatch,
     SearchForm::MatchEnd,
+    SearchForm::MatchBegin,
     SearchForm::WeightedMatch,
     SearchForm::TwoAnchors,
     SearchForm::TwoBlanks,

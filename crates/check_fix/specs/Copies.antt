@@ -1,5 +1,5 @@
 -- Copies that a variable decides on, as docs/MOVING.md, "Recipes and conditions", has them.
-use Rattle.std.specs.Prelude.{ℕ, ◌-◌, Bool, true, false, not, ◌||◌, ◌&&◌, List, [], ◌∷◌, ◌++◌, drop, length, nat_eq, nat_le, codes, if◌then◌else◌}
+use Rattle.std.specs.Prelude.{ℕ, ◌-◌, Bool, true, false, not, ◌||◌, ◌&&◌, List, [], ◌∷◌, ◌++◌, drop, length, nat_eq, codes, if◌then◌else◌}
 use Rattle.std.specs.List.{starts_with, list_all}
 use Rattle.pm_bytes.specs.Alphabet.{COLON}
 use Rattle.pm_bytes.specs.Letter.{is_blank_byte, is_name_byte}
@@ -104,15 +104,9 @@ is_between kind.Gap = true
 is_between kind.Condition = true
 is_between _ = false
 
--- the colon line whose conditions or action comes next, if one does
+-- the colon line whose conditions or action comes next, if one does, behind a span and that one before it
 abbrev pub colon_after : Span → List ℕ → List ℕ
 colon_after span text = if is_colon span.kind then span.bytes.now else if is_between span.kind then text else []
-
--- that of the action at a place
-abbrev pub colon_before : ℕ → List ℕ → List Span → List ℕ
-colon_before place text [] = []
-colon_before place text (span ∷ spans) =
-    if nat_le place span.first then text else colon_before place (colon_after span text) spans
 
 -- and a recipe that ends the delivery without the variable, in a block, so that the recipe succeeded with it, too
 abbrev pub stop_text : List ℕ → List ℕ
@@ -126,6 +120,6 @@ stop_at text (span ∷ spans) = edit_at span.first span.bytes.now span.bytes.now
 abbrev pub stop_under : List ℕ → Kind → List Span → List Edit
 stop_under text action spans = if is_copied text action spans then stop_at text spans else []
 
--- behind the action of a span before these, where all spans are those
-abbrev pub stop_edits : Span → List Span → List Span → List Edit
-stop_edits span spans all = stop_under (colon_before span.first [] all) span.kind spans
+-- behind the action of a span before these, under the colon line whose action comes there
+abbrev pub stop_edits : Span → List Span → List ℕ → List Edit
+stop_edits span spans colon = stop_under colon span.kind spans

@@ -10,16 +10,18 @@ use Rattle.check_fix.specs.Calls.{empty_edits, reply_edits, removed_edits, lengt
 use Rattle.check_fix.specs.Changes.{chosen, rewritten}
 use Rattle.check_fix.specs.Colons.{automatic_edits, own_lock_edits, cache_lock_edits, lock_wait_edits, wait_edits}
 use Rattle.check_fix.specs.Conditions.{great_edits, size_edits, late_edits, supreme_edits, backslash_edits, end_edits, anchor_edits, continued_edits}
-use Rattle.check_fix.specs.Copies.{copy_edits, copy_name, gives_copy, is_looked_at, stop_edits}
+use Rattle.check_fix.specs.Copies.{colon_after, copy_edits, copy_name, gives_copy, is_looked_at, stop_edits}
 use Rattle.check_fix.specs.Counts.{counted, is_bare, zero_edits}
 use Rattle.check_fix.specs.Locks.{cache_of, without_braces, uses_cache}
 use Rattle.check_fix.specs.Edits.{edit_at}
 use Rattle.check_fix.specs.Mailboxes.{several_edits, hash_edits, match_edits}
 use Rattle.check_fix.specs.Numbers.{from_variable, variable_name, is_number, is_past, is_value_of, keeps_value, value_edits, number_edits}
-use Rattle.check_fix.specs.Scores.{is_empty_block, is_ended, is_greatest, is_plain, is_score, is_weighted}
-use Rattle.check_fix.specs.Scores.{greatest_of, name_edits}
+use Rattle.check_fix.specs.Scores.{is_empty_block, is_greatest, is_plain, is_score, is_weighted}
+use Rattle.check_fix.specs.Scores.{greatest_of, name_edits, no_score, score_after}
+use Rattle.check_fix.specs.Spans.{edits_of}
 use Rattle.check_fix.specs.Values.{host_edits, idle_edits, log_edits, delivered_edits}
 use Rattle.check_fix.specs.declared.edits.Edit.{Edit}
+use Rattle.check_fix.specs.declared.scores.Score.{Score}
 
 -- a text with these edits
 abbrev pub edited : List Edit → List ℕ → List ℕ
@@ -180,12 +182,17 @@ recipe colon = bare Colon 0 colon ∷ bare Pipe 30 (codes "| cat") ∷ bare Gap 
 
 -- behind that action
 abbrev pub stopped : List ℕ → List Edit
-stopped colon = stop_edits (bare Pipe 30 (codes "| cat")) (bare Gap 40 (codes "\n") ∷ []) (recipe colon)
+stopped colon = stop_edits (bare Pipe 30 (codes "| cat")) (gap 40 ∷ []) colon
+
+-- the colon line whose conditions or action comes behind these spans
+abbrev pub colon_behind : List ℕ → List Span → List ℕ
+colon_behind text [] = text
+colon_behind text (span ∷ spans) = colon_behind (colon_after span text) spans
 
 -- behind the action at the place 30 of a recipe with such a variable, and these spans between
 abbrev pub behind_copy : List Span → Span → List Edit
 behind_copy between action =
-    stop_edits action (gap 40 ∷ []) (bare Colon 0 (codes ":0 ${CC:+c}") ∷ (between ++ (action ∷ gap 40 ∷ [])))
+    stop_edits action (gap 40 ∷ []) (colon_behind [] (bare Colon 0 (codes ":0 ${CC:+c}") ∷ between))
 
 -- with no such span, and with one before a program
 abbrev pub stops : Span → List Edit
@@ -212,6 +219,9 @@ pub record OfCopies : Type 0 where
   pub block : line (λ first text. copy_edits first text Open (bare Gap 9 (codes "\n") ∷ [])) (codes ":0 ${CC:+c}") ≡ codes ":0 ${CC:+c}"
   pub stop : stopped (codes ":0 ${CC:+c}") ≡ edit_at 40 (codes "\n") (codes "\n") 0 (codes "\n:0 a\n{\n  :0\n  * ! CC ?? .\n  /dev/null\n}")
   pub none : stopped (codes ":0 c") ≡ []
+  -- all edits of such a recipe
+  pub both : edits_of (recipe (codes ":0 ${CC:+c}")) []
+      ≡ copy_edits 0 (codes ":0 ${CC:+c}") Pipe (gap 40 ∷ []) ++ stopped (codes ":0 ${CC:+c}")
   -- a mailbox and a forward end the delivery too, and what comes after an assignment is no action of the recipe
   pub mailbox : stops (bare Mailbox 30 (codes "m")) ≡ stops (bare Pipe 30 (codes "| cat"))
   pub forward : stops (bare Forward 30 (codes "! joe")) ≡ stops (bare Pipe 30 (codes "| cat"))
@@ -223,26 +233,41 @@ pub record OfCopies : Type 0 where
   pub and_next : is_looked_at (bare Colon 10 (codes ":0 a") ∷ bare Colon 20 (codes ":0 E") ∷ []) ≡ false
   pub closed : is_looked_at (bare Close 10 (codes "}") ∷ bare Colon 20 (codes ":0 E") ∷ []) ≡ false
 
--- a recipe with one condition and an empty block, before the place 40
-abbrev pub ended : List ℕ → Bool
-ended condition =
-    is_ended 40 false false false
-    (bare Colon 0 (codes ":0") ∷ bare Condition 4 condition ∷ bare Open 30 (codes "{") ∷ bare Gap 31 (codes " ") ∷ bare Close 32 (codes "}")
-    ∷ bare Colon 40 (codes ":0") ∷ [])
+-- a recipe with one condition and an empty block
+abbrev pub empty_recipe : List ℕ → List Span
+empty_recipe condition =
+    bare Colon 0 (codes ":0") ∷ bare Condition 4 condition ∷ bare Open 30 (codes "{") ∷ bare Gap 31 (codes " ")
+    ∷ bare Close 32 (codes "}") ∷ []
 
--- the same before a colon line at the place 40, after these spans of a recipe
+-- the score behind these spans
+abbrev pub score_behind : Score → List Span → Score
+score_behind score [] = score
+score_behind score (span ∷ spans) = score_behind (score_after span score) spans
+
+-- whether that of the recipe is 0 or 2147483647
+abbrev pub ended : List ℕ → Bool
+ended condition = (score_behind no_score (empty_recipe condition)).this
+
+-- before all spans
+abbrev pub ended_before : Bool
+ended_before = no_score.this
+
+-- the same after these spans of a recipe
 abbrev pub ended_after : Bool → List Span → Bool
-ended_after last spans = is_ended 40 last true false (spans ++ (bare Colon 40 (codes ":0") ∷ []))
+ended_after last spans = (score_behind (record { last = last; this = true; begun = false }) spans).this
 
 -- a recipe with this condition and the next, after one with that condition and an empty block
 abbrev pub conditions : List ℕ → List ℕ → List Span
 conditions condition next = bare Condition 44 condition ∷ bare Condition 50 next ∷ bare Mailbox 60 (codes "m") ∷ []
 
 abbrev pub scored : List ℕ → List ℕ → List ℕ → List Edit
-scored before condition next =
-    name_edits (bare Colon 40 (codes ":0")) (conditions condition next) []
-    (bare Colon 0 (codes ":0") ∷ bare Condition 4 before ∷ bare Open 30 (codes "{") ∷ bare Close 32 (codes "}")
-    ∷ bare Colon 40 (codes ":0") ∷ conditions condition next)
+scored before condition next = name_edits (bare Colon 40 (codes ":0")) (conditions condition next) [] (ended before)
+
+-- all edits of both recipes, with this span before them
+abbrev pub scored_after : Span → List Edit
+scored_after span =
+    edits_of (span ∷ (empty_recipe (codes "* 2147483647^0")
+    ++ (bare Colon 40 (codes ":0") ∷ conditions (codes "* $ $=^0") (codes "* 1^0 x")))) []
 
 -- the score as a variable, at the place 40
 abbrev pub named_there : List Edit
@@ -282,7 +307,9 @@ pub record OfScores : Type 0 where
   pub no_score : scored (codes "* 9876543210^0") (codes "* x") (codes "* 1^0 x") ≡ []
   pub empty_block : is_empty_block (bare Open 50 (codes "{") ∷ gap 51 ∷ bare Close 52 (codes "}") ∷ []) ≡ true
   pub block : is_empty_block (bare Open 50 (codes "{") ∷ bare Colon 51 (codes ":0") ∷ []) ≡ false
-  pub first : is_ended 9 false false false (bare Colon 9 (codes ":0") ∷ []) ≡ false
+  pub first : ended_before ≡ false
+  pub whole : scored_after (gap 0) ≡ named_there ++ greatest_of (bare Condition 44 (codes "* $ $=^0") ∷ [])
+  pub not_free : scored_after (span_of Assign 0 (codes "LASTSCORE") (codes "1")) ≡ []
   pub named : line (λ first text. greatest_of (bare Condition first text ∷ [])) (codes "* $$=^0") ≡ codes "* 2147483647^0 LASTSCORE ?? ^^2147483647^^"
 
 -- mailboxes

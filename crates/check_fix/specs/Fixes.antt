@@ -1,5 +1,5 @@
 -- What is said of a text that was written anew.
-use Rattle.std.specs.Prelude.{ℕ, ◌≡◌, ◌<◌, Bool, true, false, ◌||◌, List, [], ◌∷◌, length, if◌then◌else◌}
+use Rattle.std.specs.Prelude.{ℕ, ◌≡◌, ◌<◌, Bool, true, false, List, [], ◌∷◌, length, if◌then◌else◌}
 use Rattle.std.specs.List.{list_any}
 use Rattle.pm_recipe.specs.Refusal.{most_length}
 use Rattle.check_moving.specs.Found.{AreForms}
@@ -9,7 +9,7 @@ use Rattle.check_fix.specs.Moved.{moves}
 use Rattle.check_fix.specs.declared.changes.Change.{Change}
 use Rattle.check_fix.specs.declared.fixing.Fix.{Fix}
 use Rattle.check_fix.specs.declared.fixing.Outcome.{Outcome}
-use Rattle.check_fix.specs.declared.fixing.Outcome.TheVariants.{Fixed, Left}
+use Rattle.check_fix.specs.declared.fixing.Outcome.TheVariants.{Fixed, Left, More}
 use Rattle.check_fix.specs.declared.fixing.FixRefused.{FixRefused}
 use Rattle.check_fix.specs.declared.fixing.FixRefused.TheVariants as refusal
 
@@ -24,7 +24,7 @@ has_changes (change ∷ changes) = true
 
 -- by the changes of the new text, and the forms that are left in it
 abbrev pub outcome_of : List Change → List Finding → Outcome
-outcome_of changes findings = if has_changes changes || has_moving findings then Left else Fixed
+outcome_of changes findings = if has_changes changes then More else if has_moving findings then Left else Fixed
 
 -- the changes, the text that they make, and the forms that are left in it
 pub record IsFix (text : List ℕ) (fix : Fix) : Type 0 where

@@ -1,5 +1,5 @@
 -- Weights by the score of the last recipe, as docs/MOVING.md, "Recipes and conditions", has them.
-use Rattle.std.specs.Prelude.{ℕ, Bool, true, false, not, ◌||◌, ◌&&◌, List, [], ◌∷◌, ◌++◌, drop, length, nat_eq, nat_le, codes, if◌then◌else◌, position}
+use Rattle.std.specs.Prelude.{ℕ, Bool, true, false, not, ◌||◌, ◌&&◌, List, [], ◌∷◌, ◌++◌, drop, length, nat_eq, codes, if◌then◌else◌, position}
 use Rattle.std.specs.List.{starts_with}
 use Rattle.std.specs.Str.{bytes_eq}
 use Rattle.pm_bytes.specs.Letter.{is_blank_byte}
@@ -18,6 +18,7 @@ use Rattle.check_fix.specs.Numbers.{behind_whole, is_opening, keep_value}
 use Rattle.check_fix.specs.Parts.{before, behind_digits, is_above}
 use Rattle.check_fix.specs.Values.{is_gap}
 use Rattle.check_fix.specs.declared.edits.Edit.{Edit}
+use Rattle.check_fix.specs.declared.scores.Score.{Score}
 
 -- a condition that is expanded, without its `$`
 abbrev pub behind_dollar : List ℕ → List ℕ
@@ -80,12 +81,21 @@ this_after span last this begun =
 abbrev pub open_after : Kind → Bool → Bool
 open_after kind begun = is_opening kind || (is_gap kind && begun)
 
--- whether the score of the last recipe before a place is one of these numbers
-abbrev pub is_ended : ℕ → Bool → Bool → Bool → List Span → Bool
-is_ended place last this begun [] = false
-is_ended place last this begun (span ∷ spans) =
-    if nat_le place span.first then this
-    else is_ended place (last_after span.kind last this) (this_after span last this begun) (open_after span.kind begun) spans
+-- before all spans
+abbrev pub no_score : Score
+no_score = record { last = false; this = false; begun = false }
+
+-- behind a span
+abbrev pub score_after : Span → Score → Score
+score_after span score = record {
+  last = last_after span.kind score.last score.this;
+  this = this_after span score.last score.this score.begun;
+  begun = open_after span.kind score.begun;
+}
+
+-- no other value is given to the variable that gets the score
+abbrev pub is_free : List Span → Bool
+is_free spans = keep_value (codes "LASTSCORE") (codes "$=") spans
 
 -- a weight
 abbrev pub begins_weighted : List ℕ → Bool
@@ -129,16 +139,15 @@ scores_first [] action = false
 scores_first (span ∷ spans) action =
     is_between span.kind && is_score span.bytes.now && (are_weighted spans || is_empty_block action)
 
--- a recipe at this place with these spans behind its colon line, its action and what follows, where all spans are those
-abbrev pub is_scored : ℕ → List Span → List Span → List Span → Bool
-is_scored place spans action all =
-    scores_first (behind_gaps spans) action && is_ended place false false false all
-    && keep_value (codes "LASTSCORE") (codes "$=") all
+-- a recipe with these spans behind its colon line, its action and what follows, where the score of the recipe before is one
+-- of these numbers
+abbrev pub is_scored : Bool → List Span → List Span → Bool
+is_scored ended spans action = ended && scores_first (behind_gaps spans) action
 
 -- the score as a variable, before the recipe
-abbrev pub name_edits : Span → List Span → List Span → List Span → List Edit
-name_edits span spans action all =
-    if is_scored span.first spans action all then edit_at span.first span.bytes.now span.bytes.now 0 (codes "LASTSCORE=$=\n") else []
+abbrev pub name_edits : Span → List Span → List Span → Bool → List Edit
+name_edits span spans action ended =
+    if is_scored ended spans action then edit_at span.first span.bytes.now span.bytes.now 0 (codes "LASTSCORE=$=\n") else []
 
 abbrev pub greatest_of : List Span → List Edit
 greatest_of [] = []
@@ -147,5 +156,5 @@ greatest_of (span ∷ spans) =
     (codes "2147483647^0 LASTSCORE ?? ^^2147483647^^")
 
 -- and its condition: `* 2147483647^0 LASTSCORE ?? ^^2147483647^^`
-abbrev pub score_edits : Span → List Span → List Span → List Span → List Edit
-score_edits span spans action all = if is_scored span.first spans action all then greatest_of (behind_gaps spans) else []
+abbrev pub score_edits : List Span → List Span → Bool → List Edit
+score_edits spans action ended = if is_scored ended spans action then greatest_of (behind_gaps spans) else []

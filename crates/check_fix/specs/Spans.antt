@@ -1,17 +1,18 @@
 -- The edits of an rcfile, span for span.
-use Rattle.std.specs.Prelude.{ℕ, Bool, true, false, List, [], ◌∷◌, ◌++◌, nat_eq, nat_lt, nat_le, if◌then◌else◌}
+use Rattle.std.specs.Prelude.{ℕ, Bool, true, false, ◌&&◌, List, [], ◌∷◌, ◌++◌, nat_eq, nat_lt, nat_le, if◌then◌else◌}
 use Rattle.pm_recipe.specs.declared.fronts.Kind.{Kind}
 use Rattle.pm_recipe.specs.declared.fronts.Kind.TheVariants as kind
 use Rattle.pm_recipe.specs.declared.spans.Span.{Span}
 use Rattle.check_moving.specs.declared.finding.Finding.{Finding}
 use Rattle.check_moving.specs.declared.form.Form.{Form}
 use Rattle.check_fix.specs.Colons.{wait_edits}
-use Rattle.check_fix.specs.Copies.{is_between, copy_edits, stop_edits}
+use Rattle.check_fix.specs.Copies.{is_between, colon_after, copy_edits, stop_edits}
 use Rattle.check_fix.specs.Counts.{count_edits}
 use Rattle.check_fix.specs.Conditions.{great_edits, size_edits}
 use Rattle.check_fix.specs.Moved.{all_form_edits, all_lock_edits}
-use Rattle.check_fix.specs.Scores.{name_edits, score_edits}
+use Rattle.check_fix.specs.Scores.{is_free, name_edits, no_score, score_after, score_edits}
 use Rattle.check_fix.specs.declared.edits.Edit.{Edit}
+use Rattle.check_fix.specs.declared.scores.Score.{Score}
 
 -- the forms at a place; findings are in the order of their places
 abbrev pub forms_at : ℕ → List Finding → List Form
@@ -39,33 +40,36 @@ colon_edits span (action ∷ spans) findings =
     ++ (copy_edits span.first span.bytes.now action.kind spans ++ all_lock_edits (forms_at action.first findings) span)
 
 -- the score of the recipe before as a variable, the colon line, and the condition by that score
-abbrev pub recipe_edits : Span → List Span → List Span → List Finding → List Edit
-recipe_edits span spans all findings =
-    name_edits span spans (from_action spans) all
-    ++ (colon_edits span (from_action spans) findings ++ score_edits span spans (from_action spans) all)
+abbrev pub recipe_edits : Span → List Span → Bool → List Finding → List Edit
+recipe_edits span spans ended findings =
+    name_edits span spans (from_action spans) ended
+    ++ (colon_edits span (from_action spans) findings ++ score_edits spans (from_action spans) ended)
 
 -- what needs no finding: weights above the greatest, sizes by variables, filters that aren't waited for, copies that a
 -- variable decides on, weights by the score of the recipe before, and counts of conditions
-abbrev pub kind_edits : Kind → Span → List Span → List Span → List Finding → List Edit
-kind_edits kind.Condition span spans all findings = great_edits span.first span.bytes.now ++ size_edits span.first span.bytes.now
-kind_edits kind.Colon span spans all findings = recipe_edits span spans all findings
-kind_edits kind.Skipped span spans all findings = count_edits span spans
-kind_edits kind.Mailbox span spans all findings = stop_edits span spans all
-kind_edits kind.Pipe span spans all findings = stop_edits span spans all
-kind_edits kind.Forward span spans all findings = stop_edits span spans all
-kind_edits _ span spans all findings = []
+abbrev pub kind_edits : Kind → Span → List Span → Bool → List Finding → List Edit
+kind_edits kind.Condition span spans ended findings = great_edits span.first span.bytes.now ++ size_edits span.first span.bytes.now
+kind_edits kind.Colon span spans ended findings = recipe_edits span spans ended findings
+kind_edits kind.Skipped span spans ended findings = count_edits span spans
+kind_edits _ span spans ended findings = []
 
--- a span before these, where all spans of the text are those
-abbrev pub span_edits : Span → List Span → List Span → List Finding → List Edit
-span_edits span spans all findings =
-    all_form_edits (forms_at span.first findings) span spans all ++ kind_edits span.kind span spans all findings
+-- the forms that were found in a span before these, where all spans of the text are those
+abbrev pub found_edits : Span → List Span → List Span → List Finding → List Edit
+found_edits span spans all findings = all_form_edits (forms_at span.first findings) span spans all
 
--- these spans of all
-abbrev pub edits_among : List Span → List Span → List Finding → List Edit
-edits_among all [] findings = []
-edits_among all (span ∷ spans) findings =
-    span_edits span spans all findings ++ edits_among all spans (later_than span.first findings)
+-- a span before these, of all, behind this colon line and this score
+abbrev pub span_edits : Span → List Span → List Span → List ℕ → Score → List Finding → List Edit
+span_edits span spans all colon score findings =
+    found_edits span spans all findings
+    ++ (kind_edits span.kind span spans (score.this && is_free all) findings ++ stop_edits span spans colon)
+
+-- these spans of all, behind that
+abbrev pub edits_among : List Span → List ℕ → Score → List Span → List Finding → List Edit
+edits_among all colon score [] findings = []
+edits_among all colon score (span ∷ spans) findings =
+    span_edits span spans all colon score findings
+    ++ edits_among all (colon_after span colon) (score_after span score) spans (later_than span.first findings)
 
 -- all spans
 abbrev pub edits_of : List Span → List Finding → List Edit
-edits_of spans findings = edits_among spans spans findings
+edits_of spans findings = edits_among spans [] no_score spans findings

@@ -1,5 +1,5 @@
 //! Copies that a variable decides on.
-ghost use Rattle.std.specs.Prelude.{◌≡◌, ◌++◌, IfOk, OnOk, []};
+ghost use Rattle.std.specs.Prelude.{◌≡◌, ◌++◌, IfOk, OnOk};
 ghost use Rattle.std.specs.List.{list_all};
 ghost use Rattle.check_fix.specs.Copies;
 ghost use Rattle.check_fix.specs.Copies.{copy_edits, stop_at, stop_under, stop_edits};
@@ -176,7 +176,8 @@ pub fn put_copy(
     }
 }
 
-fn colon_after<'b>(span: &Span<'b>, text: &'b [u8]) -> &'b [u8]
+/// The colon line whose conditions or action comes after a span, if one does, where that was the one before it.
+pub fn colon_after<'b>(span: &Span<'b>, text: &'b [u8]) -> &'b [u8]
     ensures { result.now ≡ Copies.colon_after span.now text.now }
 {
     if is_colon(span.kind) {
@@ -186,19 +187,6 @@ fn colon_after<'b>(span: &Span<'b>, text: &'b [u8]) -> &'b [u8]
     } else {
         &[]
     }
-}
-
-fn colon_before<'b>(place: usize, spans: &[Span<'b>]) -> &'b [u8]
-    ensures { result.now ≡ Copies.colon_before place [] spans.now }
-{
-    let mut text: &[u8] = &[];
-    for span in spans {
-        if place <= span.first {
-            return text;
-        }
-        text = colon_after(span, text);
-    }
-    &[]
 }
 
 fn stop_text(alloc: Global, name: &[u8]) -> Result<Blob, Memory>
@@ -243,21 +231,16 @@ fn put_stop_under(
     }
 }
 
-/// The end of a delivery that is no copy without the variable, behind its action.
+/// The end of a delivery that is no copy without the variable, behind its action, under the colon line whose action
+/// comes there.
 pub fn put_stop(
     alloc: Global,
     span: &Span<'_>,
     spans: &[Span<'_>],
-    all: &[Span<'_>],
+    colon: &[u8],
     edits: &mut Vec<Edit>,
 ) -> Result<(), Memory>
-    ensures { OnOk result (edits.new.items ≡ edits.old.items ++ stop_edits span.now spans.now all.now) }
+    ensures { OnOk result (edits.new.items ≡ edits.old.items ++ stop_edits span.now spans.now colon.now) }
 {
-    put_stop_under(
-        alloc,
-        colon_before(span.first, all),
-        span.kind,
-        spans,
-        edits,
-    )
+    put_stop_under(alloc, colon, span.kind, spans, edits)
 }

@@ -17,7 +17,10 @@ use std::alloc::Global;
 pub enum Outcome {
     /// No form of a kind that is brought over, and there is nothing more to change.
     Fixed,
+    /// Such forms, and there is nothing more to change.
     Left,
+    /// There is more to change.
+    More,
 }
 
 /// A text that was written anew.
@@ -97,7 +100,9 @@ fn has_changes(changes: &[Change]) -> bool
 fn outcome_of(changes: &[Change], findings: &[Finding]) -> Outcome
     ensures { result ≡ Fixes.outcome_of changes.now findings.now }
 {
-    if has_changes(changes) || has_moving(findings) {
+    if has_changes(changes) {
+        Outcome::More
+    } else if has_moving(findings) {
         Outcome::Left
     } else {
         Outcome::Fixed

@@ -16,6 +16,15 @@ use pm_bytes::{Memory, is_blank};
 use pm_recipe::{Flags, Kind, Span, read_flags};
 use std::alloc::Global;
 
+/// Whether the score of the recipe before is 0 or 2147483647, whether that of this one is, and whether a block has just
+/// begun.
+#[derive(Clone, Copy)]
+pub struct Score {
+    pub last: bool,
+    pub this: bool,
+    pub begun: bool,
+}
+
 fn past_dollar(text: &[u8]) -> &[u8]
     ensures { result.now ≡ Scores.behind_dollar text.now }
 {
@@ -130,22 +139,33 @@ fn open_after(kind: Kind, begun: bool) -> bool
     is_opening(kind) || (is_gap(kind) && begun)
 }
 
-fn is_ended(place: usize, spans: &[Span<'_>]) -> bool
-    ensures { result ≡ Scores.is_ended place false false false spans.now }
+/// Before all spans.
+pub fn no_score() -> Score
+    ensures { result ≡ Scores.no_score }
 {
-    let mut last = false;
-    let mut this = false;
-    let mut begun = false;
-    for span in spans {
-        if place <= span.first {
-            return this;
-        }
-        let next = this_after(span, last, this, begun);
-        last = last_after(span.kind, last, this);
-        begun = open_after(span.kind, begun);
-        this = next;
+    Score {
+        last: false,
+        this: false,
+        begun: false,
     }
-    false
+}
+
+/// Behind a span.
+pub fn score_after(span: &Span<'_>, score: Score) -> Score
+    ensures { result ≡ Scores.score_after span.now score }
+{
+    Score {
+        last: last_after(span.kind, score.last, score.this),
+        this: this_after(span, score.last, score.this, score.begun),
+        begun: open_after(span.kind, score.begun),
+    }
+}
+
+/// Whether no other value is given to the variable that gets the score.
+pub fn is_free(spans: &[Span<'_>]) -> bool
+    ensures { result ≡ Scores.is_free spans.now }
+{
+    keep_value(b"LASTSCORE", b"$=", spans)
 }
 
 fn begins_weighted(text: &[u8]) -> bool
@@ -226,26 +246,24 @@ fn scores_first(spans: &[Span<'_>], action: &[Span<'_>]) -> bool
     }
 }
 
-fn is_scored(place: usize, spans: &[Span<'_>], action: &[Span<'_>], all: &[Span<'_>]) -> bool
-    ensures { result ≡ Scores.is_scored place spans.now action.now all.now }
+fn is_scored(ended: bool, spans: &[Span<'_>], action: &[Span<'_>]) -> bool
+    ensures { result ≡ Scores.is_scored ended spans.now action.now }
 {
-    scores_first(past_gaps(spans), action)
-        && is_ended(place, all)
-        && keep_value(b"LASTSCORE", b"$=", all)
+    ended && scores_first(past_gaps(spans), action)
 }
 
-/// The score of the last recipe as a variable, before a colon line.
+/// The score of the last recipe as a variable, before a colon line. `ended` says that it is 0 or 2147483647.
 pub fn put_name(
     alloc: Global,
     span: &Span<'_>,
     spans: &[Span<'_>],
     action: &[Span<'_>],
-    all: &[Span<'_>],
+    ended: bool,
     edits: &mut Vec<Edit>,
 ) -> Result<(), Memory>
-    ensures { OnOk result (edits.new.items ≡ edits.old.items ++ name_edits span.now spans.now action.now all.now) }
+    ensures { OnOk result (edits.new.items ≡ edits.old.items ++ name_edits span.now spans.now action.now ended) }
 {
-    if is_scored(span.first, spans, action, all) {
+    if is_scored(ended, spans, action) {
         put(alloc, span, span.bytes, 0, b"LASTSCORE=$=\n", edits)
     } else {
         Ok(())
@@ -274,15 +292,14 @@ fn put_greatest_of(alloc: Global, spans: &[Span<'_>], edits: &mut Vec<Edit>) -> 
 /// The condition by that score, behind a colon line.
 pub fn put_score(
     alloc: Global,
-    span: &Span<'_>,
     spans: &[Span<'_>],
     action: &[Span<'_>],
-    all: &[Span<'_>],
+    ended: bool,
     edits: &mut Vec<Edit>,
 ) -> Result<(), Memory>
-    ensures { OnOk result (edits.new.items ≡ edits.old.items ++ score_edits span.now spans.now action.now all.now) }
+    ensures { OnOk result (edits.new.items ≡ edits.old.items ++ score_edits spans.now action.now ended) }
 {
-    if is_scored(span.first, spans, action, all) {
+    if is_scored(ended, spans, action) {
         put_greatest_of(alloc, past_gaps(spans), edits)
     } else {
         Ok(())

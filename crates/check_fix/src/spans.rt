@@ -1,15 +1,15 @@
 //! The edits of an rcfile, span for span.
 ghost use Rattle.std.specs.Prelude.{◌≡◌, ◌++◌, IfOk, OnOk};
 ghost use Rattle.check_fix.specs.Spans;
-ghost use Rattle.check_fix.specs.Spans.{colon_edits, recipe_edits, kind_edits, span_edits};
+ghost use Rattle.check_fix.specs.Spans.{colon_edits, recipe_edits, kind_edits, found_edits};
 
 use crate::colons::put_wait;
 use crate::conditions::{put_great, put_size};
-use crate::copies::{is_between, put_copy, put_stop};
+use crate::copies::{colon_after, is_between, put_copy, put_stop};
 use crate::counts::put_count;
 use crate::edits::Edit;
 use crate::moved::{put_forms, put_locks};
-use crate::scores::{put_name, put_score};
+use crate::scores::{is_free, no_score, put_name, put_score, score_after};
 use check_moving::{Finding, Form};
 use pm_bytes::Memory;
 use pm_recipe::{Kind, Span};
@@ -80,43 +80,42 @@ fn put_recipe(
     alloc: Global,
     span: &Span<'_>,
     spans: &[Span<'_>],
-    all: &[Span<'_>],
+    ended: bool,
     findings: &[Finding],
     edits: &mut Vec<Edit>,
 ) -> Result<(), Memory>
     ensures { OnOk result (edits.new.items
-        ≡ edits.old.items ++ recipe_edits span.now spans.now all.now findings.now) }
+        ≡ edits.old.items ++ recipe_edits span.now spans.now ended findings.now) }
 {
     let action = from_action(spans);
-    put_name(alloc, span, spans, action, all, edits)?;
+    put_name(alloc, span, spans, action, ended, edits)?;
     put_colon(alloc, span, action, findings, edits)?;
-    put_score(alloc, span, spans, action, all, edits)
+    put_score(alloc, spans, action, ended, edits)
 }
 
 fn put_kind(
     alloc: Global,
     span: &Span<'_>,
     spans: &[Span<'_>],
-    all: &[Span<'_>],
+    ended: bool,
     findings: &[Finding],
     edits: &mut Vec<Edit>,
 ) -> Result<(), Memory>
     ensures { OnOk result (edits.new.items
-        ≡ edits.old.items ++ kind_edits span.now.kind span.now spans.now all.now findings.now) }
+        ≡ edits.old.items ++ kind_edits span.now.kind span.now spans.now ended findings.now) }
 {
     match span.kind {
         Kind::Condition => {
             put_great(alloc, span, edits)?;
             put_size(alloc, span, edits)
         }
-        Kind::Colon => put_recipe(alloc, span, spans, all, findings, edits),
+        Kind::Colon => put_recipe(alloc, span, spans, ended, findings, edits),
         Kind::Skipped => put_count(alloc, span, spans, edits),
-        Kind::Mailbox | Kind::Pipe | Kind::Forward => put_stop(alloc, span, spans, all, edits),
         _ => Ok(()),
     }
 }
 
-fn put_span(
+fn put_found(
     alloc: Global,
     span: &Span<'_>,
     spans: &[Span<'_>],
@@ -124,11 +123,10 @@ fn put_span(
     findings: &[Finding],
     edits: &mut Vec<Edit>,
 ) -> Result<(), Memory>
-    ensures { OnOk result (edits.new.items ≡ edits.old.items ++ span_edits span.now spans.now all.now findings.now) }
+    ensures { OnOk result (edits.new.items ≡ edits.old.items ++ found_edits span.now spans.now all.now findings.now) }
 {
     let forms = forms_at(alloc, span.first, findings)?;
-    put_forms(alloc, forms.as_slice(), span, spans, all, edits)?;
-    put_kind(alloc, span, spans, all, findings, edits)
+    put_forms(alloc, forms.as_slice(), span, spans, all, edits)
 }
 
 /// The edits of these spans, in which these forms were found.
@@ -141,9 +139,18 @@ pub fn edits_of(
 {
     let mut edits = Vec::new(alloc);
     let mut left = findings;
+    let mut colon: &[u8] = &[];
+    let mut score = no_score();
+    let free = is_free(spans);
     for i in 0..spans.len() {
-        put_span(alloc, &spans[i], &spans[i + 1..], spans, left, &mut edits)?;
-        left = later_than(spans[i].first, left);
+        let span = &spans[i];
+        let later = &spans[i + 1..];
+        put_found(alloc, span, later, spans, left, &mut edits)?;
+        put_kind(alloc, span, later, score.this && free, left, &mut edits)?;
+        put_stop(alloc, span, later, colon, &mut edits)?;
+        colon = colon_after(span, colon);
+        score = score_after(span, score);
+        left = later_than(span.first, left);
     }
     Ok(edits)
 }

@@ -1,5 +1,5 @@
 -- Forms of calls of formail (formail(1)).
-use Rattle.std.specs.Prelude.{ℕ, Bool, true, false, not, ◌||◌, ◌&&◌, List, [], ◌∷◌, ◌++◌, length, drop, nat_eq, nat_lt, if◌then◌else◌, codes, Option, Some, None}
+use Rattle.std.specs.Prelude.{ℕ, Bool, false, not, ◌||◌, ◌&&◌, List, [], ◌∷◌, ◌++◌, length, drop, nat_eq, nat_lt, if◌then◌else◌, codes, Option, Some, None}
 use Rattle.std.specs.List.{starts_with, list_any}
 use Rattle.std.specs.Str.{bytes_eq}
 use Rattle.pm_bytes.specs.Number.{count_of}

@@ -1,8 +1,8 @@
 -- Which forms short texts have, as procmailrc(5), procmailsc(5) and formail(1) tell them apart.
-use Rattle.std.specs.Prelude.{◌≡◌, ℕ, Bool, true, false, List, [], ◌∷◌, ◌++◌, codes, None, Some}
+use Rattle.std.specs.Prelude.{◌≡◌, ℕ, Bool, true, false, List, [], ◌∷◌, ◌++◌, codes}
 use Rattle.pm_recipe.specs.Weights.{condition_of}
 use Rattle.pm_recipe.specs.declared.fronts.Kind.{Kind}
-use Rattle.pm_recipe.specs.declared.fronts.Kind.TheVariants.{Assign, Capture, Close, Forward, Pipe}
+use Rattle.pm_recipe.specs.declared.fronts.Kind.TheVariants.{Assign, Capture, Close, Condition, Forward, Pipe, Unset}
 use Rattle.pm_recipe.specs.declared.spans.Span.{Span}
 use Rattle.check_moving.specs.Calls.{calls_in}
 use Rattle.check_moving.specs.Conditions.{conditioned}
@@ -10,6 +10,7 @@ use Rattle.check_moving.specs.Expanded.{expanded}
 use Rattle.check_moving.specs.Kept.{kept}
 use Rattle.check_moving.specs.Leads.{front_of}
 use Rattle.check_moving.specs.Mailboxes.{filed_by}
+use Rattle.check_moving.specs.Names.{names_by}
 use Rattle.check_moving.specs.Recipes.{begun, opened, sent}
 use Rattle.check_moving.specs.Searches.{searched_by}
 use Rattle.check_moving.specs.Standing.{after, after_colon, begin}
@@ -41,7 +42,11 @@ of_condition text = kept (conditioned false text (condition_of text).weight (fro
 
 -- the forms of an expression, after a star
 abbrev pub of_search : List ℕ → List Form
-of_search text = kept (searched_by (condition_of text).weight (front_of (condition_of text).text))
+of_search text = searched_by [] (condition_of text).weight (front_of (condition_of text).text)
+
+-- the same where the variable X begins with an anchor
+abbrev pub of_search_with_x : List ℕ → List Form
+of_search_with_x text = searched_by (codes "X" ∷ []) (condition_of text).weight (front_of (condition_of text).text)
 
 -- the forms of the calls in a line, without a lock file
 abbrev pub of_line : List ℕ → List Form
@@ -96,6 +101,26 @@ pub record OfConditions : Type 0 where
   pub inverted : of_search (codes " ! ^X: \\/y") ≡ any.Search search.InvertedMatch ∷ []
   pub twice : of_search (codes " !! ^X: \\/y") ≡ []
   pub end : of_search (codes " ^X: \\/.*$") ≡ any.Search search.MatchEnd ∷ []
+  pub word_end : of_search (codes " ^X: \\/y\\>") ≡ any.Search search.MatchEnd ∷ []
+  pub group_end : of_search (codes " ^X: \\/(.*$)+") ≡ any.Search search.MatchEnd ∷ []
+  pub dollar_end : of_search (codes " ^X: \\/(y\\$)") ≡ []
+  pub begin : of_search (codes " ()\\/^X:") ≡ any.Search search.MatchBegin ∷ []
+  pub edge : of_search (codes " x\\/\\>") ≡ any.Search search.MatchEnd ∷ any.Search search.MatchBegin ∷ []
+  pub line_end : of_search (codes " x\\/$y") ≡ any.Search search.MatchBegin ∷ []
+  pub group : of_search (codes " x\\/((\\<y|z)u)") ≡ any.Search search.MatchBegin ∷ []
+  pub alternative : of_search (codes " x\\/([|0-9]|y(z|u)|\\<v)") ≡ any.Search search.MatchBegin ∷ []
+  pub inner_alternative : of_search (codes " x\\/(y(z|\\<u)|v)") ≡ []
+  pub later : of_search (codes " ^X: \\/y\\<z") ≡ []
+  pub text_start : of_search (codes " x\\/^^y") ≡ []
+  pub member : of_search (codes " x\\/[|^]y") ≡ []
+  pub joined : of_search (codes " x\\/(\\\n\\<y)") ≡ any.Search search.MatchBegin ∷ []
+  pub not_set : of_search (codes " ! x\\/^y") ≡ any.Search search.InvertedMatch ∷ []
+  -- by a variable
+  pub named : of_search_with_x (codes " $ B ?? ()\\/$X.*") ≡ any.Search search.MatchBegin ∷ []
+  pub in_braces : of_search_with_x (codes " $ B ?? ()\\/(${X}|y)") ≡ any.Search search.MatchBegin ∷ []
+  pub other_name : of_search_with_x (codes " $ B ?? ()\\/$XY") ≡ []
+  pub escaped_name : of_search_with_x (codes " $ B ?? ()\\/$\\X") ≡ []
+  pub no_variable : of_search_with_x (codes " B ?? ()\\/[$X]") ≡ []
   pub counted : of_search (codes " 1^1 x\\/y") ≡ any.Search search.WeightedMatch ∷ []
   pub anchors : of_search (codes " ^X:.*$^Y:") ≡ any.Search search.TwoAnchors ∷ []
   pub blanks : of_search (codes " ^X: a  b") ≡ any.Search search.TwoBlanks ∷ []
@@ -114,6 +139,19 @@ pub record OfConditions : Type 0 where
   pub by_variable : of_search (codes " $ ^X: [$A-$B]") ≡ []
   -- a program's line and a size are none
   pub program : of_search (codes " ? test  \\$^") ≡ []
+
+-- the variables whose values begin with an anchor
+pub record OfNames : Type 0 where
+  pub added : names_by Assign (codes "X") (codes "\"(a|\\<b)\"") [] ≡ codes "X" ∷ []
+  pub single : names_by Assign (codes "X") (codes "'$'") [] ≡ codes "X" ∷ []
+  pub last : names_by Assign (codes "Y") (codes "^a") (codes "Y" ∷ codes "X" ∷ []) ≡ codes "X" ∷ codes "Y" ∷ []
+  pub by_another : names_by Assign (codes "Y") (codes "\"$X\"") (codes "X" ∷ []) ≡ codes "X" ∷ codes "Y" ∷ []
+  pub other_value : names_by Assign (codes "X") (codes "\"a^\"") (codes "X" ∷ []) ≡ []
+  -- the backslash isn't in the value
+  pub no_quotes : names_by Assign (codes "X") (codes "\\<a") [] ≡ []
+  pub unset : names_by Unset (codes "X") [] (codes "X" ∷ codes "Y" ∷ []) ≡ codes "Y" ∷ []
+  pub captured : names_by Capture (codes "X") (codes "cat") (codes "X" ∷ []) ≡ []
+  pub condition : names_by Condition [] (codes " x") (codes "X" ∷ []) ≡ codes "X" ∷ []
 
 -- a span of this kind without a text
 abbrev pub bare : Kind → Span

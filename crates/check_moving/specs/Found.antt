@@ -1,5 +1,5 @@
 -- The forms of an rcfile, span for span.
-use Rattle.std.specs.Prelude.{◌≡◌, ℕ, Bool, true, false, not, ◌||◌, ◌&&◌, List, [], ◌∷◌, ◌++◌, nat_eq, codes, if◌then◌else◌, Option, Some, None}
+use Rattle.std.specs.Prelude.{◌≡◌, ℕ, Bool, not, ◌||◌, ◌&&◌, List, [], ◌∷◌, ◌++◌, nat_eq, codes, if◌then◌else◌, Option, Some, None}
 use Rattle.std.specs.List.{starts_with}
 use Rattle.std.specs.Str.{bytes_eq}
 use Rattle.pm_recipe.specs.Colon.{lock_of}
@@ -16,6 +16,7 @@ use Rattle.check_moving.specs.Expanded.{expanded}
 use Rattle.check_moving.specs.Kept.{kept}
 use Rattle.check_moving.specs.Leads.{Front, front_of}
 use Rattle.check_moving.specs.Mailboxes.{filed_by}
+use Rattle.check_moving.specs.Names.{names_after}
 use Rattle.check_moving.specs.Recipes.{begun, opened, sent}
 use Rattle.check_moving.specs.Searches.{searched_by}
 use Rattle.check_moving.specs.Standing.{begin, after, names_maildir}
@@ -56,15 +57,15 @@ expanded_in front = if front.expands then front.text else []
 abbrev pub program_in : Front → List ℕ
 program_in front = if starts_with nat_eq front.text (codes "?") then front.text else []
 
--- the forms of a condition's text, weight and front
-abbrev pub of_front : Standing → List ℕ → Weight → Front → List Form
-of_front standing text worth front =
-    kept (conditioned standing.greatest text worth front) ++ kept (searched_by worth front)
+-- the forms of a condition's text, weight and front, where the variables of these names begin with an anchor
+abbrev pub of_front : Standing → List (List ℕ) → List ℕ → Weight → Front → List Form
+of_front standing names text worth front =
+    kept (conditioned standing.greatest text worth front) ++ searched_by names worth front
     ++ kept (expanded standing.weighted (expanded_in front)) ++ calls_in [] (words_of (program_in front))
 
 -- of a condition that was read
-abbrev pub of_read : Standing → List ℕ → Condition → List Form
-of_read standing text condition = of_front standing text condition.weight (front_of condition.text)
+abbrev pub of_read : Standing → List (List ℕ) → List ℕ → Condition → List Form
+of_read standing names text condition = of_front standing names text condition.weight (front_of condition.text)
 
 -- standard error that is sent to procmail's own
 abbrev pub is_standard_error : List ℕ → Bool
@@ -113,21 +114,21 @@ abbrev pub of_colon : Standing → List ℕ → List Form
 of_colon standing text = kept (begun standing.fresh standing.closed standing.unwatched standing.held text)
 
 -- the forms of a span of this kind
-abbrev pub of_kind : Standing → Kind → List ℕ → List ℕ → List Form
-of_kind standing kind.Colon name text = of_colon standing text
-of_kind standing kind.Condition name text = of_read standing text (condition_of text)
-of_kind standing kind.Open name text = kept (opened standing.colon)
-of_kind standing kind.Assign name text = of_assign standing name text
-of_kind standing kind.Unset name text = kept (unset name)
-of_kind standing kind.Mailbox name text = of_mailbox standing text
-of_kind standing kind.Pipe name text = of_pipe standing text
-of_kind standing kind.Capture name text = of_program standing text
-of_kind standing kind.Forward name text = of_forward standing text
-of_kind standing _ name text = []
+abbrev pub of_kind : Standing → List (List ℕ) → Kind → List ℕ → List ℕ → List Form
+of_kind standing names kind.Colon name text = of_colon standing text
+of_kind standing names kind.Condition name text = of_read standing names text (condition_of text)
+of_kind standing names kind.Open name text = kept (opened standing.colon)
+of_kind standing names kind.Assign name text = of_assign standing name text
+of_kind standing names kind.Unset name text = kept (unset name)
+of_kind standing names kind.Mailbox name text = of_mailbox standing text
+of_kind standing names kind.Pipe name text = of_pipe standing text
+of_kind standing names kind.Capture name text = of_program standing text
+of_kind standing names kind.Forward name text = of_forward standing text
+of_kind standing names _ name text = []
 
 -- the forms of a span
-abbrev pub of_span : Standing → Span → List Form
-of_span standing span = of_kind standing span.kind span.name.now span.text.now
+abbrev pub of_span : Standing → List (List ℕ) → Span → List Form
+of_span standing names span = of_kind standing names span.kind span.name.now span.text.now
 
 -- forms as findings at a span
 abbrev pub at_span : Span → List Form → List Finding
@@ -135,12 +136,13 @@ at_span span [] = []
 at_span span (form ∷ forms) = (record { form = form; line = span.line; first = span.first }) ∷ at_span span forms
 
 -- the findings of spans, one after the other
-abbrev pub found_from : Standing → List Span → List Finding
-found_from standing [] = []
-found_from standing (span ∷ spans) = at_span span (of_span standing span) ++ found_from (after span standing) spans
+abbrev pub found_from : Standing → List (List ℕ) → List Span → List Finding
+found_from standing names [] = []
+found_from standing names (span ∷ spans) =
+    at_span span (of_span standing names span) ++ found_from (after span standing) (names_after span names) spans
 
 -- the findings of a text: those of its spans
 pub record AreForms (text : List ℕ) (findings : List Finding) : Type 0 where
   pub spans : List Span
   pub cut : AreSpans text spans
-  pub found : findings ≡ found_from (begin spans) spans
+  pub found : findings ≡ found_from (begin spans) [] spans

@@ -6,6 +6,8 @@ pub mod Ranges
 pub mod Variables
 pub mod Leads
 pub mod Conditions
+pub mod Anchors
+pub mod Names
 pub mod Searches
 pub mod Words
 pub mod Options

@@ -1,5 +1,5 @@
 -- Forms of mailboxes (procmailrc(5), "Mailboxes").
-use Rattle.std.specs.Prelude.{ℕ, Bool, true, false, not, ◌||◌, ◌&&◌, List, [], ◌∷◌, nat_eq, codes, Option, Some, None}
+use Rattle.std.specs.Prelude.{ℕ, Bool, false, not, ◌||◌, ◌&&◌, List, [], ◌∷◌, nat_eq, codes, Option, Some, None}
 use Rattle.std.specs.List.{starts_with, ends_with}
 use Rattle.std.specs.Str.{bytes_eq}
 use Rattle.pm_recipe.specs.Colon.{flags_of, flags_part, lock_of}

@@ -1,6 +1,6 @@
 -- The options of a call of formail, as formail 3.22 reads them (formail(1)).
-use Rattle.std.specs.Prelude.{ℕ, Bool, true, false, not, ◌||◌, ◌&&◌, List, [], ◌∷◌, ◌++◌, drop, nat_eq, if◌then◌else◌, codes}
-use Rattle.std.specs.List.{starts_with, ends_with, list_any}
+use Rattle.std.specs.Prelude.{ℕ, Bool, false, not, ◌||◌, ◌&&◌, List, [], ◌∷◌, ◌++◌, drop, nat_eq, if◌then◌else◌, codes}
+use Rattle.std.specs.List.{ends_with, list_any}
 use Rattle.pm_bytes.specs.Alphabet.{MINUS}
 use Rattle.pm_bytes.specs.Letter.{is_digit_byte}
 use Rattle.check_moving.specs.Words.{is_break}

@@ -1,5 +1,5 @@
 -- Sets whose ranges mean something else (procmailrc(5), "Regular expressions").
-use Rattle.std.specs.Prelude.{ℕ, ◌+◌, Bool, true, false, not, ◌||◌, ◌&&◌, List, [], ◌∷◌, drop, take, Option, Some, None, nat_eq, nat_lt, if◌then◌else◌, codes, position}
+use Rattle.std.specs.Prelude.{ℕ, ◌+◌, Bool, false, not, ◌||◌, ◌&&◌, List, [], ◌∷◌, drop, take, Option, Some, None, nat_eq, nat_lt, if◌then◌else◌, codes, position}
 use Rattle.std.specs.List.{starts_with}
 use Rattle.pm_bytes.specs.Alphabet.{BACKSLASH}
 use Rattle.check_moving.specs.Text.{has_part}

@@ -1,5 +1,5 @@
 -- Forms of colon lines and of blocks (procmailrc(5), "Flags", "Blocks" and "Lock files").
-use Rattle.std.specs.Prelude.{ℕ, Bool, true, false, not, ◌||◌, ◌&&◌, List, [], ◌∷◌, codes, Option, Some, None}
+use Rattle.std.specs.Prelude.{ℕ, Bool, false, not, ◌||◌, ◌&&◌, List, [], ◌∷◌, codes, Option, Some, None}
 use Rattle.std.specs.Str.{bytes_eq}
 use Rattle.pm_recipe.specs.Colon.{flags_of, flags_part, lock_of}
 use Rattle.pm_recipe.specs.declared.tree.Flags.{Flags}

@@ -1,9 +1,11 @@
 -- Forms of expressions (procmailrc(5), "Regular expressions").
-use Rattle.std.specs.Prelude.{ℕ, Bool, true, false, not, ◌||◌, ◌&&◌, List, [], ◌∷◌, nat_eq, if◌then◌else◌, codes, pos}
+use Rattle.std.specs.Prelude.{ℕ, Bool, false, not, ◌||◌, ◌&&◌, List, [], ◌∷◌, ◌++◌, ◌-◌, take, length, nat_eq, if◌then◌else◌, codes, pos}
 use Rattle.std.specs.List.{starts_with, ends_with}
 use Rattle.std.specs.Str.{bytes_eq}
 use Rattle.pm_recipe.specs.declared.tree.Weight.{Weight}
+use Rattle.check_moving.specs.Anchors.{is_match_begin}
 use Rattle.check_moving.specs.Conditions.{is_above, is_size}
+use Rattle.check_moving.specs.Kept.{kept}
 use Rattle.check_moving.specs.Leads.{Front}
 use Rattle.check_moving.specs.Ranges.{has_set}
 use Rattle.check_moving.specs.Text.{has_part}
@@ -31,9 +33,22 @@ matches text = has_part (codes "\\/") text
 abbrev pub is_inverted_match : Front → Bool
 is_inverted_match front = front.inverted && matches front.text
 
--- up to the end of a line
+-- an anchor comes last
+abbrev pub ends_anchored : List ℕ → Bool
+ends_anchored text =
+    (ends_with nat_eq text (codes "$") && not (ends_with nat_eq text (codes "\\$")))
+    || ends_with nat_eq text (codes "\\<") || ends_with nat_eq text (codes "\\>")
+
+-- without these bytes at the end
+abbrev pub without_end : List ℕ → List ℕ → List ℕ
+without_end close text = if ends_with nat_eq text close then take (length text - length close) text else text
+
+-- up to the end of a line or a word, maybe in parentheses
 abbrev pub is_match_end : List ℕ → Bool
-is_match_end text = matches text && ends_with nat_eq text (codes "$") && not (ends_with nat_eq text (codes "\\$"))
+is_match_end text =
+    matches text
+    && (ends_anchored text || ends_anchored (without_end (codes ")") text) || ends_anchored (without_end (codes ")*") text)
+    || ends_anchored (without_end (codes ")+") text))
 
 -- counted
 abbrev pub is_weighted_match : Weight → List ℕ → Bool
@@ -78,9 +93,6 @@ abbrev pub searched : Weight → Front → List (Bool × Form)
 searched worth front =
     (starts_with nat_eq front.text (codes "\\"), Search form.Backslash)
     ∷ (is_quoted front, Search form.Quote)
-    ∷ (is_inverted_match front, Search form.InvertedMatch)
-    ∷ (is_match_end front.text, Search form.MatchEnd)
-    ∷ (is_weighted_match worth front.text, Search form.WeightedMatch)
     ∷ (is_two_anchors front.text, Search form.TwoAnchors)
     ∷ (is_two_blanks front, Search form.TwoBlanks)
     ∷ (is_empty_match worth front.text, Search form.EmptyMatch)
@@ -88,6 +100,16 @@ searched worth front =
     ∷ (has_set false front.text, Search form.Range)
     ∷ []
 
+-- those of its `\/`, where the variables of these names begin with an anchor
+abbrev pub matched : List (List ℕ) → Weight → Front → List (Bool × Form)
+matched names worth front =
+    (is_inverted_match front, Search form.InvertedMatch)
+    ∷ (is_match_end front.text, Search form.MatchEnd)
+    ∷ (is_match_begin names front, Search form.MatchBegin)
+    ∷ (is_weighted_match worth front.text, Search form.WeightedMatch)
+    ∷ []
+
 -- those of a condition: none, where it asks for something else
-abbrev pub searched_by : Weight → Front → List (Bool × Form)
-searched_by worth front = if is_search front.text then searched worth front else []
+abbrev pub searched_by : List (List ℕ) → Weight → Front → List Form
+searched_by names worth front =
+    if is_search front.text then kept (searched worth front) ++ kept (matched names worth front) else []

@@ -1,6 +1,5 @@
 -- The words of a program's line, with their quotes, and the bytes that end a command.
-use Rattle.std.specs.Prelude.{ℕ, Bool, true, false, ◌||◌, ◌&&◌, List, [], ◌∷◌, ◌++◌, nat_eq, if◌then◌else◌, codes}
-use Rattle.std.specs.Str.{bytes_eq}
+use Rattle.std.specs.Prelude.{ℕ, Bool, false, ◌||◌, List, [], ◌∷◌, ◌++◌, nat_eq, if◌then◌else◌}
 use Rattle.pm_bytes.specs.Alphabet.{BACKQUOTE, BAR, NEWLINE}
 use Rattle.pm_bytes.specs.Letter.{is_blank_byte}
 use Rattle.check_moving.specs.Quotes.{quote_after}

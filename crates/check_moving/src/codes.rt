@@ -90,6 +90,7 @@ fn search_code(form: SearchForm) -> &'static str
         SearchForm::Quote => "condition-quote",
         SearchForm::InvertedMatch => "inverted-match",
         SearchForm::MatchEnd => "match-end",
+        SearchForm::MatchBegin => "match-begin",
         SearchForm::WeightedMatch => "weighted-match",
         SearchForm::TwoAnchors => "two-anchors",
         SearchForm::TwoBlanks => "two-blanks",

@@ -103,8 +103,10 @@ pub enum SearchForm {
     Quote,
     /// `\/` after a `!`.
     InvertedMatch,
-    /// `\/`, and a `$` at the end.
+    /// `\/`, and a `$` or `\>` at the end.
     MatchEnd,
+    /// `\/`, and `^`, `$`, `\<` or `\>` right after it.
+    MatchBegin,
     /// `\/` with a weight that counts each match.
     WeightedMatch,
     /// `$^`.

@@ -2,6 +2,7 @@
 //! `--from-3.22`).
 #![tactic(auto)]
 
+mod anchors;
 mod calls;
 mod codes;
 mod conditions;
@@ -13,6 +14,7 @@ mod laws;
 mod leads;
 mod mailboxes;
 mod messages;
+mod names;
 mod options;
 mod quotes;
 mod ranges;
@@ -21,6 +23,7 @@ mod replies;
 mod searches;
 mod searching;
 mod spans;
+mod spots;
 mod standing;
 mod text;
 mod variables;

@@ -126,6 +126,7 @@ fn search_text(form: SearchForm) -> &'static str
         SearchForm::Quote => "the double quotes belong to the expression: remove them",
         SearchForm::InvertedMatch => "a condition with ! sets no MATCH",
         SearchForm::MatchEnd => "MATCH does not end with a newline",
+        SearchForm::MatchBegin => "MATCH does not begin with a newline",
         SearchForm::WeightedMatch => "MATCH is what the first match gave, not the last",
         SearchForm::TwoAnchors => "$ and ^ need one newline together, and not one each",
         SearchForm::TwoBlanks => {

@@ -3,27 +3,36 @@ ghost use Rattle.std.specs.Prelude.{◌≡◌, IfOk};
 ghost use Rattle.check_moving.specs.Kept;
 ghost use Rattle.check_moving.specs.Leads.{front_in};
 ghost use Rattle.check_moving.specs.Searches;
-ghost use Rattle.check_moving.specs.Searches.{searched, searched_by};
+ghost use Rattle.check_moving.specs.Searches.{matched, searched, searched_by};
 
+use crate::anchors::is_match_begin;
 use crate::conditions::{is_above, is_size};
 use crate::form::{Form, SearchForm};
 use crate::kept::kept;
 use crate::leads::Lead;
 use crate::ranges::has_set;
 use crate::text::{has_part, is};
-use pm_bytes::{BACKSLASH, Memory, QUESTION, STAR};
+use pm_bytes::{BACKSLASH, Blob, Memory, QUESTION, STAR};
 use pm_recipe::Weight;
 use std::alloc::Global;
 
-/// The forms of the expression of a condition with this weight and lead.
-pub fn search_forms(alloc: Global, weight: Weight, lead: &Lead<'_>) -> Result<Vec<Form>, Memory>
-    ensures { IfOk result (λ forms. forms.items ≡ Kept.kept (searched_by weight (front_in lead.now))) }
+/// The forms of the expression of a condition with this weight and lead, where the variables of these names begin with
+/// an anchor.
+pub fn search_forms(
+    alloc: Global,
+    names: &[Blob],
+    weight: Weight,
+    lead: &Lead<'_>,
+) -> Result<Vec<Form>, Memory>
+    ensures { IfOk result (λ forms. forms.items ≡ searched_by names.now weight (front_in lead.now)) }
 {
-    if is_search(lead.text) {
-        forms_of(alloc, weight, lead)
-    } else {
-        Ok(Vec::new(alloc))
+    if !is_search(lead.text) {
+        return Ok(Vec::new(alloc));
     }
+    let mut forms = forms_of(alloc, weight, lead)?;
+    let matched = match_forms(alloc, names, weight, lead)?;
+    forms.extend_from_slice(matched.as_slice())?;
+    Ok(forms)
 }
 
 fn forms_of(alloc: Global, weight: Weight, lead: &Lead<'_>) -> Result<Vec<Form>, Memory>
@@ -33,15 +42,6 @@ fn forms_of(alloc: Global, weight: Weight, lead: &Lead<'_>) -> Result<Vec<Form>,
     let reasons = [
         (text.starts_with(b"\\"), Form::Search(SearchForm::Backslash)),
         (is_quoted(lead), Form::Search(SearchForm::Quote)),
-        (
-            is_inverted_match(lead),
-            Form::Search(SearchForm::InvertedMatch),
-        ),
-        (is_match_end(text), Form::Search(SearchForm::MatchEnd)),
-        (
-            is_weighted_match(weight, text),
-            Form::Search(SearchForm::WeightedMatch),
-        ),
         (is_two_anchors(text), Form::Search(SearchForm::TwoAnchors)),
         (is_two_blanks(lead), Form::Search(SearchForm::TwoBlanks)),
         (
@@ -53,6 +53,32 @@ fn forms_of(alloc: Global, weight: Weight, lead: &Lead<'_>) -> Result<Vec<Form>,
             Form::Search(SearchForm::LineCount),
         ),
         (has_set(text), Form::Search(SearchForm::Range)),
+    ];
+    kept(alloc, &reasons)
+}
+
+fn match_forms(
+    alloc: Global,
+    names: &[Blob],
+    weight: Weight,
+    lead: &Lead<'_>,
+) -> Result<Vec<Form>, Memory>
+    ensures { IfOk result (λ forms. forms.items ≡ Kept.kept (matched names.now weight (front_in lead.now))) }
+{
+    let reasons = [
+        (
+            is_inverted_match(lead),
+            Form::Search(SearchForm::InvertedMatch),
+        ),
+        (is_match_end(lead.text), Form::Search(SearchForm::MatchEnd)),
+        (
+            is_match_begin(names, lead),
+            Form::Search(SearchForm::MatchBegin),
+        ),
+        (
+            is_weighted_match(weight, lead.text),
+            Form::Search(SearchForm::WeightedMatch),
+        ),
     ];
     kept(alloc, &reasons)
 }
@@ -87,10 +113,32 @@ fn is_inverted_match(lead: &Lead<'_>) -> bool
     lead.inverted && matches(lead.text)
 }
 
+fn ends_anchored(text: &[u8]) -> bool
+    ensures { result ≡ Searches.ends_anchored text.now }
+{
+    (text.ends_with(b"$") && !text.ends_with(b"\\$"))
+        || text.ends_with(b"\\<")
+        || text.ends_with(b"\\>")
+}
+
+fn without_end<'a>(close: &[u8], text: &'a [u8]) -> &'a [u8]
+    ensures { result.now ≡ Searches.without_end close.now text.now }
+{
+    if text.ends_with(close) {
+        &text[..text.len().saturating_sub(close.len())]
+    } else {
+        text
+    }
+}
+
 fn is_match_end(text: &[u8]) -> bool
     ensures { result ≡ Searches.is_match_end text.now }
 {
-    matches(text) && text.ends_with(b"$") && !text.ends_with(b"\\$")
+    matches(text)
+        && (ends_anchored(text)
+            || ends_anchored(without_end(b")", text))
+            || ends_anchored(without_end(b")*", text))
+            || ends_anchored(without_end(b")+", text)))
 }
 
 fn is_weighted_match(weight: Weight, text: &[u8]) -> bool

@@ -1,14 +1,15 @@
 //! The forms of an rcfile, in the order of its text.
-ghost use Rattle.std.specs.Prelude.{◌≡◌, ◌≤◌, ◌++◌, IfOk, IfErr, OnOk, length};
+ghost use Rattle.std.specs.Prelude.{◌≡◌, ◌≤◌, ◌++◌, [], IfOk, IfErr, OnOk, length};
 ghost use Rattle.pm_recipe.specs.Refusal.{IsRefusal, most_length};
 ghost use Rattle.check_moving.specs.Found.{AreForms, at_span, found_from, of_span};
-ghost use Rattle.check_moving.specs.Standing.{after, begin};
+ghost use Rattle.check_moving.specs.Standing.{begin};
 
 use crate::finding::Finding;
 use crate::form::Form;
+use crate::names::names_after;
 use crate::spans::forms_of;
 use crate::standing::{Standing, after, begin};
-use pm_bytes::Memory;
+use pm_bytes::{Blob, Memory};
 use pm_recipe::{RcRefused, Span, cut_rc};
 use std::alloc::Global;
 
@@ -24,30 +25,31 @@ pub fn find_forms(alloc: Global, text: &[u8]) -> Result<Vec<Finding>, RcRefused>
 }
 
 fn found_in(alloc: Global, spans: &[Span<'_>]) -> Result<Vec<Finding>, Memory>
-    ensures { IfOk result (λ findings. findings.items ≡ found_from (begin spans.now) spans.now) }
+    ensures { IfOk result (λ findings. findings.items ≡ found_from (begin spans.now) [] spans.now) }
 {
     let mut findings = Vec::new(alloc);
     let mut standing = begin(alloc, spans);
+    let mut names = Vec::new(alloc);
     for span in spans {
-        standing = step(alloc, span, standing, &mut findings)?;
+        put_found(alloc, span, &standing, names.as_slice(), &mut findings)?;
+        standing = after(alloc, span, standing)?;
+        names = names_after(alloc, span, names)?;
     }
     Ok(findings)
 }
 
-// What is known after a span, and its findings after these.
-fn step(
+fn put_found(
     alloc: Global,
     span: &Span<'_>,
-    standing: Standing,
+    standing: &Standing,
+    names: &[Blob],
     findings: &mut Vec<Finding>,
-) -> Result<Standing, Memory>
-    ensures next { IfOk result (λ next. next ≡ after span.now standing) }
-    ensures found { OnOk result (findings.new.items
-        ≡ findings.old.items ++ at_span span.now (of_span standing span.now)) }
+) -> Result<(), Memory>
+    ensures { OnOk result (findings.new.items
+        ≡ findings.old.items ++ at_span span.now (of_span standing.now names.now span.now)) }
 {
-    let forms = forms_of(alloc, &standing, span)?;
-    put(span, forms.as_slice(), findings)?;
-    after(alloc, span, standing)
+    let forms = forms_of(alloc, standing, names, span)?;
+    put(span, forms.as_slice(), findings)
 }
 
 fn put(span: &Span<'_>, forms: &[Form], findings: &mut Vec<Finding>) -> Result<(), Memory>

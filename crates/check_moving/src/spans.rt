@@ -27,9 +27,14 @@ use pm_bytes::{Blob, Memory};
 use pm_recipe::{Condition, Kind, Span, Weight, read_condition, read_lock};
 use std::alloc::Global;
 
-/// The forms of a span.
-pub fn forms_of(alloc: Global, standing: &Standing, span: &Span<'_>) -> Result<Vec<Form>, Memory>
-    ensures { IfOk result (λ forms. forms.items ≡ Found.of_span standing.now span.now) }
+/// The forms of a span, where the variables of these names begin with an anchor.
+pub fn forms_of(
+    alloc: Global,
+    standing: &Standing,
+    names: &[Blob],
+    span: &Span<'_>,
+) -> Result<Vec<Form>, Memory>
+    ensures { IfOk result (λ forms. forms.items ≡ Found.of_span standing.now names.now span.now) }
 {
     let text = span.text;
     match span.kind {
@@ -41,7 +46,7 @@ pub fn forms_of(alloc: Global, standing: &Standing, span: &Span<'_>) -> Result<V
             standing.held.as_slice(),
             text,
         ),
-        Kind::Condition => of_condition(alloc, standing, text),
+        Kind::Condition => of_condition(alloc, standing, names, text),
         Kind::Open => block_forms(alloc, standing.colon.as_slice()),
         Kind::Assign => of_assign(alloc, standing, span.name, text),
         Kind::Unset => of_unset(alloc, span.name),
@@ -126,36 +131,44 @@ fn program_in<'a>(lead: &Lead<'a>) -> &'a [u8]
     }
 }
 
-fn of_condition(alloc: Global, standing: &Standing, text: &[u8]) -> Result<Vec<Form>, Memory>
-    ensures { IfOk result (λ forms. forms.items ≡ of_read standing.now text.now (condition_of text.now)) }
+fn of_condition(
+    alloc: Global,
+    standing: &Standing,
+    names: &[Blob],
+    text: &[u8],
+) -> Result<Vec<Form>, Memory>
+    ensures { IfOk result (λ forms. forms.items ≡ of_read standing.now names.now text.now (condition_of text.now)) }
 {
     let condition = read_condition(alloc, text)?;
-    of_read(alloc, standing, text, &condition)
+    of_read(alloc, standing, names, text, &condition)
 }
 
 fn of_read(
     alloc: Global,
     standing: &Standing,
+    names: &[Blob],
     text: &[u8],
     condition: &Condition,
 ) -> Result<Vec<Form>, Memory>
-    ensures { IfOk result (λ forms. forms.items ≡ of_read standing.now text.now condition.now) }
+    ensures { IfOk result (λ forms. forms.items ≡ of_read standing.now names.now text.now condition.now) }
 {
     let lead = read_lead(condition.text.as_slice());
-    of_front(alloc, standing, text, condition.weight, &lead)
+    of_front(alloc, standing, names, text, condition.weight, &lead)
 }
 
 fn of_front(
     alloc: Global,
     standing: &Standing,
+    names: &[Blob],
     text: &[u8],
     weight: Weight,
     lead: &Lead<'_>,
 ) -> Result<Vec<Form>, Memory>
-    ensures { IfOk result (λ forms. forms.items ≡ Found.of_front standing.now text.now weight (front_in lead.now)) }
+    ensures { IfOk result (λ forms. forms.items
+        ≡ Found.of_front standing.now names.now text.now weight (front_in lead.now)) }
 {
     let mut forms = condition_forms(alloc, standing.greatest, text, weight, lead)?;
-    let searched = search_forms(alloc, weight, lead)?;
+    let searched = search_forms(alloc, names, weight, lead)?;
     let expanded = expanded_forms(alloc, standing.weighted, expanded_in(lead))?;
     let called = calls_of(alloc, &[], program_in(lead))?;
     put(searched.as_slice(), &mut forms)?;

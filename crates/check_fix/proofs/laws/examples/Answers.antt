@@ -137,6 +137,7 @@ returns-clause-copies c = record {
   block = refl;
   stop = refl;
   none = refl;
+  both = refl;
   mailbox = refl;
   forward = refl;
   captures = refl;
@@ -180,6 +181,8 @@ returns-clause-scores c = record {
   empty_block = refl;
   block = refl;
   first = refl;
+  whole = refl;
+  not_free = refl;
   named = refl;
 }
 

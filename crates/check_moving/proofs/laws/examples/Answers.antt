@@ -49,6 +49,25 @@ returns-clause-conditions c = record {
   inverted = refl;
   twice = refl;
   end = refl;
+  word_end = refl;
+  group_end = refl;
+  dollar_end = refl;
+  begin = refl;
+  edge = refl;
+  line_end = refl;
+  group = refl;
+  alternative = refl;
+  inner_alternative = refl;
+  later = refl;
+  text_start = refl;
+  member = refl;
+  joined = refl;
+  not_set = refl;
+  named = refl;
+  in_braces = refl;
+  other_name = refl;
+  escaped_name = refl;
+  no_variable = refl;
   counted = refl;
   anchors = refl;
   blanks = refl;
@@ -66,6 +85,19 @@ returns-clause-conditions c = record {
   unclosed = refl;
   by_variable = refl;
   program = refl;
+}
+
+pub returns-clause-names : goal.returns-clause-names
+returns-clause-names c = record {
+  added = refl;
+  single = refl;
+  last = refl;
+  by_another = refl;
+  other_value = refl;
+  no_quotes = refl;
+  unset = refl;
+  captured = refl;
+  condition = refl;
 }
 
 pub returns-clause-recipes : goal.returns-clause-recipes
