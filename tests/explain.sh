@@ -1,8 +1,9 @@
 #!/usr/bin/env bash
 # The built program procmail-explain: on random rcfiles and mails its entries, log lines and status are what bin/procmail
 # does in a copy of the tree, with formail and lockfile too, its recipes and conditions are those of the rcfile, with what
-# another program says of each, and strace sees no call that changes a file. A mailbox is explained mail by mail, and of 400
-# mails and two rcfiles exactly those are named that real runs put elsewhere. SEED and COUNT name other runs.
+# another program says of each, and strace sees no call that changes a file. With --run conditions, filters and commands in
+# backquotes answer as in a real run. A mailbox is explained mail by mail, and of 400 mails and two rcfiles exactly those are
+# named that real runs put elsewhere. SEED and COUNT name other runs.
 set -eu
 . "$(dirname "$0")/common.bash"
 explain=$programs/procmail-explain
@@ -269,6 +270,15 @@ printf given > given
 "$explain" --answer 'formail -x Subject:=7:given' -m ./rc.answer < one | grep -qx '  log to log: given7' ||
     fail "an answer for formail: $("$explain" --answer 'formail -x Subject:=7:given' -m ./rc.answer < one)"
 
+# lockfile's sleeps take no time here. 1,000,000 tries, as -1 asks for, are 999,999 sleeps: of 1,000 seconds each, they make a
+# new lock file older than 999,998,500 seconds at the last try.
+for limit in 999998500 999999500; do
+    printf 'LOGFILE=log\nX=`lockfile -1000 -r-1 -l %s held.lock`\nLOG="$?"\n:0\nbox\n' "$limit" > rc.tries
+    touch held.lock
+    "$explain" -m ./rc.tries < one | sed -n 's/^  log to log: \([0-9]*\)$/\1/p'
+done > told
+printf '0\n73\n' | cmp -s - told || fail "as many tries as there are: $(cat told)"
+
 # Recipes and conditions: an included rcfile, blocks, flags that keep a recipe from being tried, each kind of condition,
 # and lines that aren't understood before a recipe.
 printf '# a comment\n\n:0\n* ^From:\nnever\n' > rc.more
@@ -314,6 +324,11 @@ never
 :0 AE
 never
 :0
+* ^Subject
+# a comment
+* -7^0 ^Subject
+never
+:0
 | taker
 END
 cat > wanted << 'END'
@@ -344,6 +359,9 @@ rc.judged:39  :0
   rc.judged:40  * 99999999999^1 x                   not a condition
 rc.judged:42  :0 AE                                 not tried
 rc.judged:44  :0
+  rc.judged:45  * ^Subject                          yes
+  rc.judged:47  * -7^0 ^Subject                     1 match, score -7
+rc.judged:49  :0
 END
 "$explain" --answer fails=3 -m ./rc.judged < one > steps
 sed 's,^\( *\)\./,\1,' steps | grep '^ *rc\.[a-z]*:' > told || true
@@ -356,7 +374,7 @@ grep -A 1 '^  run taker' steps | sed -n 2p | grep -q 'rc\.judged:13 ' || fail "a
 import json, os, sys
 told = json.load(sys.stdin)
 recipes = {(os.path.basename(one["rcfile"]), one["line"]): one for one in told["recipes"]}
-assert len(told["recipes"]) == len(recipes) == 14, told["recipes"]
+assert len(told["recipes"]) == len(recipes) == 15, told["recipes"]
 assert recipes["rc.more", 3]["conditions"] == [{"line": 4, "text": "* ^From:", "holds": False}], told
 first = recipes["rc.judged", 8]
 assert first["text"] == ":0 E" and first["tried"], first
@@ -366,8 +384,138 @@ assert first["conditions"][0]["match"] == " two  words", first
 assert not recipes["rc.judged", 31]["tried"] and recipes["rc.judged", 31]["conditions"] == [], told
 assert recipes["rc.judged", 33]["conditions"][0]["error"] == "not a condition", told
 assert recipes["rc.judged", 36]["conditions"][0] == {"line": 37, "text": "* $ $LONG$LONG", "holds": False}, told
+assert recipes["rc.judged", 44]["conditions"][1]["score"] == -7, told
+assert [step["code"] for step in told["steps"] if step["name"] == "fails"] == [3], told["steps"]
 inner = recipes["rc.judged", 25]
 assert [step["act"] for step in told["steps"][inner["steps"]:inner["steps"] + 3]] == ["lock", "append", "unlock"], told'
+
+# Of an rcfile that is read twice and changes between, the text that was read last counts.
+printf '# a comment\n' > rc.grows
+printf 'LOGFILE=log\nINCLUDERC=rc.grows\n:0 c\nrc.grows\nINCLUDERC=rc.grows\n' > rc.twice
+printf 'From ann@example.org  Thu Jan  1 00:00:00 1970\nSubject: two\n\n:0\n* ^Subject: two\nchosen\n' | "$explain" -m ./rc.twice > steps
+grep -q '^\(\./\)\?rc\.grows:5 *:0$' steps && grep -q '^  \(\./\)\?rc\.grows:6 *\* ^Subject: two *yes$' steps ||
+    fail "an rcfile that is read twice: $(cat steps)"
+
+# A program that failed is not where the mail went.
+printf 'LOGFILE=log\n:0 c:\nbox\n:0 w\n| fails\nHOST=elsewhere\n' > rc.failed
+"$explain" --answer fails=3 -m ./rc.failed < one | tail -n 1 > told
+grep -q '^delivered to box, status ' told || fail "a program that failed: $(cat told)"
+# With --run the programs of conditions, commands in backquotes and filters are started, and no other: those leave a file.
+printf '#!/bin/sh\ncat > /dev/null\n: > "ran.$1"\necho output\n' > stubs/deliver
+chmod +x stubs/deliver
+
+asked() {
+    pick '* ? grep -q body' '* ! ? grep -q "^Subject: one"' '* 1^0 ? grep -q ann' '* -1^0 ? grep -q nothing' '* ^Subject: one' \
+        '* WHO ?? ann' '* $ ^Subject: `echo one`' '* ! ? fails' '*'
+    echo "$picked"
+}
+
+started_recipe() {
+    case $((RANDOM % 9)) in
+        0) pick '' w hw && printf ':0 f%s\n| sed "s/^Subject: one/Subject: another/"\n' "$picked" ;;
+        1) pick '' w && printf ':0 fb%s\n| tr a-z A-Z\n' "$picked" ;;
+        2) printf ':0 fw\n| fails\n' ;;
+        3) printf 'WHO=`sed -n "s/^From: //p"`\n' ;;
+        4)
+            pick '' w && printf ':0 %s\n' "$picked"
+            asked
+            printf 'GOT=| deliver capture\n'
+            ;;
+        *)
+            pick '' c c: && printf ':0 %s\n' "$picked"
+            for ((k = RANDOM % 3; k > 0; k--)); do asked; done
+            pick one two old md/ plain '| deliver pipe' '!ann@example.org' '{ NOTE=seen }' && echo "$picked"
+            ;;
+    esac
+    echo
+}
+
+for ((run = 1; run <= (count + 2) / 3; run++)); do
+    rm -rf real shown
+    cp -r before real
+    cp -r before shown
+    {
+        printf 'PATH=%s:/bin:/usr/bin\nSENDMAIL=deliver\nSHELL=/bin/sh\nLOGFILE=log\nLOGABSTRACT=all\n' "$folder/stubs"
+        printf 'DEFAULT=default\nORGMAIL=default\nTRAP="deliver trap"\n'
+        for ((n = 3 + RANDOM % 8; n > 0; n--)); do started_recipe; done
+    } > rc
+    mail > mail.txt
+    cp rc real/rc
+    cp rc shown/rc
+    status=0
+    (cd real && "$program" -m rc < ../mail.txt > ../out 2> ../said) || status=$?
+    (cd shown && "$explain" --run -m rc < ../mail.txt > ../steps 2> ../said.steps) ||
+        fail "--run $run: procmail-explain ended with $?: $(cat said.steps)"
+    tail -n 1 steps | grep -q ", status $status\\. " || fail "--run $run: status $status, but $(tail -n 1 steps) by $(cat rc)"
+    left real | grep -v '^log \|^ran\.' > real.left || true
+    told steps > steps.left
+    cmp -s real.left steps.left || fail "--run $run (left: procmail): $(diff real.left steps.left) $(cat steps) by $(cat rc)"
+    { tr '\n\t' '  ' < real/log 2> /dev/null || true; } | sed 's/Folder: \(md\|plain\)\/[^ ]*/Folder: FILE/g' > real.log
+    sed -n 's/^  log to log: //p' steps | tr -d '\n' | sed 's/Folder: \(md\|plain\)\/[^ ]*/Folder: FILE/g' > steps.log
+    cmp -s real.log steps.log || fail "--run $run: the log is $(cat real.log), but told is $(cat steps.log) by $(cat rc)"
+    if grep '^  run ' steps | grep -v '^  run deliver ' | grep -q 'not started'; then fail "--run $run: not started: $(cat steps) by $(cat rc)"; fi
+    if grep '^  run deliver ' steps | grep -v -q 'not started'; then fail "--run $run: a delivery is started: $(cat steps) by $(cat rc)"; fi
+    rm -f shown/rc
+    [ "$(cd shown && find . | sort | xargs ls -ld --time-style=+ | awk '{ print $5, $6 }')" = \
+        "$(cd before && find . | sort | xargs ls -ld --time-style=+ | awk '{ print $5, $6 }')" ] || fail "--run $run changed a file by $(cat rc)"
+done
+
+# Each is started once, in MAILDIR and with the rcfile's variables; one that has an answer isn't started.
+printf '#!/bin/sh\necho "$1 $PWD $X" >> "$COUNT"\nsed "s/^Subject: /&$1 /"\n' > stubs/counts
+chmod +x stubs/counts
+rm -rf shown
+cp -r before shown
+cat > shown/rc << END
+PATH=$folder/stubs:/bin:/usr/bin
+SHELL=/bin/sh
+SENDMAIL=deliver
+COUNT=$folder/count
+TRAP="deliver trap"
+X=yes
+MAILDIR=sub
+SUBJECT=\`counts one | grep ^Subject:\`
+LOG="\$SUBJECT
+"
+:0
+* ? counts two
+* \$ ? counts \`echo three\`
+{ NOTE=seen }
+:0 fw
+* ! ? counts four | grep -q nothing
+| counts five
+:0 c
+| deliver pipe
+:0 c
+!ann@example.org
+:0
+GOT=| deliver capture
+AFTER=\`counts six\`
+:0 E
+GOT=| counts never
+:0
+| deliver last
+END
+: > count
+(cd shown && "$explain" --run -m rc < ../mail.txt) > steps
+printf '%s yes\n' "one $folder/shown/sub" "two $folder/shown/sub" "three $folder/shown/sub" "four $folder/shown/sub" \
+    "five $folder/shown/sub" "six $folder/shown/sub" | cmp -s - count || fail "--run started $(cat count) by $(cat shown/rc): $(cat steps)"
+[ -z "$(find shown -name 'ran.*')" ] || fail "--run started a delivery: $(find shown -name 'ran.*')"
+grep -q '^  say Subject: one ' steps || fail "--run: a command in backquotes: $(cat steps)"
+grep -q '^  run counts five < [0-9]* bytes: 0, output taken$' steps || fail "--run: a filter's line: $(cat steps)"
+grep -q '^  run deliver last < [0-9]* bytes: 0 \[not started\]$' steps || fail "--run: a delivery's line: $(cat steps)"
+[ "$(tail -n 1 steps | sed 's/^.*, status/status/')" = 'status 0. Programs were started; nothing else was changed.' ] ||
+    fail "--run: the last line: $(cat steps)"
+: > count
+(cd shown && "$explain" --run -q --answer 'counts two=1' -m rc < ../mail.txt) > quiet
+cut -d ' ' -f 1 count | tr '\n' ' ' > told.count
+[ "$(cat told.count)" = 'one four five six ' ] || fail "--run --answer started $(cat count)"
+grep -q 'Programs were started; nothing else was changed\.$' quiet || fail "--run -q: $(cat quiet)"
+printf ':0\n* ^Subject: none\nnever\n' > shown/rc
+[ "$(cd shown && "$explain" --run -m rc < ../mail.txt)" = "$(cd shown && "$explain" -m rc < ../mail.txt)" ] || fail "--run without a program"
+printf 'PATH=/bin:/usr/bin\n:0\n* ? grep -q one\nhere\n:0\nthere\n' > shown/rc
+printf 'From a  Thu Jan  1 00:00:00 1970\nSubject: %s\n\n\n' one two > mailbox
+[ "$(cd shown && "$explain" --run -s -q -m rc < ../mailbox | awk '{ print $(NF - 2) }' | tr -d ',' | tr '\n' ' ')" = 'here there ' ] ||
+    fail "--run -s -q: $(cd shown && "$explain" --run -s -q -m rc < ../mailbox)"
 
 # No call that writes, makes, moves or removes a file, but to standard output.
 if command -v strace > /dev/null; then
@@ -481,6 +629,9 @@ on_page -s --compare new.rc | cmp -s - lines && [ -s lines ] || fail "--compare 
 printf 'Subject: a bug\n\n' | "$explain" --compare new.rc -m ./page.rc > lines
 printf '1 of 1 mails goes elsewhere:\n     1  Subject: a bug                            rest -> bugs\n' | cmp -s - lines ||
     fail "--compare of one mail: $(cat lines)"
+# Without -m both runs begin in the current directory too, since the old rcfile does.
+(export HOME=$folder/before LOGNAME=joe && "$explain" -s -q --compare new.rc ./page.rc < last-week) > lines
+[ "$(cat lines)" = '1 of 3 mails goes elsewhere.' ] || fail "--compare without -m: $(cat lines)"
 "$explain" -s --format json --compare new.rc -m ./page.rc < last-week | python3 -c '
 import json, sys
 assert json.load(sys.stdin) == {"mails": 3, "elsewhere": 1, "moves": [{"mail": 2, "subject": "[bug] crash",

@@ -11,6 +11,7 @@ use explain_host::Machine;
 use explain_json::{mail_object, outcome_object, run_object};
 use explain_mails::{mail_heading, mail_line, subject_of};
 use explain_notes::explain as run_text;
+use explain_started::with_started;
 use explain_text::{result_line, steps_of};
 use pm_bytes::{Blob, Memory};
 use std::alloc::Global;
@@ -22,6 +23,7 @@ pub fn explain(rt: &HostRuntime, options: &Options<'_>) -> Result<Status, Stoppe
     let runs = Runs {
         given: answers_of(rt, options.answers.as_slice())?,
         machine: Machine::new(rt)?,
+        starts: options.starts,
     };
     let mails = read_mails(rt, options.is_mailbox)?;
     let mails = mails.as_slice();
@@ -81,14 +83,34 @@ fn complain_of(rt: &HostRuntime, status: u8) -> Result<(), Stopped> {
 
 fn text_of(alloc: Global, options: &Options<'_>, ran: &Ran) -> Result<Blob, Memory> {
     let entries = ran.journal.entries();
-    let notes = ran.notes.as_slice();
     match options.format {
-        Format::Json => run_object(alloc, options.quiet, entries, notes, ran.status),
+        Format::Json => run_object(
+            alloc,
+            options.quiet,
+            entries,
+            ran.notes.as_slice(),
+            ran.status,
+        ),
         Format::Text if options.quiet => {
             let steps = steps_of(alloc, entries)?;
-            result_line(alloc, steps.as_slice(), ran.status)
+            let line = result_line(alloc, steps.as_slice(), ran.status)?;
+            told(alloc, line, ran)
         }
-        Format::Text => run_text(alloc, entries, notes, ran.status),
+        Format::Text => lines_of(alloc, ran),
+    }
+}
+
+fn lines_of(alloc: Global, ran: &Ran) -> Result<Blob, Memory> {
+    let entries = ran.journal.entries();
+    let text = run_text(alloc, entries, ran.notes.as_slice(), ran.status)?;
+    told(alloc, text, ran)
+}
+
+// The text of a run, with the programs that were started.
+fn told(alloc: Global, text: Blob, ran: &Ran) -> Result<Blob, Memory> {
+    match ran.started.as_slice() {
+        [] => Ok(text),
+        started => with_started(alloc, text.as_slice(), started),
     }
 }
 
@@ -120,13 +142,18 @@ fn mail_text(
 ) -> Result<Blob, Memory> {
     let subject = subject_of(rt.alloc(), mail.as_slice())?;
     let ran = runs.run(rt, words, mail)?;
-    let entries = ran.journal.entries();
-    let notes = ran.notes.as_slice();
     match format {
-        Format::Json => mail_object(rt.alloc(), number, &subject, entries, notes, ran.status),
+        Format::Json => mail_object(
+            rt.alloc(),
+            number,
+            &subject,
+            ran.journal.entries(),
+            ran.notes.as_slice(),
+            ran.status,
+        ),
         Format::Text => {
             let mut text = mail_heading(rt.alloc(), number, &subject)?;
-            let lines = run_text(rt.alloc(), entries, notes, ran.status)?;
+            let lines = lines_of(rt.alloc(), &ran)?;
             text.push_slice(lines.as_slice())?;
             Ok(text)
         }

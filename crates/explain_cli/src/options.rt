@@ -20,6 +20,8 @@ pub struct Options<'a> {
     /// Standard input is a mailbox.
     pub is_mailbox: bool,
     pub format: Format,
+    /// Programs of conditions, backquotes and filters are started.
+    pub starts: bool,
     /// The rcfile to compare with.
     pub rcfile: Option<&'a str>,
     /// What programs answer, as `LINE=CODE[:FILE]`.
@@ -56,6 +58,7 @@ pub fn read_options<'a>(alloc: Global, words: &'a [String]) -> Parsed<'a> {
             quiet: matches.get_flag("quiet"),
             is_mailbox: matches.get_flag("mailbox"),
             format: format_of(matches.get_str("format")),
+            starts: matches.get_flag("run"),
             rcfile: matches.get_str("compare"),
             answers,
             words,
@@ -102,6 +105,7 @@ fn command<'a>(alloc: Global) -> Result<Command<'a>, AllocError> {
             "Standard input is a mailbox: take each mail of it",
         ))?
         .arg(format_option(alloc))?
+        .arg(run_option(alloc))?
         .arg(answer_option(alloc))?
         .arg(compare_option(alloc))?
         .arg(word(alloc))
@@ -120,6 +124,13 @@ fn format_option<'a>(alloc: Global) -> Arg<'a> {
         .value_name("FORMAT")
         .value_parser(["text", "json"].as_slice())
         .help("How it is written")
+}
+
+fn run_option<'a>(alloc: Global) -> Arg<'a> {
+    Arg::new(alloc, "run")
+        .long("run")
+        .action(ArgAction::SetTrue)
+        .help("Start the programs of conditions, backquotes and filters")
 }
 
 fn answer_option<'a>(alloc: Global) -> Arg<'a> {

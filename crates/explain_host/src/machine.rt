@@ -1,4 +1,7 @@
 //! The machine as runs find it, which only read there.
+ghost use Rattle.std.specs.Prelude.{◌≡◌, IfOk};
+ghost use Rattle.pm_host.specs.declared.answers.Child.{Child};
+
 use pm_bytes::{Environ, Memory, Name};
 use pm_overlay::ReadOnly;
 use pm_real::{RealHost, Setup, can_be_host_name, read_regular};
@@ -29,8 +32,14 @@ impl Machine {
 
     /// The files of the machine for one run, which reads them and changes nothing.
     pub fn base(&self, rt: &HostRuntime) -> Result<ReadOnly<RealHost<HostRuntime>>, Memory> {
-        let host = RealHost::new(rt, rt.alloc(), self.env.pid, &self.setup)?;
-        Ok(ReadOnly::new(host))
+        Ok(ReadOnly::new(self.host(rt)?))
+    }
+
+    /// The machine itself, for a run that starts programs.
+    pub fn host(&self, rt: &HostRuntime) -> Result<RealHost<HostRuntime>, Memory>
+        ensures { IfOk result (λ host. host.child ≡ Child.NoChild) }
+    {
+        RealHost::new(rt, rt.alloc(), self.env.pid, &self.setup)
     }
 }
 

@@ -1,0 +1,20 @@
+//! Runs that start programs. A run is repeated, each time with one program more that is started: that of a condition, a
+//! command in backquotes, or a filter, as the journal and the notes of the run before tell. The programs that were
+//! started before are answered as they ended then.
+#![tactic(auto)]
+
+mod captures;
+mod heard;
+mod hosting;
+mod laws;
+mod past;
+mod playing;
+mod programs;
+mod script;
+mod starting;
+mod stepping;
+
+pub use laws::{condition_law, examples, start_law};
+pub use script::{Script, started_after, was_started};
+pub use starting::next_start;
+pub use stepping::Stepping;
