@@ -35,6 +35,9 @@ rm a
 ends 0 "$none" "a
 b" a b
 rm a b
+# A name may begin with any byte but a dash.
+ends 0 "$none" '#a' '#a'
+rm '#a'
 
 # A lock that stays, with no retry, with one, and with two behind a sleep of a second.
 touch a
@@ -42,6 +45,21 @@ sorry='lockfile: Sorry, giving up on "a"'
 takes 0 6 ends 73 "$sorry" a -r0 a
 takes 1 6 ends 73 "$sorry" a -1 -r1 a
 takes 2 7 ends 73 "$sorry" a -1 -r 2 a
+# Without numbers it sleeps for 8 seconds between two tries, and for 16 after a removal by force. strace says so, and
+# no time passes.
+sleeps=nanosleep,clock_nanosleep
+if strace -qq -o /dev/null -e inject="$sleeps:retval=0" true 2> /dev/null; then
+    status=0
+    strace -qq -o calls -e trace="$sleeps" -e inject="$sleeps:retval=0" "$program" -r2 a 2> /dev/null || status=$?
+    [ "$status" -eq 73 ] && [ "$(grep -o 'tv_sec=[0-9]*' calls | paste -sd ' ')" = 'tv_sec=8 tv_sec=8' ] ||
+        fail "the sleeps of two retries: status $status: $(cat calls)"
+    touch -d '10 minutes ago' a
+    strace -qq -o calls -e trace="$sleeps" -e inject="$sleeps:retval=0" "$program" -l 60 a 2> /dev/null || status=$?
+    [ "$(grep -o 'tv_sec=[0-9]*' calls)" = tv_sec=16 ] || fail "the sleep after a removal: $(cat calls)"
+    rm calls
+else
+    echo "$name: no strace here, or it may not trace: the sleeps: skipped"
+fi
 # It is got once it is gone.
 (sleep 2; rm a) &
 takes 1 8 ends 0 "$none" a -1 -r9 a
@@ -93,6 +111,13 @@ else
     echo "$name: no lock can be made in /var/mail here: skipped"
 fi
 
+# LOGNAME counts as nobody if it is unset, empty, or has a blank or a control character.
+if [ ! -e /var/mail/nobody.lock ]; then
+    nobody='lockfile: Sorry, giving up on "/var/mail/nobody.lock"'
+    (unset LOGNAME && ends 73 "$nobody" '' -mu)
+    for login in '' 'a b' $'a\tb' $'a\001'; do (export LOGNAME=$login && ends 73 "$nobody" '' -mu); done
+fi
+
 # A folder that isn't there, and one that another user may not write to.
 ends 73 'lockfile: Sorry, giving up on "none/b"' '' -r0 a none/b
 if [ "$(id -u)" -eq 0 ] && command -v setpriv > /dev/null; then
@@ -111,7 +136,7 @@ ends 64 "$none" ''
 ends 64 "$none" '' -!
 ends 64 "$none" '' -r1
 ends 64 "$none" '' a ''
-for words in -x -m -r -l -s '-r x' '-r -2' '-r 1000000' '-l 1234567890' -1234567890 - '-!x'; do
+for words in -x -m -mm -R0 -r -l -s '-r x' '-r -2' '-r 1000000' '-l 1234567890' -1234567890 - '-!x'; do
     ends 64 "$none" '' a $words
 done
 ends 64 "$none" '' a "$(printf 'b\377')"

@@ -1,6 +1,7 @@
 #!/usr/bin/env bash
 # A mailbox that is moved, replaced or removed in the middle of a delivery: all of the mail is in the one file that was opened
-# for it, or none of it is and the log says so. strace delays each write, so that there is a middle.
+# for it, or none of it is and the log says so. What another program adds meanwhile stays. strace delays each write, so that
+# there is a middle.
 set -eu
 . "$(dirname "$0")/common.bash"
 mounted=
@@ -35,6 +36,7 @@ meanwhile() {
 move() { mv "$1/mbox" "$1/first"; }
 replace() { ln "$1/mbox" "$1/first"; cp new "$1/other"; mv "$1/other" "$1/mbox"; }
 remove() { ln "$1/mbox" "$1/first"; rm "$1/mbox"; }
+add() { ln "$1/mbox" "$1/first"; printf '\nanother line\n' >> "$1/mbox"; }
 
 # The mail is whole behind the old one, in the file that was there first.
 whole() {
@@ -80,10 +82,34 @@ procmail: No delivery was made' ] || fail "$about: said $(cat said)"
             *) [ ! -e small/mbox ] || fail "$about: there is another one" ;;
         esac
     done
+    rm -f small/first
+    about="a mailbox on a full file system, to which another program adds a line"
+    meanwhile small add
+    [ "$status" -eq 73 ] || fail "$about: status $status: $(cat said)"
+    grep -q '^procmail: [0-9]* bytes left in "small/mbox"$' said || fail "$about: said $(cat said)"
+    grep -qx 'another line' small/mbox || fail "$about: the line is gone"
+    head -n 2 small/mbox | cmp -s - old || fail "$about: the old mail isn't what it was"
     umount small
     mounted=
     echo "moved: on a full file system the mail is undone in the file that was there first, and nothing else changed"
 else
     echo "moved: no small file system can be made here: skipped"
 fi
+
+# A link to nothing, whose target gets bytes of another program before the first write of the mail fails.
+about="a link to nothing, to whose target another program writes"
+rm -f mbox
+ln -s target mbox
+printf ':0:\nmbox\n' > rc
+strace -f -qq -o /dev/null -e inject=write:error=ENOSPC:delay_enter=2000000:when=1 "$program" -m rc < message 2> said &
+one=$!
+until [ -e target ]; do
+    kill -0 "$one" 2> /dev/null || fail "$about: the delivery ended before it made the target"
+done
+cat new >> target
+status=0
+wait "$one" || status=$?
+[ "$status" -eq 73 ] || fail "$about: status $status: $(cat said)"
+[ -L mbox ] && cmp -s target new || fail "$about: what the other program wrote isn't there"
+echo "moved: $about: what it wrote stays"
 echo "moved: passed"

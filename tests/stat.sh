@@ -27,6 +27,7 @@ From ann@example.org  Sun Nov 29 10:00:00 2026
   Folder: lists/msg.aB3d$tab$tab$tab$tab     80
   Folder: Maildir/new/1764410000.21_0.host$tab$tab     81
   Folder: Maildir/new/1764410001.22_1.host:2,S$tab     82
+  Folder: Maildir/new/1764410002.23_1.joe@host$tab$tab      5
   Folder: mh/12$tab$tab$tab$tab$tab     83
   Folder: mh/13$tab$tab$tab$tab$tab     84
   Folder: mbox$tab$tab$tab$tab$tab$tab     10
@@ -37,14 +38,14 @@ ends 0 old
 rows out > ours
 cat > wanted <<'ROWS'
 2 1 /dev/null
-163 2 Maildir/
+168 3 Maildir/
 1 1 a name with 5 blanks
 80 1 lists/
 130 2 mbox
 167 2 mh/.
 ROWS
 cmp -s ours wanted || fail "the folders of a log of 3.22: $(diff wanted ours)"
-grep -qx '    543       9' out || fail "the sums: $(cat out)"
+grep -qx '    548      10' out || fail "the sums: $(cat out)"
 if command -v mailstat > /dev/null; then
     LC_ALL=C mailstat -k old > theirs
     rows theirs | grep -v '^0 1  *## ' > wanted
@@ -87,12 +88,24 @@ cmp -s ours wanted || fail "the messages: $(cat out)"
 ends 0 --since 2026-11-29 old
 [ "$(rows out | wc -l)" -eq 6 ] && rows out | grep -qx '10 1 mbox' || fail "--since: $(cat out)"
 ends 1 --since 2026-11-30 old
+# The moment stands at the end of a line From, also without a sender; the year counts most, and then the month.
+printf 'From Tue Jun 30 23:59:59 2026\n  Folder: june 1\nFrom ann@example.org Wed Jul  1 00:00:00 2026\n  Folder: july 2\n' > log
+while read -r first wanted; do
+    ends 0 --since "$first" log
+    [ "$(rows out | cut -d ' ' -f 3 | paste -sd ' ')" = "$wanted" ] || fail "--since $first: $(cat out)"
+done <<'ROWS'
+2025-12-31 july june
+2026-05-31 july june
+2026-06-30 july june
+2026-07-01 july
+ROWS
+ends 1 --since 2026-07-02 log
 cp old mail.old
 ends 0 -o mail
 ends 0 old old
 rows out | grep -qx '260 4 mbox' || fail "two logs: $(cat out)"
 ends 0 --format json old
-grep -q '"mails":9' out && grep -qF '{"bytes":167,"folder":"mh/.","mails":2}' out || fail "JSON: $(cat out)"
+grep -q '"mails":10' out && grep -qF '{"bytes":167,"folder":"mh/.","mails":2}' out || fail "JSON: $(cat out)"
 
 # What isn't understood, and what can't be read.
 ends 64

@@ -51,7 +51,7 @@ places() {
     local wanted=$1 files=$2 found
     shift 2
     { printf 'MAILDIR=$HOME/Mail\nDEFAULT=inbox\nSENDMAIL=sendmail\nPATH=%s:/bin:/usr/bin\n' "$folder/stubs"; printf '%s\n' "$@"; } > rc
-    printf 'rcfile rc\nmail one.eml answer fails=1 -> %s\n' "$wanted" > tests.txt
+    printf 'rcfile rc\nmail one.eml answer fails=1 answer fails bob=1 -> %s\n' "$wanted" > tests.txt
     left home > before
     "$tester" tests.txt > out 2> said || fail "-> $wanted: status $?: $(cat out said) by $(cat rc)"
     left home > after
@@ -86,6 +86,7 @@ places 'forward bob@example.org' 'ran' ':0' '! bob@example.org'
 places 'forward bob@example.org eve@example.org' 'ran' ':0' '! bob@example.org eve@example.org'
 places 'forward bob@example.org, Mail/box' 'box ran' ':0 c' '! bob@example.org' '' ':0:' 'box'
 places 'forward bob@example.org, default' 'inbox ran' 'SENDMAILFLAGS=' ':0 c' '! bob@example.org'
+places 'default' 'inbox' 'SENDMAIL=fails' 'SENDMAILFLAGS=' ':0 w' '! bob'
 places '| taker, Mail/box' 'box ran' ':0 c' '| taker' '' ':0:' 'box'
 places '| taker, | taker' 'ran' ':0 c' '| taker' '' ':0' '| taker'
 # A program of a condition, a filter, a command in backquotes and TRAP's program are no destinations.

@@ -18,6 +18,8 @@ refused() {
 refused -x
 refused -m
 refused -f
+refused -f '' ./rc
+refused -f 'a b' ./rc
 refused 1X=2
 refused ''
 refused "$(printf './rc\377')"
