@@ -1,5 +1,5 @@
-//! Which programs of a run have an answer without being started: a given one, by the program's line, or that of formail's
-//! or lockfile's own code.
+//! Which programs of a run have an answer without being started: a given one, by the line of the program, or that of
+//! the code of formail or lockfile.
 #![tactic(auto)]
 
 mod answers;
