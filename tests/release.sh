@@ -17,9 +17,10 @@ for page in "$top"/man/*.[15]; do
 done
 head -n 20 "$top/CHANGELOG.md" | grep -q "^## $version" || fail "CHANGELOG.md doesn't begin with $version"
 
-# A gate that found a program kept from an earlier run has no object file of it.
-for one in procmail formail lockfile; do
-    if ! command -v rt > /dev/null || [ ! -f "$top/crates/${one}_cli/out/${one}_cli.o" ]; then
+# A gate that found a program kept from an earlier run has no object file of it, and the release has that of each program.
+for crate in "$top"/crates/*_cli; do
+    one=${crate##*/}
+    if ! command -v rt > /dev/null || [ ! -f "$crate/out/$one.o" ]; then
         skip "the archive: there is no object file of $one here, as make leaves one"
         echo "$name: passed"
         exit 0

@@ -6,7 +6,7 @@ use pm_append::{append_whole, say};
 use pm_bytes::{Blob, Name};
 use pm_host::Host;
 use pm_journal::{Journal, Reply};
-use pm_memory::MemorySink;
+use pm_memory::{MemoryHost, MemorySink};
 use std::alloc::Global;
 
 const PIECE: &[u8] = b"A: b\n\nhi\n\n";
@@ -108,11 +108,15 @@ fn append(
 ) -> Result<(), Failed> {
     let name = Name::read(alloc, b"mbox")?;
     let mut host = make_host(alloc, world)?;
-    report.answer("append_whole", append_whole(&mut host, &name, piece));
-    report.file("  mbox", host.file("mbox"));
-    report.answer("  calls", count_calls(&host).0);
-    report.answer("  faults", host.faults());
+    append_by(report, &mut host, &name, piece);
     Ok(())
+}
+
+fn append_by(report: &mut Report, host: &mut MemoryHost, name: &Name, piece: &[u8]) {
+    report.answer("append_whole", append_whole(host, name, piece));
+    report.file("  mbox", host.file("mbox"));
+    report.answer("  calls", count_calls(host).0);
+    report.answer("  faults", host.faults());
 }
 
 // A line for the log of this name, or for standard error.
@@ -122,21 +126,46 @@ fn say_line(
     world: World<'_>,
     log: Option<&[u8]>,
 ) -> Result<(), Failed> {
-    let to = match log {
-        Some(log) => Some(Name::read(alloc, log)?),
-        None => None,
-    };
-    let line = Blob::from_slice(alloc, b"procmail: x\n")?;
-    let mut host = make_host(alloc, world)?;
     let mut err = MemorySink::new(alloc, None)?;
+    let mut host = make_host(alloc, world)?;
+    say_by(alloc, report, &mut host, &mut err, log)
+}
+
+fn say_by(
+    alloc: Global,
+    report: &mut Report,
+    host: &mut MemoryHost,
+    err: &mut MemorySink,
+    log: Option<&[u8]>,
+) -> Result<(), Failed> {
     let mut journal = Journal::new(alloc);
-    journal.reserve(1)?;
-    say(&mut host, &mut err, &mut journal, to, line, 7);
+    say_noted(alloc, host, err, &mut journal, log)?;
     print_entries(report, &journal);
     report.bytes("  err", err.written());
     report.file("  log", host.file("log"));
-    report.answer("  calls", count_calls(&host).0);
+    report.answer("  calls", count_calls(host).0);
     Ok(())
+}
+
+fn say_noted(
+    alloc: Global,
+    host: &mut MemoryHost,
+    err: &mut MemorySink,
+    journal: &mut Journal,
+    log: Option<&[u8]>,
+) -> Result<(), Failed> {
+    journal.reserve(1)?;
+    let to = name_of(alloc, log)?;
+    let line = Blob::from_slice(alloc, b"procmail: x\n")?;
+    say(host, err, journal, to, line, 7);
+    Ok(())
+}
+
+fn name_of(alloc: Global, log: Option<&[u8]>) -> Result<Option<Name>, Failed> {
+    match log {
+        Some(log) => Ok(Some(Name::read(alloc, log)?)),
+        None => Ok(None),
+    }
 }
 
 fn print_entries(report: &mut Report, journal: &Journal) {

@@ -8,6 +8,7 @@ use crate::world::{NOTHING, World, count_calls, make_host};
 use formail_extra::{CacheEnd, cache_step};
 use pm_bytes::{Blob, Name};
 use pm_host::Host;
+use pm_memory::MemoryHost;
 use std::alloc::Global;
 
 const CACHE: World<'static> = World {
@@ -35,27 +36,30 @@ const FOLDER: World<'static> = World {
     ..NOTHING
 };
 
+// Where a mail with another identifier is held.
+const NEW: &[World<'static>] = &[
+    CACHE,
+    OPEN,
+    OLD,
+    LOCKED,
+    FOLDER,
+    World {
+        fails: [6, 0],
+        ..CACHE
+    },
+];
+
 pub fn show(alloc: Global, report: &mut Report) {
     let shown = hold_known(alloc, report);
     report.lines(shown);
-    let shown = hold(alloc, report, CACHE, 8_192, &[None]);
+    let shown = hold_nameless(alloc, report);
     report.lines(shown);
     let shown = hold_two(alloc, report);
     report.lines(shown);
     let shown = hold_new(alloc, report, CACHE, 6);
     report.lines(shown);
-    for world in [
-        CACHE,
-        OPEN,
-        OLD,
-        LOCKED,
-        FOLDER,
-        World {
-            fails: [6, 0],
-            ..CACHE
-        },
-    ] {
-        let shown = hold_new(alloc, report, world, 8_192);
+    for world in NEW {
+        let shown = hold_new(alloc, report, *world, 8_192);
         report.lines(shown);
     }
 }
@@ -66,7 +70,12 @@ fn hold_known(alloc: Global, report: &mut Report) -> Result<(), Failed> {
     hold(alloc, report, CACHE, 8_192, &[Some(id)])
 }
 
-// One with another.
+// One without an identifier.
+fn hold_nameless(alloc: Global, report: &mut Report) -> Result<(), Failed> {
+    hold(alloc, report, CACHE, 8_192, &[None])
+}
+
+// One with another identifier.
 fn hold_new(alloc: Global, report: &mut Report, world: World<'_>, most: u64) -> Result<(), Failed>
     requires { most ≤ 1048576 }
 {
@@ -94,11 +103,15 @@ fn hold(
     let name = Name::read(alloc, b"c")?;
     let mut host = make_host(alloc, world)?;
     print_end(report, cache_step(alloc, &mut host, &name, most, ids));
+    print_host(report, &mut host);
+    Ok(())
+}
+
+fn print_host(report: &mut Report, host: &mut MemoryHost) {
     report.file("  c", host.file("c"));
     report.file("  c.lock", host.file("c.lock"));
-    report.answer("  calls, sleeps", count_calls(&host));
+    report.answer("  calls, sleeps", count_calls(host));
     report.answer("  moment", host.now());
-    Ok(())
 }
 
 fn print_end(report: &mut Report, end: CacheEnd) {

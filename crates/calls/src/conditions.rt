@@ -8,7 +8,7 @@ use pm_bytes::{Blob, Memory, Name};
 use pm_conds::holds;
 use pm_journal::{HeldLocks, Journal};
 use pm_meaning::{Process, Stored, new_chain};
-use pm_memory::MemorySink;
+use pm_memory::{MemoryHost, MemorySink};
 use pm_message::Mail;
 use pm_recipe::{Recipe, Statement, read_rc};
 use pm_vars::Vars;
@@ -39,11 +39,29 @@ pub fn show(alloc: Global, report: &mut Report) {
 // The conditions of the recipe that begins this rcfile, over this mail.
 fn judge(alloc: Global, report: &mut Report, rcfile: &[u8], mail: &[u8]) -> Result<(), Failed> {
     let rc = read_rc(alloc, rcfile)?;
-    let mut mind = mind_with(alloc, mail)?;
-    match rc.statements.as_slice().first() {
-        Some(Statement::Recipe(recipe)) => judge_recipe(alloc, report, recipe, &mut mind),
+    judge_first(alloc, report, rc.statements.as_slice(), mail)
+}
+
+fn judge_first(
+    alloc: Global,
+    report: &mut Report,
+    statements: &[Statement],
+    mail: &[u8],
+) -> Result<(), Failed> {
+    match statements.first() {
+        Some(Statement::Recipe(recipe)) => judge_mail(alloc, report, recipe, mail),
         _ => Err(Failed),
     }
+}
+
+fn judge_mail(
+    alloc: Global,
+    report: &mut Report,
+    recipe: &Recipe,
+    mail: &[u8],
+) -> Result<(), Failed> {
+    let mut mind = mind_with(alloc, mail)?;
+    judge_recipe(alloc, report, recipe, &mut mind)
 }
 
 fn judge_recipe(
@@ -54,16 +72,30 @@ fn judge_recipe(
 ) -> Result<(), Failed>
     requires { mind.old.locks.names ≡ [] }
 {
-    let mut host = make_host(alloc, NOTHING)?;
     let mut err = MemorySink::new(alloc, None)?;
+    let mut host = make_host(alloc, NOTHING)?;
+    judge_by(alloc, report, recipe, mind, &mut host, &mut err);
+    Ok(())
+}
+
+fn judge_by(
+    alloc: Global,
+    report: &mut Report,
+    recipe: &Recipe,
+    mind: &mut Process,
+    host: &mut MemoryHost,
+    err: &mut MemorySink,
+)
+    requires { mind.old.locks.names ≡ [] }
+{
     let mut journal = Journal::new(alloc);
     let verdict = holds(
         alloc,
         &recipe.conditions,
         &recipe.flags,
         mind,
-        &mut host,
-        &mut err,
+        host,
+        err,
         &mut journal,
         7,
     );
@@ -72,17 +104,22 @@ fn judge_recipe(
     report.file("  MATCH", mind.vars.get(b"MATCH").map(Blob::as_slice));
     report.answer("  entries", journal.entries().len());
     report.bytes("  err", err.written());
-    Ok(())
 }
 
 // A process that has this mail, and no variables and no locks.
 fn mind_with(alloc: Global, mail: &[u8]) -> Result<Process, Failed>
     ensures { IfOk result (λ mind. mind.locks.names ≡ []) }
 {
-    let message = mail_of(alloc, mail)?;
     let base = Name::read(alloc, b"/home/joe")?;
     let host_name = Name::read(alloc, b"mx")?;
-    Ok(Process {
+    let message = mail_of(alloc, mail)?;
+    Ok(mind_of(alloc, message, base, host_name))
+}
+
+fn mind_of(alloc: Global, message: Mail, base: Name, host_name: Name) -> Process
+    ensures { result.locks.names ≡ [] }
+{
+    Process {
         filter: true,
         fails_softly: false,
         message,
@@ -101,7 +138,7 @@ fn mind_with(alloc: Global, mail: &[u8]) -> Result<Process, Failed>
             folder: Blob::empty(alloc),
             size: 0,
         },
-    })
+    }
 }
 
 fn mail_of(alloc: Global, bytes: &[u8]) -> Result<Mail, Memory> {

@@ -28,14 +28,18 @@ pub fn show(alloc: Global, report: &mut Report) {
     }
 }
 
-// -i Subject: -I To -a Cc:x -R Foo Bar
 fn show_puts(alloc: Global, report: &mut Report) -> Result<(), Failed> {
     let mut edits = no_edits(alloc)?;
-    put(alloc, &mut edits, PutKind::Old, b"Subject:")?;
-    put(alloc, &mut edits, PutKind::Replace, b"To")?;
-    put(alloc, &mut edits, PutKind::IfNone, b"Cc:x")?;
-    rename(alloc, &mut edits)?;
-    show_edited(alloc, report, MAIL, &edits, None)
+    put_and_show(alloc, report, &mut edits)
+}
+
+// -i Subject: -I To -a Cc:x -R Foo Bar
+fn put_and_show(alloc: Global, report: &mut Report, edits: &mut Edits) -> Result<(), Failed> {
+    put(alloc, edits, PutKind::Old, b"Subject:")?;
+    put(alloc, edits, PutKind::Replace, b"To")?;
+    put(alloc, edits, PutKind::IfNone, b"Cc:x")?;
+    rename(alloc, edits)?;
+    show_edited(alloc, report, MAIL, edits, None)
 }
 
 fn show_line(alloc: Global, report: &mut Report) -> Result<(), Failed> {
@@ -63,11 +67,20 @@ fn show_taken(
     join: bool,
 ) -> Result<(), Failed> {
     let mut edits = no_edits(alloc)?;
-    let name = Blob::from_slice(alloc, name)?;
-    edits.takes.push(Take { whole: false, name })?;
     edits.zap = zap;
     edits.join = join;
-    show_edited(alloc, report, MAIL, &edits, None)
+    take_and_show(alloc, report, &mut edits, name)
+}
+
+fn take_and_show(
+    alloc: Global,
+    report: &mut Report,
+    edits: &mut Edits,
+    name: &[u8],
+) -> Result<(), Failed> {
+    let name = Blob::from_slice(alloc, name)?;
+    edits.takes.push(Take { whole: false, name })?;
+    show_edited(alloc, report, MAIL, edits, None)
 }
 
 /// Nothing is edited, and a line `From ` of the body gets a `>`.

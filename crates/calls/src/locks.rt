@@ -45,10 +45,14 @@ pub fn show(alloc: Global, report: &mut Report) {
 
 // Others give the lock back in the second sleep.
 fn show_waited(alloc: Global, report: &mut Report) -> Result<(), Failed> {
-    let name = Name::read(alloc, LOCK.as_bytes())?;
     let mut host = make_host(alloc, LOCKED)?;
-    remove_later(alloc, &mut host, name.copy(alloc)?)?;
-    take(report, &mut host, &name);
+    take_later(alloc, report, &mut host)
+}
+
+fn take_later(alloc: Global, report: &mut Report, host: &mut MemoryHost) -> Result<(), Failed> {
+    let name = Name::read(alloc, LOCK.as_bytes())?;
+    remove_later(alloc, host, name.copy(alloc)?)?;
+    take(report, host, &name);
     Ok(())
 }
 
@@ -76,10 +80,14 @@ fn show_given(alloc: Global, report: &mut Report) -> Result<(), Failed> {
             ..LOCKED
         },
     )?;
-    give(report, &mut host, &name);
-    give(report, &mut host, &name);
-    give(report, &mut host, &name);
+    give_thrice(report, &mut host, &name);
     Ok(())
+}
+
+fn give_thrice(report: &mut Report, host: &mut MemoryHost, name: &Name) {
+    give(report, host, name);
+    give(report, host, name);
+    give(report, host, name);
 }
 
 fn give(report: &mut Report, host: &mut MemoryHost, name: &Name) {

@@ -15,10 +15,17 @@ use std::alloc::Global;
 
 const MAILBOX: &[u8] = b"From a\nA: 1\n\nx\n\nFrom b\nB: 2\n\ny\n";
 
-// Whether the parts are as they are or edited as formail edits them, with which code the first child ends, whether it
-// closes its input before, and which call of the host fails.
+// Its mail gets a From line with the moment.
+const WITHOUT_LINE: &[u8] = b"A: 1\n\nx\n";
+
+// A second after the first day of 1970.
+const MOMENT: i64 = 86_401;
+
+// Of which mailbox, whether the parts are as they are or edited as formail edits them, with which code the first child
+// ends, whether it closes its input before, and which call of the host fails.
 #[derive(Clone, Copy)]
 struct Feeding {
+    mailbox: &'static [u8],
     as_is: bool,
     code: u8,
     closes_after: Option<u64>,
@@ -26,6 +33,7 @@ struct Feeding {
 }
 
 const AS_IS: Feeding = Feeding {
+    mailbox: MAILBOX,
     as_is: true,
     code: 0,
     closes_after: None,
@@ -49,6 +57,11 @@ const FEEDINGS: &[Feeding] = &[
     },
     Feeding {
         failing: 2,
+        ..AS_IS
+    },
+    Feeding {
+        mailbox: WITHOUT_LINE,
+        as_is: false,
         ..AS_IS
     },
 ];
@@ -89,6 +102,15 @@ fn feed(alloc: Global, report: &mut Report, feeding: Feeding) -> Result<(), Fail
     let mut edits = no_edits(alloc)?;
     edits.keep_from = feeding.as_is;
     edits.keep_body = feeding.as_is;
+    feed_edited(alloc, report, feeding, &edits)
+}
+
+fn feed_edited(
+    alloc: Global,
+    report: &mut Report,
+    feeding: Feeding,
+    edits: &Edits,
+) -> Result<(), Failed> {
     let mut host = make_host(
         alloc,
         World {
@@ -96,12 +118,24 @@ fn feed(alloc: Global, report: &mut Report, feeding: Feeding) -> Result<(), Fail
             ..NOTHING
         },
     )?;
+    feed_by(alloc, report, &mut host, feeding, edits)
+}
+
+fn feed_by(
+    alloc: Global,
+    report: &mut Report,
+    host: &mut MemoryHost,
+    feeding: Feeding,
+    edits: &Edits,
+) -> Result<(), Failed>
+    requires { child_of host.old ≡ Child.NoChild }
+{
     host.child(Script {
         code: Finished::Code(feeding.code),
         closes_after: feeding.closes_after,
         output: Blob::empty(alloc),
     })?;
-    feed_all(alloc, report, &mut host, &edits)
+    feed_all(alloc, report, host, edits, feeding.mailbox)
 }
 
 fn feed_all(
@@ -109,12 +143,25 @@ fn feed_all(
     report: &mut Report,
     host: &mut MemoryHost,
     edits: &Edits,
+    mailbox: &[u8],
 ) -> Result<(), Failed>
     requires { child_of host.old ≡ Child.NoChild }
 {
-    let parts = parts(alloc, MAILBOX)?;
+    let parts = parts(alloc, mailbox)?;
+    feed_each(alloc, report, host, edits, &parts)
+}
+
+fn feed_each(
+    alloc: Global,
+    report: &mut Report,
+    host: &mut MemoryHost,
+    edits: &Edits,
+    parts: &[Blob],
+) -> Result<(), Failed>
+    requires { child_of host.old ≡ Child.NoChild }
+{
     let command = command(alloc)?;
-    let rans = feed_parts(alloc, host, &parts, edits, 0, &command)?;
+    let rans = feed_parts(alloc, host, parts, edits, MOMENT, &command)?;
     print_rans(report, &rans);
     print_inputs(report, host);
     Ok(())

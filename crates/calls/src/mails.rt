@@ -21,13 +21,17 @@ pub fn show(alloc: Global, report: &mut Report) {
     report.lines(shown);
 }
 
-// The parts of a mail, the mail of them, and that of a copy.
 fn show_split(alloc: Global, report: &mut Report, bytes: &[u8]) -> Result<(), Failed> {
     let message = split(alloc, bytes)?;
+    show_parts(alloc, report, &message)
+}
+
+// The parts of a mail, the mail of them, and that of a copy.
+fn show_parts(alloc: Global, report: &mut Report, message: &Message) -> Result<(), Failed> {
     let copy = message.copy(alloc)?;
     report.bytes("split, head", message.head.as_slice());
     report.bytes("split, body", message.body.as_slice());
-    report.blob("whole", whole(alloc, &message));
+    report.blob("whole", whole(alloc, message));
     report.blob("Message::copy", whole(alloc, &copy));
     Ok(())
 }

@@ -21,8 +21,12 @@ pub fn show(alloc: Global, report: &mut Report) {
 
 fn show_statements(alloc: Global, report: &mut Report) -> Result<(), Failed> {
     let rc = read_rc(alloc, STATEMENTS)?;
-    let copies = copy_statements(alloc, rc.statements.as_slice())?;
-    print_statements(report, "read_rc", rc.statements.as_slice());
+    show_copied(alloc, report, rc.statements.as_slice())
+}
+
+fn show_copied(alloc: Global, report: &mut Report, statements: &[Statement]) -> Result<(), Failed> {
+    let copies = copy_statements(alloc, statements)?;
+    print_statements(report, "read_rc", statements);
     print_statements(report, "copy_statements", copies.as_slice());
     Ok(())
 }

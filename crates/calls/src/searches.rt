@@ -2,7 +2,7 @@
 use crate::failed::Failed;
 use crate::report::Report;
 use pm_match::Engine;
-use pm_regex::{Found, read};
+use pm_regex::{Expr, Found, read};
 use std::alloc::Global;
 
 // Expressions that take capitals as small letters, and the areas that they are searched in.
@@ -33,21 +33,43 @@ fn find(
     area: &[u8],
 ) -> Result<(), Failed> {
     let expr = read(alloc, text)?;
-    let mut engine = Engine::build(alloc, &expr, fold)?;
-    match engine.find(area) {
+    find_by(alloc, report, &expr, fold, area)
+}
+
+fn find_by(
+    alloc: Global,
+    report: &mut Report,
+    expr: &Expr,
+    fold: bool,
+    area: &[u8],
+) -> Result<(), Failed> {
+    let mut engine = Engine::build(alloc, expr, fold)?;
+    print_found(report, engine.find(area));
+    Ok(())
+}
+
+fn print_found(report: &mut Report, found: Option<Found>) {
+    match found {
         None => report.word("find", "None"),
         Some(Found { start, cut, end }) => report.answer("find", (start, cut, end)),
     }
-    Ok(())
 }
 
 // How many lines areas have, by one automaton.
 fn count(alloc: Global, report: &mut Report) -> Result<(), Failed> {
     let expr = read(alloc, b"^.*$")?;
-    let mut engine = Engine::build(alloc, &expr, true)?;
+    count_by(alloc, report, &expr)
+}
+
+fn count_by(alloc: Global, report: &mut Report, expr: &Expr) -> Result<(), Failed> {
+    let mut engine = Engine::build(alloc, expr, true)?;
+    print_counts(report, &mut engine);
+    Ok(())
+}
+
+fn print_counts(report: &mut Report, engine: &mut Engine) {
     report.answer("count", engine.count(b"a\nb\n"));
     report.answer("count", engine.count(b"a\nb"));
     report.answer("count", engine.count(b"a\n\nb\n"));
     report.answer("count", engine.count(b""));
-    Ok(())
 }

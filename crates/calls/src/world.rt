@@ -37,10 +37,16 @@ pub fn make_host(alloc: Global, world: World<'_>) -> Result<MemoryHost, Memory>
     ensures { IfOk result (λ host. child_of host ≡ Child.NoChild) }
 {
     let mut host = MemoryHost::new(alloc, world.moment, CALLS)?;
-    put(&mut host, world)?;
-    host.fail(world.fails[0])?;
-    host.fail(world.fails[1])?;
+    furnish(&mut host, world)?;
     Ok(host)
+}
+
+fn furnish(host: &mut MemoryHost, world: World<'_>) -> Result<(), Memory>
+    ensures { child_of host.new ≡ child_of host.old }
+{
+    put(host, world)?;
+    host.fail(world.fails[0])?;
+    host.fail(world.fails[1])
 }
 
 fn put(host: &mut MemoryHost, world: World<'_>) -> Result<(), Memory>

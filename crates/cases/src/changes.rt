@@ -1,6 +1,6 @@
 //! What a host in memory has at the end of a run that it hadn't before, as lines: files, folders, and the calls.
 use crate::Told;
-use crate::outside::Outside;
+use crate::outside::{Other, Outside};
 use pm_bytes::Memory;
 use pm_host::{Answer, Call, Logged, Made};
 use pm_memory::MemoryHost;
@@ -26,23 +26,51 @@ fn push_files(
     host: &MemoryHost,
 ) -> Result<(), Memory> {
     let mut names = Vec::new(alloc);
+    push_names(alloc, &mut names, outside, host.calls())?;
+    push_named(told, outside, host, &names)
+}
+
+fn push_names(
+    alloc: Global,
+    names: &mut Vec<Vec<u8>>,
+    outside: &Outside,
+    calls: &[Logged],
+) -> Result<(), Memory> {
     for stands in &outside.stands {
-        push_new(alloc, &mut names, stands.name.as_str().as_bytes())?;
+        push_new(alloc, names, stands.name.as_str().as_bytes())?;
     }
-    for logged in host.calls() {
-        match &logged.call {
-            Call::Create { name } => push_new(alloc, &mut names, name.as_slice())?,
-            Call::Append { name, .. } => push_new(alloc, &mut names, name.as_slice())?,
-            Call::Rename { to, .. } => push_new(alloc, &mut names, to.as_slice())?,
-            _ => {}
-        }
+    for logged in calls {
+        push_name(alloc, names, &logged.call)?;
     }
     for batch in &outside.batches {
-        for other in batch {
-            push_new(alloc, &mut names, &other.name)?;
-        }
+        push_others(alloc, names, batch)?;
     }
-    for name in &names {
+    Ok(())
+}
+
+fn push_name(alloc: Global, names: &mut Vec<Vec<u8>>, call: &Call) -> Result<(), Memory> {
+    match call {
+        Call::Create { name } => push_new(alloc, names, name.as_slice()),
+        Call::Append { name, .. } => push_new(alloc, names, name.as_slice()),
+        Call::Rename { to, .. } => push_new(alloc, names, to.as_slice()),
+        _ => Ok(()),
+    }
+}
+
+fn push_others(alloc: Global, names: &mut Vec<Vec<u8>>, batch: &[Other]) -> Result<(), Memory> {
+    for other in batch {
+        push_new(alloc, names, &other.name)?;
+    }
+    Ok(())
+}
+
+fn push_named(
+    told: &mut Told,
+    outside: &Outside,
+    host: &MemoryHost,
+    names: &[Vec<u8>],
+) -> Result<(), Memory> {
+    for name in names {
         push_file(told, outside, host, name)?;
     }
     Ok(())
@@ -62,31 +90,37 @@ fn push_file(
     host: &MemoryHost,
     name: &[u8],
 ) -> Result<(), Memory> {
-    let before = outside.file(name);
-    let after = match std::str::from_utf8(name) {
+    match (outside.file(name), file_of(host, name)) {
+        (Some(before), Some(after)) => push_changed(told, name, before, after),
+        (None, Some(after)) => push_left(told, name, after),
+        (Some(_), None) => push_gone(told, name),
+        (None, None) => Ok(()),
+    }
+}
+
+fn file_of<'a>(host: &'a MemoryHost, name: &[u8]) -> Option<&'a [u8]> {
+    match std::str::from_utf8(name) {
         Ok(text) => host.file(text),
         Err(_) => None,
-    };
-    match (before, after) {
-        (Some(before), Some(after)) => {
-            if before != after {
-                told.begin("left")?;
-                told.add(name)?;
-                told.add(after)?;
-            }
-        }
-        (None, Some(after)) => {
-            told.begin("left")?;
-            told.add(name)?;
-            told.add(after)?;
-        }
-        (Some(_), None) => {
-            told.begin("gone")?;
-            told.add(name)?;
-        }
-        (None, None) => {}
     }
-    Ok(())
+}
+
+fn push_changed(told: &mut Told, name: &[u8], before: &[u8], after: &[u8]) -> Result<(), Memory> {
+    if before == after {
+        return Ok(());
+    }
+    push_left(told, name, after)
+}
+
+fn push_left(told: &mut Told, name: &[u8], after: &[u8]) -> Result<(), Memory> {
+    told.begin("left")?;
+    told.add(name)?;
+    told.add(after)
+}
+
+fn push_gone(told: &mut Told, name: &[u8]) -> Result<(), Memory> {
+    told.begin("gone")?;
+    told.add(name)
 }
 
 // The folders that the calls made.
@@ -104,14 +138,23 @@ fn push_folders(told: &mut Told, calls: &[Logged]) -> Result<(), Memory> {
 
 fn push_calls(alloc: Global, told: &mut Told, calls: &[Logged]) -> Result<(), Memory> {
     let mut text = String::new(alloc);
+    push_texts(&mut text, calls)?;
+    tell_calls(told, text.as_str())
+}
+
+fn push_texts(text: &mut String, calls: &[Logged]) -> Result<(), Memory> {
     for logged in calls {
         if !text.is_empty() {
             text.push(' ')?;
         }
         text.push_str(call_text(&logged.call))?;
     }
+    Ok(())
+}
+
+fn tell_calls(told: &mut Told, text: &str) -> Result<(), Memory> {
     told.begin("calls")?;
-    told.add(text.as_str().as_bytes())
+    told.add(text.as_bytes())
 }
 
 fn call_text(call: &Call) -> &'static str {

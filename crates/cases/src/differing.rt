@@ -32,14 +32,24 @@ pub fn differences(
 ) -> Result<Vec<Difference>, Memory> {
     let mut found = Vec::new(alloc);
     for group in GROUPS {
-        let wanted = lines_of(alloc, wanted, group)?;
-        if wanted.is_empty() && group.contains(&"calls") {
-            continue;
-        }
-        let came = lines_of(alloc, came, group)?;
-        push_differences(alloc, &mut found, &wanted, &came)?;
+        push_group(alloc, &mut found, group, wanted, came)?;
     }
     Ok(found)
+}
+
+fn push_group(
+    alloc: Global,
+    found: &mut Vec<Difference>,
+    group: &[&str],
+    wanted: &[Words],
+    came: &[Words],
+) -> Result<(), Memory> {
+    let wanted = lines_of(alloc, wanted, group)?;
+    if wanted.is_empty() && group.contains(&"calls") {
+        return Ok(());
+    }
+    let came = lines_of(alloc, came, group)?;
+    push_differences(alloc, found, &wanted, &came)
 }
 
 // The lines of a group.
@@ -86,9 +96,14 @@ pub fn print_differences<R: Print>(
     for difference in found {
         let wanted = line_text(alloc, &difference.wanted)?;
         let came = line_text(alloc, &difference.came)?;
-        println!(rt; "  wanted {wanted}")?;
-        println!(rt; "  came   {came}")?;
+        print_difference(rt, &wanted, &came)?;
     }
+    Ok(())
+}
+
+fn print_difference<R: Print>(rt: &R, wanted: &str, came: &str) -> Result<(), Refused> {
+    println!(rt; "  wanted {wanted}")?;
+    println!(rt; "  came   {came}")?;
     Ok(())
 }
 

@@ -2,25 +2,46 @@
 //! for no bytes, a byte after `'`, `A` and `Z` for the area's start and end, `&` for two expressions one
 //! after the other, `[]` and `[^]` after their ranges.
 use crate::searching::read_expr;
+use crate::told::{answered, defect, said};
 use crate::{Refused, Words, one_word, only_word};
+use pm_bytes::Memory;
 use pm_regex::{Atom, Expr, Op, Times};
 use std::alloc::{AllocError, Global};
 
 /// What a text is read as.
 pub fn expression(alloc: Global, text: &[u8]) -> Result<Words, Refused> {
-    let Some(expr) = read_expr(alloc, text)? else {
-        return Ok(one_word(alloc, "defect")?);
-    };
-    Ok(only_word(alloc, written(alloc, &expr)?)?)
+    match read_expr(alloc, text)? {
+        None => defect(alloc),
+        Some(expr) => answered(written_word(alloc, &expr)),
+    }
+}
+
+fn written_word(alloc: Global, expr: &Expr) -> Result<Words, Memory> {
+    only_word(alloc, written(alloc, expr)?)
 }
 
 /// Whether two texts are read as the same expression.
 pub fn same(alloc: Global, text: &[u8], other: &[u8]) -> Result<Words, Refused> {
-    let (Some(one), Some(other)) = (read_expr(alloc, text)?, read_expr(alloc, other)?) else {
-        return Ok(one_word(alloc, "defect")?);
-    };
-    let equal = written(alloc, &one)?.as_slice() == written(alloc, &other)?.as_slice();
-    Ok(one_word(alloc, if equal { "yes" } else { "no" })?)
+    let one = read_expr(alloc, text)?;
+    same_as(alloc, &one, other)
+}
+
+fn same_as(alloc: Global, one: &Option<Expr>, other: &[u8]) -> Result<Words, Refused> {
+    let other = read_expr(alloc, other)?;
+    same_exprs(alloc, one, &other)
+}
+
+fn same_exprs(alloc: Global, one: &Option<Expr>, other: &Option<Expr>) -> Result<Words, Refused> {
+    match (one, other) {
+        (Some(one), Some(other)) => said(alloc, are_equal(alloc, one, other)?),
+        _ => defect(alloc),
+    }
+}
+
+fn are_equal(alloc: Global, one: &Expr, other: &Expr) -> Result<bool, AllocError> {
+    let one = written(alloc, one)?;
+    let other = written(alloc, other)?;
+    Ok(one.as_slice() == other.as_slice())
 }
 
 /// Whether a text is read.
@@ -43,16 +64,23 @@ pub fn has_cut(alloc: Global, text: &[u8]) -> Result<Words, Refused> {
 
 fn written(alloc: Global, expr: &Expr) -> Result<Vec<u8>, AllocError> {
     let mut out = Vec::new(alloc);
+    write_expr(&mut out, expr)?;
+    Ok(out)
+}
+
+fn write_expr(out: &mut Vec<u8>, expr: &Expr) -> Result<(), AllocError> {
     if let Some(ops) = expr.left() {
-        for op in ops {
-            write_op(&mut out, *op)?;
-        }
+        write_ops(out, ops)?;
         out.extend_from_slice(b"\\/")?;
     }
-    for op in expr.right() {
-        write_op(&mut out, *op)?;
+    write_ops(out, expr.right())
+}
+
+fn write_ops(out: &mut Vec<u8>, ops: &[Op]) -> Result<(), AllocError> {
+    for op in ops {
+        write_op(out, *op)?;
     }
-    Ok(out)
+    Ok(())
 }
 
 fn write_op(out: &mut Vec<u8>, op: Op) -> Result<(), AllocError> {

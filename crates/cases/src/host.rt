@@ -16,15 +16,20 @@ const CALLS: u64 = 4096;
 pub fn memory_host(outside: &Outside, failing: [u64; 2]) -> Result<MemoryHost, Refused>
     ensures { IfOk result (λ host. child_of host ≡ Child.NoChild) }
 {
-    let alloc = outside.alloc;
-    let mut host = MemoryHost::new(alloc, outside.moment, CALLS)?;
-    put_all(&mut host, &outside.stands)?;
-    fail_each(&mut host, &outside.fails)?;
-    fail_each(&mut host, &failing)?;
-    limit_each(&mut host, &outside.limits)?;
-    batch_each(alloc, &mut host, &outside.batches)?;
-    child_each(alloc, &mut host, &outside.programs)?;
+    let mut host = MemoryHost::new(outside.alloc, outside.moment, CALLS)?;
+    prepare(&mut host, outside, failing)?;
     Ok(host)
+}
+
+fn prepare(host: &mut MemoryHost, outside: &Outside, failing: [u64; 2]) -> Result<(), Refused>
+    ensures { child_of host.new ≡ child_of host.old }
+{
+    put_all(host, &outside.stands)?;
+    fail_each(host, &outside.fails)?;
+    fail_each(host, &failing)?;
+    limit_each(host, &outside.limits)?;
+    batch_each(outside.alloc, host, &outside.batches)?;
+    child_each(outside.alloc, host, &outside.programs)
 }
 
 fn put_all(host: &mut MemoryHost, all: &[Stands]) -> Result<(), Refused>

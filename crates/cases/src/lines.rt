@@ -59,6 +59,16 @@ pub fn read_lines(alloc: Global, file: &str) -> Result<Vec<Line>, Refused> {
     Ok(reader.lines)
 }
 
+fn push_words(known: &mut Vec<Vec<u8>>, words: Vec<Vec<u8>>) -> Result<(), Refused> {
+    let has_arrow = known.iter().any(|word| is_arrow(word));
+    for word in words {
+        if !has_arrow || !is_arrow(&word) {
+            known.push(word)?;
+        }
+    }
+    Ok(())
+}
+
 fn is_arrow(word: &[u8]) -> bool {
     word == b"->".as_slice()
 }
@@ -69,9 +79,7 @@ impl LineReader {
             return Ok(());
         }
         if let Some(text) = line.strip_prefix('|') {
-            let text = text.strip_prefix(' ').unwrap_or(text);
-            self.add_text(text.as_bytes())?;
-            return self.add_text(b"\n");
+            return self.add_line(text.strip_prefix(' ').unwrap_or(text));
         }
         if line.starts_with('"') || line.starts_with('@') {
             return self.add_pieces(line);
@@ -79,10 +87,20 @@ impl LineReader {
         if line.starts_with("->") {
             return self.go_on(line);
         }
+        self.begin_line(number, line)
+    }
+
+    fn begin_line(&mut self, number: u64, line: &str) -> Result<(), Refused> {
         self.end_line()?;
         let words = read_words(self.alloc, line, &self.texts)?;
         self.current = Some(Line { number, words });
         Ok(())
+    }
+
+    // Adds a line to the text below the current line.
+    fn add_line(&mut self, line: &str) -> Result<(), Refused> {
+        self.add_text(line.as_bytes())?;
+        self.add_text(b"\n")
     }
 
     // Adds bytes to the text below the current line.
@@ -110,17 +128,11 @@ impl LineReader {
     // Adds the words after an arrow to the current line, and the arrow itself where the line has none yet.
     fn go_on(&mut self, line: &str) -> Result<(), Refused> {
         let words = read_words(self.alloc, line, &self.texts)?;
-        let Some(current) = &mut self.current else {
-            return Err(Refused::Misread("an arrow stands behind a line"));
-        };
-        let known = current.words.iter().any(|word| is_arrow(word));
-        for word in words {
-            if !known || !is_arrow(&word) {
-                current.words.push(word)?;
-            }
-        }
         self.in_text = false;
-        Ok(())
+        match &mut self.current {
+            Some(current) => push_words(&mut current.words, words),
+            None => Err(Refused::Misread("an arrow stands behind a line")),
+        }
     }
 
     // Ends the current line. One that begins with `text` names a text.

@@ -1,5 +1,6 @@
 //! Rows of mails: their parts, what of them is searched or goes to a mailbox, and their From line.
-use crate::{Refused, Words, one_word, only_word, text_of};
+use crate::told::{answered, said};
+use crate::{Refused, Words, only_word, read_i64, text_of};
 use pm_bytes::{Blob, Memory};
 use pm_message::{
     Feed, Kind, Message, Place, Renew, area, from_line, needs_line, piece, prepare, split, whole,
@@ -8,13 +9,31 @@ use std::alloc::Global;
 
 /// The head and the body of a copy of a mail, and after them the whole of both where that isn't the mail.
 pub fn parts(alloc: Global, mail: &[u8]) -> Result<Words, Memory> {
-    let message = split(alloc, mail)?.copy(alloc)?;
-    let joined = whole(alloc, &message)?;
-    let mut words = parts_of(alloc, &message)?;
+    let message = copied(alloc, mail)?;
+    parts_in(alloc, &message, mail)
+}
+
+fn copied(alloc: Global, mail: &[u8]) -> Result<Message, Memory> {
+    split(alloc, mail)?.copy(alloc)
+}
+
+fn parts_in(alloc: Global, message: &Message, mail: &[u8]) -> Result<Words, Memory> {
+    let mut words = parts_of(alloc, message)?;
+    push_whole(alloc, &mut words, message, mail)?;
+    Ok(words)
+}
+
+fn push_whole(
+    alloc: Global,
+    words: &mut Words,
+    message: &Message,
+    mail: &[u8],
+) -> Result<(), Memory> {
+    let joined = whole(alloc, message)?;
     if joined.as_slice() != mail {
         words.push(joined.into_vec(alloc)?)?;
     }
-    Ok(words)
+    Ok(())
 }
 
 /// What of a mail is written or fed.
@@ -26,32 +45,47 @@ pub fn piece_of(
     mail: &[u8],
 ) -> Result<Words, Refused> {
     let message = split(alloc, mail)?;
+    piece_in(alloc, &message, feed, kind, raw)
+}
+
+fn piece_in(
+    alloc: Global,
+    message: &Message,
+    feed: &[u8],
+    kind: &[u8],
+    raw: &[u8],
+) -> Result<Words, Refused> {
     let raw = raw_of(raw)?;
-    let text = piece(alloc, &message, feed_of(feed)?, kind_of(kind)?, raw)?;
-    Ok(only_word(alloc, text.into_vec(alloc)?)?)
+    let text = piece(alloc, message, feed_of(feed)?, kind_of(kind)?, raw)?;
+    answered(blob_word(alloc, text))
+}
+
+// A line of the one word that the blob is.
+fn blob_word(alloc: Global, blob: Blob) -> Result<Words, Memory> {
+    only_word(alloc, blob.into_vec(alloc)?)
 }
 
 /// What of a mail is searched.
 pub fn area_of(alloc: Global, place: &[u8], mail: &[u8]) -> Result<Words, Refused> {
     let message = split(alloc, mail)?;
-    let text = area(alloc, &message, place_of(place)?)?;
-    Ok(only_word(alloc, text.into_vec(alloc)?)?)
+    area_in(alloc, &message, place)
+}
+
+fn area_in(alloc: Global, message: &Message, place: &[u8]) -> Result<Words, Refused> {
+    let text = area(alloc, message, place_of(place)?)?;
+    answered(blob_word(alloc, text))
 }
 
 /// Whether a From line is made.
 pub fn line_needed(alloc: Global, renew: &[u8], mail: &[u8]) -> Result<Words, Refused> {
     let renew = renew_of(alloc, renew)?;
-    let answer = if needs_line(mail, &renew) {
-        "yes"
-    } else {
-        "no"
-    };
-    Ok(one_word(alloc, answer)?)
+    said(alloc, needs_line(mail, &renew))
 }
 
 /// The From line of a sender at a moment.
-pub fn line_of(alloc: Global, who: &[u8], moment: i64) -> Result<Words, Memory> {
-    only_word(alloc, from_line(alloc, who, moment)?.into_vec(alloc)?)
+pub fn line_of(alloc: Global, who: &[u8], moment: &[u8]) -> Result<Words, Refused> {
+    let line = from_line(alloc, who, read_i64(moment)?)?;
+    answered(blob_word(alloc, line))
 }
 
 /// The head and the body of a mail with its From line as it is asked for.
@@ -59,12 +93,22 @@ pub fn prepared(
     alloc: Global,
     renew: &[u8],
     logname: &[u8],
-    moment: i64,
+    moment: &[u8],
     mail: &[u8],
 ) -> Result<Words, Refused> {
+    let message = prepared_message(alloc, renew, logname, read_i64(moment)?, mail)?;
+    answered(parts_of(alloc, &message))
+}
+
+fn prepared_message(
+    alloc: Global,
+    renew: &[u8],
+    logname: &[u8],
+    moment: i64,
+    mail: &[u8],
+) -> Result<Message, Refused> {
     let renew = renew_of(alloc, renew)?;
-    let message = prepare(alloc, mail, &renew, logname, moment)?;
-    Ok(parts_of(alloc, &message)?)
+    Ok(prepare(alloc, mail, &renew, logname, moment)?)
 }
 
 // The head and the body.
@@ -80,12 +124,15 @@ pub fn prepared_whole(
     alloc: Global,
     renew: &[u8],
     logname: &[u8],
-    moment: i64,
+    moment: &[u8],
     mail: &[u8],
 ) -> Result<Words, Refused> {
-    let renew = renew_of(alloc, renew)?;
-    let message = prepare(alloc, mail, &renew, logname, moment)?;
-    Ok(only_word(alloc, whole(alloc, &message)?.into_vec(alloc)?)?)
+    let message = prepared_message(alloc, renew, logname, read_i64(moment)?, mail)?;
+    answered(whole_word(alloc, &message))
+}
+
+fn whole_word(alloc: Global, message: &Message) -> Result<Words, Memory> {
+    blob_word(alloc, whole(alloc, message)?)
 }
 
 fn feed_of(word: &[u8]) -> Result<Feed, Refused> {

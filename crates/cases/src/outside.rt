@@ -74,17 +74,35 @@ impl Outside {
     pub fn take(&mut self, line: &Line) -> Result<bool, Refused> {
         let words = line.arguments();
         match line.key() {
-            "moment" => self.moment = read_i64(only(words)?)?,
-            "file" => self.add_file(words)?,
-            "folder" => self.add_stands(only(words)?, None)?,
-            "fail" => self.fails = numbers_of(self.alloc, words)?,
-            "limit" => self.add_limit(words)?,
-            "batch" => self.batches.push(Vec::new(self.alloc))?,
-            "others" => self.add_other(words)?,
-            "child" => self.add_program(words)?,
-            _ => return Ok(false),
+            "moment" => taken(self.set_moment(words)),
+            "file" => taken(self.add_file(words)),
+            "folder" => taken(self.add_folder(words)),
+            "fail" => taken(self.set_fails(words)),
+            "limit" => taken(self.add_limit(words)),
+            "batch" => taken(self.begin_batch()),
+            "others" => taken(self.add_other(words)),
+            "child" => taken(self.add_program(words)),
+            _ => Ok(false),
         }
-        Ok(true)
+    }
+
+    fn set_moment(&mut self, words: &[Vec<u8>]) -> Result<(), Refused> {
+        self.moment = read_i64(only(words)?)?;
+        Ok(())
+    }
+
+    fn add_folder(&mut self, words: &[Vec<u8>]) -> Result<(), Refused> {
+        self.add_stands(only(words)?, None)
+    }
+
+    fn set_fails(&mut self, words: &[Vec<u8>]) -> Result<(), Refused> {
+        self.fails = numbers_of(self.alloc, words)?;
+        Ok(())
+    }
+
+    fn begin_batch(&mut self) -> Result<(), Refused> {
+        self.batches.push(Vec::new(self.alloc))?;
+        Ok(())
     }
 
     fn add_limit(&mut self, words: &[Vec<u8>]) -> Result<(), Refused> {
@@ -115,31 +133,39 @@ impl Outside {
 
     // The changes of others go to the batch that was begun last.
     fn add_other(&mut self, words: &[Vec<u8>]) -> Result<(), Refused> {
-        let (deed, name, bytes) = match words {
-            [deed, name] => (deed_of(deed)?, name, Vec::new(self.alloc)),
-            [deed, name, bytes] => (deed_of(deed)?, name, bytes.as_slice().to_vec(self.alloc)?),
-            _ => return Err(TOO_FEW),
-        };
-        let name = name.as_slice().to_vec(self.alloc)?;
-        match self.batches.last_mut() {
-            Some(batch) => batch.push(Other { deed, name, bytes })?,
-            None => return Err(Refused::Misread("no batch was begun")),
+        match words {
+            [deed, name] => self.push_other(deed, name, &[]),
+            [deed, name, bytes] => self.push_other(deed, name, bytes),
+            _ => Err(TOO_FEW),
         }
-        Ok(())
+    }
+
+    fn push_other(&mut self, deed: &[u8], name: &[u8], bytes: &[u8]) -> Result<(), Refused> {
+        let other = other_of(self.alloc, deed_of(deed)?, name, bytes)?;
+        match self.batches.last_mut() {
+            Some(batch) => Ok(batch.push(other)?),
+            None => Err(Refused::Misread("no batch was begun")),
+        }
     }
 
     // A program after those that were given before.
     fn add_program(&mut self, words: &[Vec<u8>]) -> Result<(), Refused> {
-        let (code, output, closes_after) = match words {
-            [code] => (code, Vec::new(self.alloc), None),
-            [code, output] => (code, output.as_slice().to_vec(self.alloc)?, None),
-            [code, output, most] => {
-                let output = output.as_slice().to_vec(self.alloc)?;
-                (code, output, Some(read_u64(most)?))
-            }
-            _ => return Err(TOO_FEW),
-        };
+        match words {
+            [code] => self.push_program(code, &[], None),
+            [code, output] => self.push_program(code, output, None),
+            [code, output, most] => self.push_program(code, output, Some(read_u64(most)?)),
+            _ => Err(TOO_FEW),
+        }
+    }
+
+    fn push_program(
+        &mut self,
+        code: &[u8],
+        output: &[u8],
+        closes_after: Option<u64>,
+    ) -> Result<(), Refused> {
         let code = finished_of(code)?;
+        let output = output.to_vec(self.alloc)?;
         self.programs.push(Program {
             code,
             output,
@@ -160,6 +186,20 @@ impl Outside {
         }
         None
     }
+}
+
+// The answer to a line that was read.
+fn taken(done: Result<(), Refused>) -> Result<bool, Refused> {
+    match done {
+        Ok(()) => Ok(true),
+        Err(refused) => Err(refused),
+    }
+}
+
+fn other_of(alloc: Global, deed: Deed, name: &[u8], bytes: &[u8]) -> Result<Other, Memory> {
+    let bytes = bytes.to_vec(alloc)?;
+    let name = name.to_vec(alloc)?;
+    Ok(Other { deed, name, bytes })
 }
 
 fn deed_of(word: &[u8]) -> Result<Deed, Refused> {

@@ -1,7 +1,8 @@
 //! Rows: a line that asks one question, with the answer that is wanted after an arrow.
+use crate::told::answered;
 use crate::variables::State;
 use crate::{
-    Refused, Words, expressions, mails, names, read_i64, read_u64, read_usize, searching, starting,
+    Refused, Words, expressions, mails, names, read_u64, read_usize, searching, starting,
     statements, substituting, text_of,
 };
 use std::alloc::Global;
@@ -48,28 +49,28 @@ fn values_answer(
         ("commands", [mode, text]) => {
             substituting::commanded(alloc, substituting::mode_of(mode)?, text)
         }
-        ("get", [name]) => Ok(state.value(name)?),
-        ("argument-at", [number]) => Ok(state.argument(read_usize(number)?)?),
-        ("arguments", []) => Ok(state.arguments()?),
-        ("marks", []) => Ok(state.marks()?),
-        ("export", []) => Ok(state.exported()?),
-        ("export-count", []) => Ok(state.export_count()?),
+        ("get", [name]) => answered(state.value(name)),
+        ("argument-at", [number]) => answered(state.argument(read_usize(number)?)),
+        ("arguments", []) => answered(state.arguments()),
+        ("marks", []) => answered(state.marks()),
+        ("export", []) => answered(state.exported()),
+        ("export-count", []) => answered(state.export_count()),
         _ => mail_answer(alloc, key, words),
     }
 }
 
 fn mail_answer(alloc: Global, key: &str, words: &[Vec<u8>]) -> Result<Words, Refused> {
     match (key, words) {
-        ("split", [mail]) => Ok(mails::parts(alloc, mail)?),
+        ("split", [mail]) => answered(mails::parts(alloc, mail)),
         ("area", [place, mail]) => mails::area_of(alloc, place, mail),
         ("piece", [feed, kind, raw, mail]) => mails::piece_of(alloc, feed, kind, raw, mail),
         ("needs-line", [renew, mail]) => mails::line_needed(alloc, renew, mail),
-        ("from-line", [who, moment]) => Ok(mails::line_of(alloc, who, read_i64(moment)?)?),
+        ("from-line", [who, moment]) => mails::line_of(alloc, who, moment),
         ("prepare", [renew, logname, moment, mail]) => {
-            mails::prepared(alloc, renew, logname, read_i64(moment)?, mail)
+            mails::prepared(alloc, renew, logname, moment, mail)
         }
         ("prepare-whole", [renew, logname, moment, mail]) => {
-            mails::prepared_whole(alloc, renew, logname, read_i64(moment)?, mail)
+            mails::prepared_whole(alloc, renew, logname, moment, mail)
         }
         _ => name_answer(alloc, key, words),
     }
@@ -77,16 +78,16 @@ fn mail_answer(alloc: Global, key: &str, words: &[Vec<u8>]) -> Result<Words, Ref
 
 fn name_answer(alloc: Global, key: &str, words: &[Vec<u8>]) -> Result<Words, Refused> {
     match (key, words) {
-        ("grown", [text, more]) => Ok(names::grown(alloc, text, more)?),
+        ("grown", [text, more]) => answered(names::grown(alloc, text, more)),
         ("name", [text]) => names::name(alloc, text),
         ("seen-from", [base, name]) => names::seen(alloc, base, name),
-        ("number", [text]) => Ok(names::number(alloc, text)?),
-        ("digits", [text]) => Ok(names::count(alloc, text)?),
-        ("blank", [text]) => Ok(names::blank(alloc, text)?),
-        ("folded", [text]) => Ok(names::folded(alloc, text)?),
-        ("environment", entries) => Ok(starting::environment(alloc, entries)?),
+        ("number", [text]) => answered(names::number(alloc, text)),
+        ("digits", [text]) => answered(names::count(alloc, text)),
+        ("blank", [text]) => answered(names::blank(alloc, text)),
+        ("folded", [text]) => answered(names::folded(alloc, text)),
+        ("environment", entries) => answered(starting::environment(alloc, entries)),
         ("started", words) => starting::started(alloc, words),
-        ("machine", [text]) => Ok(starting::machine(alloc, text)?),
+        ("machine", [text]) => answered(starting::machine(alloc, text)),
         _ => Err(NO_ROW),
     }
 }

@@ -1,6 +1,7 @@
 //! Rows of what a program is started with: its words, its environment and the machine's name.
 ghost use Rattle.std.specs.Io.{WritesAtMost};
 
+use crate::told::{answered, pair_words};
 use crate::{Refused, Words, copy_of, one_word, word_of};
 use pm_bytes::Memory;
 use pm_start::{machine_name, read_environment, read_words};
@@ -46,14 +47,7 @@ pub fn environment(alloc: Global, entries: &[Vec<u8>]) -> Result<Words, Memory> 
         words: copy_of(alloc, entries)?,
     };
     let pairs = read_environment(alloc, &env)?;
-    let mut words = Vec::new(alloc);
-    for pair in pairs.as_slice() {
-        let mut word = word_of(alloc, pair.name.as_str())?;
-        word.push(b'=')?;
-        word.extend_from_slice(pair.value.as_str().as_bytes())?;
-        words.push(word)?;
-    }
-    Ok(words)
+    pair_words(alloc, pairs.as_slice())
 }
 
 /// The words after the first of a program that is started with these.
@@ -62,16 +56,18 @@ pub fn started(alloc: Global, given: &[Vec<u8>]) -> Result<Words, Refused> {
         words: copy_of(alloc, given)?,
     };
     match read_words(alloc, &env) {
-        pm_start::Words::Read(strings) => {
-            let mut words = Vec::new(alloc);
-            for string in &strings {
-                words.push(word_of(alloc, string.as_str())?)?;
-            }
-            Ok(words)
-        }
-        pm_start::Words::NoText => Ok(one_word(alloc, "no-text")?),
+        pm_start::Words::Read(strings) => answered(words_of(alloc, &strings)),
+        pm_start::Words::NoText => answered(one_word(alloc, "no-text")),
         pm_start::Words::Memory => Err(Refused::Memory),
     }
+}
+
+fn words_of(alloc: Global, strings: &[String]) -> Result<Words, Memory> {
+    let mut words = Vec::new(alloc);
+    for string in strings {
+        words.push(word_of(alloc, string.as_str())?)?;
+    }
+    Ok(words)
 }
 
 /// The machine's name, by the text of `/etc/hostname`.

@@ -2,7 +2,8 @@
 //! for a line that isn't understood, and for a recipe `:FLAGS:LOCK`, its conditions, each after `*`, and
 //! its action: `>` before a mailbox, `|` before a program, `@` before addresses, `stdout`, or `{}` for a
 //! block.
-use crate::{Refused, Words, number_word, one_word, word_of};
+use crate::told::{answered, push_number, text_and_number};
+use crate::{Refused, Words, one_number, one_word, word_of};
 use pm_bytes::Memory;
 use pm_recipe::{
     Action, Condition, Flags, RcRefused, Recipe, Statement, Statements, Weight, copy_statements,
@@ -13,27 +14,41 @@ use std::alloc::Global;
 /// All statements of a text, those of a block after it between `{` and `}`.
 pub fn whole(alloc: Global, text: &[u8]) -> Result<Words, Refused> {
     match read_rc(alloc, text) {
-        Ok(rc) => Ok(nested(alloc, &rc.statements)?),
+        Ok(rc) => answered(nested(alloc, &rc.statements)),
         Err(refused) => refusal(alloc, refused),
     }
 }
 
 /// The statements that stand in so many blocks of a text, each the last statement of the one around it.
 pub fn inside(alloc: Global, depth: u64, text: &[u8]) -> Result<Words, Refused> {
-    let rc = match read_rc(alloc, text) {
-        Ok(rc) => rc,
-        Err(refused) => return refusal(alloc, refused),
-    };
-    let mut statements = &rc.statements;
+    match read_rc(alloc, text) {
+        Ok(rc) => answered(all_inside(alloc, depth, &rc.statements)),
+        Err(refused) => refusal(alloc, refused),
+    }
+}
+
+fn all_inside(alloc: Global, depth: u64, statements: &Statements) -> Result<Words, Memory> {
+    match block_at(depth, statements) {
+        Some(inner) => all_shown(alloc, inner.as_slice()),
+        None => one_word(alloc, "no block"),
+    }
+}
+
+fn block_at(depth: u64, statements: &Statements) -> Option<&Statements> {
+    let mut statements = statements;
     for _ in 0..depth {
         let last = statements.as_slice().last().and_then(|last| block_of(last));
         let Some(inner) = last else {
-            return Ok(one_word(alloc, "no block")?);
+            return None;
         };
         statements = inner;
     }
+    Some(statements)
+}
+
+fn all_shown(alloc: Global, statements: &[Statement]) -> Result<Words, Memory> {
     let mut words = Vec::new(alloc);
-    for statement in statements.as_slice() {
+    for statement in statements {
         words.push(shown(alloc, statement)?)?;
     }
     Ok(words)
@@ -41,24 +56,22 @@ pub fn inside(alloc: Global, depth: u64, text: &[u8]) -> Result<Words, Refused> 
 
 /// How many bytes a text has, and how many statements a copy of what it spells has outside blocks.
 pub fn counted(alloc: Global, text: &[u8]) -> Result<Words, Refused> {
-    let rc = match read_rc(alloc, text) {
-        Ok(rc) => rc,
-        Err(refused) => return refusal(alloc, refused),
-    };
-    let copy = copy_statements(alloc, rc.statements.as_slice())?;
-    let mut words = Vec::new(alloc);
-    words.push(number_word(alloc, text.len() as u64)?)?;
-    words.push(number_word(alloc, copy.len() as u64)?)?;
+    match read_rc(alloc, text) {
+        Ok(rc) => answered(counts(alloc, text, rc.statements.as_slice())),
+        Err(refused) => refusal(alloc, refused),
+    }
+}
+
+fn counts(alloc: Global, text: &[u8], statements: &[Statement]) -> Result<Words, Memory> {
+    let copied = copy_statements(alloc, statements)?.len();
+    let mut words = one_number(alloc, text.len() as u64)?;
+    push_number(alloc, &mut words, copied as u64)?;
     Ok(words)
 }
 
 fn refusal(alloc: Global, refused: RcRefused) -> Result<Words, Refused> {
     match refused {
-        RcRefused::TooLong { length } => {
-            let mut words = one_word(alloc, "too-long")?;
-            words.push(number_word(alloc, length)?)?;
-            Ok(words)
-        }
+        RcRefused::TooLong { length } => answered(text_and_number(alloc, "too-long", length)),
         RcRefused::Memory => Err(Refused::Memory),
     }
 }
@@ -72,35 +85,59 @@ struct Walk<'a> {
 
 fn nested(alloc: Global, statements: &Statements) -> Result<Words, Memory> {
     let mut words = Vec::new(alloc);
+    push_nested(alloc, &mut words, statements)?;
+    Ok(words)
+}
+
+fn push_nested(alloc: Global, words: &mut Words, statements: &Statements) -> Result<(), Memory> {
     let mut walks = Vec::new(alloc);
-    walks.push(Walk {
-        list: statements.as_slice(),
-        at: 0,
-    })?;
+    push_walk(&mut walks, statements.as_slice(), 0)?;
     for _ in 0..u64::MAX {
         let Some(Walk { list, at }) = walks.pop() else {
             break;
         };
-        let Some(statement) = list.get(at) else {
-            if !walks.is_empty() {
-                words.push(word_of(alloc, "}")?)?;
+        match list.get(at) {
+            Some(statement) => {
+                push_walk(&mut walks, list, at.saturating_add(1))?;
+                push_inner(alloc, words, &mut walks, statement)?;
             }
-            continue;
-        };
-        walks.push(Walk {
-            list,
-            at: at.saturating_add(1),
-        })?;
-        words.push(shown(alloc, statement)?)?;
-        if let Some(inner) = block_of(statement) {
-            words.push(word_of(alloc, "{")?)?;
-            walks.push(Walk {
-                list: inner.as_slice(),
-                at: 0,
-            })?;
+            None => end_block(alloc, words, !walks.is_empty())?,
         }
     }
-    Ok(words)
+    Ok(())
+}
+
+fn push_walk<'a>(
+    walks: &mut Vec<Walk<'a>>,
+    list: &'a [Statement],
+    at: usize,
+) -> Result<(), Memory> {
+    walks.push(Walk { list, at })?;
+    Ok(())
+}
+
+// Shows a statement. Where it is a block, its statements are gone through next.
+fn push_inner<'a>(
+    alloc: Global,
+    words: &mut Words,
+    walks: &mut Vec<Walk<'a>>,
+    statement: &'a Statement,
+) -> Result<(), Memory> {
+    words.push(shown(alloc, statement)?)?;
+    match block_of(statement) {
+        Some(inner) => {
+            words.push(word_of(alloc, "{")?)?;
+            push_walk(walks, inner.as_slice(), 0)
+        }
+        None => Ok(()),
+    }
+}
+
+fn end_block(alloc: Global, words: &mut Words, is_block: bool) -> Result<(), Memory> {
+    if is_block {
+        words.push(word_of(alloc, "}")?)?;
+    }
+    Ok(())
 }
 
 // The block of a statement.
@@ -116,24 +153,25 @@ fn block_of(statement: &Statement) -> Option<&Statements> {
 
 fn shown(alloc: Global, statement: &Statement) -> Result<Vec<u8>, Memory> {
     let mut out = Vec::new(alloc);
+    push_statement(alloc, &mut out, statement)?;
+    Ok(out)
+}
+
+fn push_statement(alloc: Global, out: &mut Vec<u8>, statement: &Statement) -> Result<(), Memory> {
     match statement {
         Statement::Assign { name, value } => {
-            out.extend_from_slice(name.as_slice())?;
-            out.extend_from_slice(b"=")?;
-            out.extend_from_slice(value.as_slice())?;
+            push_marked(out, name.as_slice(), b"=")?;
+            push_marked(out, value.as_slice(), b"")
         }
-        Statement::Unset { name } => {
-            out.extend_from_slice(b"-")?;
-            out.extend_from_slice(name.as_slice())?;
-        }
-        Statement::Defect { line, text } => {
-            let mark = format!(in alloc; "!{line} ")?;
-            out.extend_from_slice(mark.as_bytes())?;
-            out.extend_from_slice(text.as_slice())?;
-        }
-        Statement::Recipe(recipe) => push_recipe(alloc, &mut out, recipe)?,
+        Statement::Unset { name } => push_marked(out, b"-", name.as_slice()),
+        Statement::Defect { line, text } => push_defect(alloc, out, *line, text.as_slice()),
+        Statement::Recipe(recipe) => push_recipe(alloc, out, recipe),
     }
-    Ok(out)
+}
+
+fn push_defect(alloc: Global, out: &mut Vec<u8>, line: u64, text: &[u8]) -> Result<(), Memory> {
+    let mark = format!(in alloc; "!{line} ")?;
+    push_marked(out, mark.as_bytes(), text)
 }
 
 fn push_recipe(alloc: Global, out: &mut Vec<u8>, recipe: &Recipe) -> Result<(), Memory> {
@@ -181,9 +219,7 @@ fn push_condition(alloc: Global, out: &mut Vec<u8>, condition: &Condition) -> Re
         Weight::Bad => format!(in alloc; " *bad ")?,
         Weight::Some { w, x } => format!(in alloc; " *{w}^{x} ")?,
     };
-    out.extend_from_slice(weight.as_bytes())?;
-    out.extend_from_slice(condition.text.as_slice())?;
-    Ok(())
+    push_marked(out, weight.as_bytes(), condition.text.as_slice())
 }
 
 fn push_action(out: &mut Vec<u8>, action: &Action) -> Result<(), Memory> {

@@ -1,5 +1,6 @@
 //! Rows of texts with their words and their commands.
-use crate::{Refused, Words, number_word, one_number, one_word, text_of};
+use crate::told::{answered, text_and_number};
+use crate::{Refused, Words, one_number, text_of};
 use pm_bytes::{Blob, Memory};
 use pm_subst::{ExpandRefused, Mode, commands, expand};
 use pm_vars::Vars;
@@ -14,28 +15,31 @@ pub fn expanded(
     outputs: &[Vec<u8>],
 ) -> Result<Words, Refused> {
     match words_of(alloc, vars, mode, text, outputs)? {
-        Ok(words) => Ok(bytes_of(alloc, &words)?),
+        Ok(words) => answered(bytes_of(alloc, &words)),
         Err(why) => Ok(why),
     }
 }
 
 /// How many bytes the words of a text have in all.
 pub fn length(alloc: Global, vars: &Vars, mode: Mode, text: &[u8]) -> Result<Words, Refused> {
-    let words = match words_of(alloc, vars, mode, text, &[])? {
-        Ok(words) => words,
-        Err(why) => return Ok(why),
-    };
+    match words_of(alloc, vars, mode, text, &[])? {
+        Ok(words) => answered(one_number(alloc, length_of(&words))),
+        Err(why) => Ok(why),
+    }
+}
+
+fn length_of(words: &[Blob]) -> u64 {
     let mut sum = 0u64;
-    for word in &words {
+    for word in words {
         sum = sum.saturating_add(word.len() as u64);
     }
-    Ok(one_number(alloc, sum)?)
+    sum
 }
 
 /// The commands of a text.
 pub fn commanded(alloc: Global, mode: Mode, text: &[u8]) -> Result<Words, Refused> {
     let commands = commands(alloc, text, mode)?;
-    Ok(bytes_of(alloc, &commands)?)
+    answered(bytes_of(alloc, &commands))
 }
 
 /// The mode that a word names.
@@ -57,18 +61,24 @@ fn words_of(
     outputs: &[Vec<u8>],
 ) -> Result<Result<Vec<Blob>, Words>, Refused> {
     let outputs = blobs_of(alloc, outputs)?;
-    let commands = commands(alloc, text, mode)?;
-    if commands.len() != outputs.len() {
-        let mut why = one_word(alloc, "commands")?;
-        why.push(number_word(alloc, commands.len() as u64)?)?;
-        return Ok(Err(why));
+    words_with(alloc, vars, mode, text, &outputs)
+}
+
+fn words_with(
+    alloc: Global,
+    vars: &Vars,
+    mode: Mode,
+    text: &[u8],
+    outputs: &[Blob],
+) -> Result<Result<Vec<Blob>, Words>, Refused> {
+    let count = commands(alloc, text, mode)?.len();
+    if count != outputs.len() {
+        return Ok(Err(text_and_number(alloc, "commands", count as u64)?));
     }
-    match expand(alloc, text, mode, vars, &outputs) {
+    match expand(alloc, text, mode, vars, outputs) {
         Ok(words) => Ok(Ok(words)),
         Err(ExpandRefused::Overflow { length }) => {
-            let mut why = one_word(alloc, "overflow")?;
-            why.push(number_word(alloc, length)?)?;
-            Ok(Err(why))
+            Ok(Err(text_and_number(alloc, "overflow", length)?))
         }
         Err(ExpandRefused::Memory) => Err(Refused::Memory),
     }

@@ -1,5 +1,6 @@
 //! Lines of words: what is wanted of a case, and what came.
-use pm_bytes::Memory;
+use crate::Refused;
+use pm_bytes::{Memory, Pair};
 use std::alloc::Global;
 
 /// The words of a line.
@@ -48,6 +49,14 @@ impl Told {
     }
 }
 
+/// An answer that only wanting memory can refuse.
+pub(crate) fn answered(words: Result<Words, Memory>) -> Result<Words, Refused> {
+    match words {
+        Ok(words) => Ok(words),
+        Err(memory) => Err(Refused::from(memory)),
+    }
+}
+
 /// A copy of the words.
 pub fn copy_of(alloc: Global, words: &[Vec<u8>]) -> Result<Words, Memory> {
     let mut copy = Vec::new(alloc);
@@ -79,10 +88,55 @@ pub fn one_number(alloc: Global, number: u64) -> Result<Words, Memory> {
     only_word(alloc, number_word(alloc, number)?)
 }
 
+/// The answer to a question.
+pub(crate) fn said(alloc: Global, yes: bool) -> Result<Words, Refused> {
+    let answer = if yes { "yes" } else { "no" };
+    answered(one_word(alloc, answer))
+}
+
+/// The answer where a text is no expression.
+pub(crate) fn defect(alloc: Global) -> Result<Words, Refused> {
+    answered(one_word(alloc, "defect"))
+}
+
+/// Adds a word of this number.
+pub(crate) fn push_number(alloc: Global, words: &mut Words, number: u64) -> Result<(), Memory> {
+    words.push(number_word(alloc, number)?)?;
+    Ok(())
+}
+
+/// A line of the word of this text and that of this number.
+pub(crate) fn text_and_number(alloc: Global, text: &str, number: u64) -> Result<Words, Memory> {
+    let mut words = one_word(alloc, text)?;
+    push_number(alloc, &mut words, number)?;
+    Ok(words)
+}
+
 /// A word of this number.
 pub fn number_word(alloc: Global, number: u64) -> Result<Vec<u8>, Memory> {
     let text = format!(in alloc; "{number}")?;
     word_of(alloc, text.as_str())
+}
+
+/// The variables, each as `NAME=VALUE`.
+pub(crate) fn pair_words(alloc: Global, pairs: &[Pair]) -> Result<Words, Memory> {
+    let mut words = Vec::new(alloc);
+    for pair in pairs {
+        words.push(pair_word(alloc, pair)?)?;
+    }
+    Ok(words)
+}
+
+fn pair_word(alloc: Global, pair: &Pair) -> Result<Vec<u8>, Memory> {
+    let mut word = word_of(alloc, pair.name.as_str())?;
+    push_value(&mut word, pair.value.as_str())?;
+    Ok(word)
+}
+
+fn push_value(word: &mut Vec<u8>, value: &str) -> Result<(), Memory> {
+    word.extend_from_slice(b"=")?;
+    word.extend_from_slice(value.as_bytes())?;
+    Ok(())
 }
 
 /// The first word as text.

@@ -1,4 +1,5 @@
 //! The variables of the rows: the lines that set them, and rows that ask for them.
+use crate::told::{pair_words, push_number};
 use crate::{
     Line, Refused, Words, number_word, one_number, only_word, read_i64, read_u64, word_of,
 };
@@ -30,45 +31,78 @@ impl State {
 
     /// Reads a line that sets something.
     pub fn take(&mut self, line: &Line) -> Result<(), Refused> {
-        let words = line.arguments();
-        match (line.key(), words) {
-            ("vars", []) => *self = State::new(self.alloc),
-            ("set", [name, value]) => self.set(name, value)?,
-            ("unset", [name]) => self.vars.unset(name),
-            ("argument", [value]) => self.add_argument(value)?,
-            ("shift", [count]) => self.vars.shift(read_u64(count)?),
-            ("set-each", [count, name, value]) => self.set_each(read_u64(count)?, name, value)?,
-            ("argument-each", [count, value]) => self.add_each(read_u64(count)?, value)?,
-            _ => return self.take_mark(line),
+        match (line.key(), line.arguments()) {
+            ("vars", []) => self.begin_anew(),
+            ("set", [name, value]) => self.set(name, value),
+            ("unset", [name]) => self.unset(name),
+            ("argument", [value]) => self.add_argument(value),
+            ("shift", [count]) => self.shift(count),
+            ("set-each", [count, name, value]) => self.set_each(count, name, value),
+            ("argument-each", [count, value]) => self.add_each(count, value),
+            _ => self.take_mark(line),
         }
-        Ok(())
     }
 
     fn take_mark(&mut self, line: &Line) -> Result<(), Refused> {
         match (line.key(), line.arguments()) {
-            ("code", [code]) => self.vars.set_code(read_u64(code)?.min(255) as u8),
-            ("score", [score]) => self.vars.set_score(score_of(read_i64(score)?)),
-            ("rcname", [name]) => self.vars.set_rcfile(&Name::read(self.alloc, name)?)?,
-            ("copy", []) => self.aside = Some(self.vars.copy(self.alloc)?),
-            ("swap", []) => self.swap()?,
-            _ => return Err(NO_LINE),
+            ("code", [code]) => self.set_code(code),
+            ("score", [score]) => self.set_score(score),
+            ("rcname", [name]) => self.set_rcname(name),
+            ("copy", []) => self.copy(),
+            ("swap", []) => self.swap(),
+            _ => Err(NO_LINE),
         }
+    }
+
+    fn begin_anew(&mut self) -> Result<(), Refused> {
+        *self = State::new(self.alloc);
         Ok(())
     }
 
-    fn set(&mut self, name: &[u8], value: &[u8]) -> Result<(), Memory> {
+    fn set(&mut self, name: &[u8], value: &[u8]) -> Result<(), Refused> {
         let value = Blob::from_slice(self.alloc, value)?;
-        self.vars.set(name, value)
+        Ok(self.vars.set(name, value)?)
     }
 
-    fn add_argument(&mut self, value: &[u8]) -> Result<(), Memory> {
+    fn unset(&mut self, name: &[u8]) -> Result<(), Refused> {
+        self.vars.unset(name);
+        Ok(())
+    }
+
+    fn add_argument(&mut self, value: &[u8]) -> Result<(), Refused> {
         let value = Blob::from_slice(self.alloc, value)?;
-        self.vars.add_argument(value)
+        Ok(self.vars.add_argument(value)?)
+    }
+
+    fn shift(&mut self, count: &[u8]) -> Result<(), Refused> {
+        self.vars.shift(read_u64(count)?);
+        Ok(())
+    }
+
+    fn set_code(&mut self, code: &[u8]) -> Result<(), Refused> {
+        self.vars.set_code(read_u64(code)?.min(255) as u8);
+        Ok(())
+    }
+
+    fn set_score(&mut self, score: &[u8]) -> Result<(), Refused> {
+        self.vars.set_score(score_of(read_i64(score)?));
+        Ok(())
+    }
+
+    fn set_rcname(&mut self, name: &[u8]) -> Result<(), Refused> {
+        let name = Name::read(self.alloc, name)?;
+        Ok(self.vars.set_rcfile(&name)?)
+    }
+
+    // Lays a copy aside.
+    fn copy(&mut self) -> Result<(), Refused> {
+        self.aside = Some(self.vars.copy(self.alloc)?);
+        Ok(())
     }
 
     // Sets so many variables: a number from 1 on stands after the name and after the value.
-    fn set_each(&mut self, count: u64, name: &[u8], value: &[u8]) -> Result<(), Memory> {
-        for number in 1..=count {
+    fn set_each(&mut self, count: &[u8], name: &[u8], value: &[u8]) -> Result<(), Refused> {
+        for number in 1..=read_u64(count)? {
             let name = numbered(self.alloc, name, number)?;
             let value = numbered(self.alloc, value, number)?;
             self.set(&name, &value)?;
@@ -76,8 +110,8 @@ impl State {
         Ok(())
     }
 
-    fn add_each(&mut self, count: u64, value: &[u8]) -> Result<(), Memory> {
-        for number in 1..=count {
+    fn add_each(&mut self, count: &[u8], value: &[u8]) -> Result<(), Refused> {
+        for number in 1..=read_u64(count)? {
             let value = numbered(self.alloc, value, number)?;
             self.add_argument(&value)?;
         }
@@ -111,26 +145,24 @@ impl State {
 
     /// The number of the process, the exit status, the score and the rcfile's name.
     pub fn marks(&self) -> Result<Words, Memory> {
-        let marks = self.vars.marks();
         let mut words = Vec::new(self.alloc);
-        words.push(number_word(self.alloc, u64::from(marks.pid))?)?;
-        words.push(number_word(self.alloc, u64::from(marks.code))?)?;
-        let score = format!(in self.alloc; "{}", marks.score)?;
-        words.push(word_of(self.alloc, score.as_str())?)?;
-        words.push(marks.rcfile.as_slice().to_vec(self.alloc)?)?;
+        self.push_marks(&mut words)?;
         Ok(words)
+    }
+
+    fn push_marks(&self, words: &mut Words) -> Result<(), Memory> {
+        let marks = self.vars.marks();
+        push_number(self.alloc, words, u64::from(marks.pid))?;
+        push_number(self.alloc, words, u64::from(marks.code))?;
+        words.push(score_word(self.alloc, marks.score)?)?;
+        words.push(marks.rcfile.as_slice().to_vec(self.alloc)?)?;
+        Ok(())
     }
 
     /// What programs get, each variable as `NAME=VALUE`.
     pub fn exported(&self) -> Result<Words, Memory> {
-        let mut words = Vec::new(self.alloc);
-        for pair in &self.vars.export(self.alloc)? {
-            let mut word = word_of(self.alloc, pair.name.as_str())?;
-            word.push(b'=')?;
-            word.extend_from_slice(pair.value.as_str().as_bytes())?;
-            words.push(word)?;
-        }
-        Ok(words)
+        let pairs = self.vars.export(self.alloc)?;
+        pair_words(self.alloc, &pairs)
     }
 
     /// How many variables programs get.
@@ -151,6 +183,11 @@ fn numbered(alloc: Global, text: &[u8], number: u64) -> Result<Vec<u8>, Memory> 
     let mut word = text.to_vec(alloc)?;
     word.extend_from_slice(&number_word(alloc, number)?)?;
     Ok(word)
+}
+
+fn score_word(alloc: Global, score: i32) -> Result<Vec<u8>, Memory> {
+    let text = format!(in alloc; "{score}")?;
+    word_of(alloc, text.as_str())
 }
 
 fn score_of(number: i64) -> i32 {

@@ -172,7 +172,7 @@ fn hold_all<D: Asks>(outside: D, asking: Asking<'_>) -> (D, Held)
     )
 }
 
-/// The same as [`holds`] for a run: whether the conditions hold; a defect is told. The observer hears what came of each.
+/// As [`holds`], for a run: whether the conditions hold; a defect is told. The observer hears what came of each.
 pub fn conditions_hold<D: Asks, N: Observer>(
     alloc: Global,
     run: &mut Run<D>,

@@ -35,8 +35,8 @@ pub fn is_needed(starts: &Option<Starts>, size: usize) -> bool {
     }
 }
 
-/// The tables of the automaton of a left part, by labels of its room. Where there is no memory for them the search goes on
-/// without.
+/// The tables of the automaton of a left part, by labels of its room. Where there is no memory for them the search goes
+/// on without.
 pub fn tables(
     alloc: Global,
     program: &Program,

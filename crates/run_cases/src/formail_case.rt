@@ -44,16 +44,20 @@ impl FormailCase {
             outside: Outside::new(alloc),
             tries: Tries::new(alloc),
         };
-        match wanted {
-            [] => {}
-            [status] => case.want("status", status)?,
-            [status, out] => {
-                case.want("status", status)?;
-                case.want("out", out)?;
-            }
-            _ => return Err(NO_COMMAND),
-        }
+        case.want_all(wanted)?;
         Ok(case)
+    }
+
+    fn want_all(&mut self, wanted: &[Vec<u8>]) -> Result<(), Refused> {
+        match wanted {
+            [] => Ok(()),
+            [status] => self.want("status", status),
+            [status, out] => {
+                self.want("status", status)?;
+                self.want("out", out)
+            }
+            _ => Err(NO_COMMAND),
+        }
     }
 
     fn want(&mut self, key: &str, word: &[u8]) -> Result<(), Refused> {
@@ -61,6 +65,11 @@ impl FormailCase {
         told.begin(key)?;
         told.add(word)?;
         Ok(())
+    }
+
+    fn want_calls(&mut self, words: &[Vec<u8>]) -> Result<(), Refused> {
+        let names = joined(self.alloc, words)?;
+        self.want("calls", &names)
     }
 
     /// Reads a line of the case.
@@ -74,10 +83,7 @@ impl FormailCase {
             "status" | "out" | "left" | "gone" | "got" | "unread" => {
                 self.tries.last()?.tell(&line.words)?;
             }
-            "calls" => {
-                let names = joined(self.alloc, line.arguments())?;
-                self.want("calls", &names)?;
-            }
+            "calls" => return self.want_calls(line.arguments()),
             _ => return Err(Refused::Misread("no case of formail has such a line")),
         }
         Ok(())

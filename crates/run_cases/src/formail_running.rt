@@ -1,38 +1,68 @@
 //! Runs formail over a host, a source and sinks in memory.
+ghost use Rattle.std.specs.Prelude.{◌≡◌};
+ghost use Rattle.pm_memory.specs.Host.{child_of};
+
 use crate::formail_case::FormailCase;
+use crate::left::{push_status, push_unread, push_written};
+use crate::streams::{Lost, Streams};
 use cases::{Refused, Told, memory_host, push_changes};
 use formail_top::formail;
 use pm_bytes::{Environ, Memory, Name, Pair, Pairs};
-use pm_host::{ChildInput, Got, Source};
-use pm_memory::{MemorySink, MemorySource};
+use pm_host::{Child, ChildInput};
+use pm_memory::MemoryHost;
 use std::alloc::Global;
 
 /// Runs formail, with these calls of the host failing besides those that the case names, and tells what came of it.
 pub fn run_formail(case: &FormailCase, failing: [u64; 2]) -> Result<Told, Refused> {
-    let alloc = case.alloc;
+    let env = environment(case.alloc)?;
+    let lost = Lost {
+        mail: case.mail_fails,
+        out: case.out_lost,
+        err: None,
+    };
+    let mut streams = Streams::new(case.alloc, &case.mail, lost)?;
     let mut host = memory_host(&case.outside, failing)?;
-    let env = environment(alloc)?;
-    let mut source = MemorySource::new(alloc, &case.mail, case.mail_fails)?;
-    let mut out = MemorySink::new(alloc, case.out_lost)?;
-    let mut err = MemorySink::new(alloc, None)?;
-    let status = formail(
-        alloc,
+    let status = run_over(case, &env, &mut streams, &mut host);
+    told_of(case, status, &mut streams, &host)
+}
+
+fn run_over(case: &FormailCase, env: &Environ, streams: &mut Streams, host: &mut MemoryHost) -> u8
+    requires { child_of host.old ≡ Child.NoChild }
+{
+    formail(
+        case.alloc,
         case.arguments.as_slice(),
-        &env,
-        &mut source,
-        &mut host,
-        &mut out,
-        &mut err,
-    );
-    let mut told = Told::new(alloc);
-    told.begin("status")?;
-    told.add(format!(in alloc; "{status}")?.as_str().as_bytes())?;
-    push_written(&mut told, "out", &out)?;
-    push_written(&mut told, "err", &err)?;
-    push_inputs(&mut told, host.inputs())?;
-    push_changes(alloc, &mut told, &case.outside, &host)?;
-    push_unread(&mut told, case, &mut source)?;
+        env,
+        &mut streams.source,
+        host,
+        &mut streams.out,
+        &mut streams.err,
+    )
+}
+
+fn told_of(
+    case: &FormailCase,
+    status: u8,
+    streams: &mut Streams,
+    host: &MemoryHost,
+) -> Result<Told, Refused> {
+    let mut told = Told::new(case.alloc);
+    push_status(case.alloc, &mut told, status)?;
+    push_left(&mut told, case, streams, host)?;
     Ok(told)
+}
+
+fn push_left(
+    told: &mut Told,
+    case: &FormailCase,
+    streams: &mut Streams,
+    host: &MemoryHost,
+) -> Result<(), Memory> {
+    push_written(told, "out", &streams.out)?;
+    push_written(told, "err", &streams.err)?;
+    push_inputs(told, host.inputs())?;
+    push_changes(case.alloc, told, &case.outside, host)?;
+    push_unread(told, case.mail_fails, &mut streams.source)
 }
 
 // One variable, which programs get.
@@ -49,14 +79,6 @@ fn environment(alloc: Global) -> Result<Environ, Refused> {
     })
 }
 
-fn push_written(told: &mut Told, key: &str, sink: &MemorySink) -> Result<(), Memory> {
-    if !sink.written().is_empty() {
-        told.begin(key)?;
-        told.add(sink.written())?;
-    }
-    Ok(())
-}
-
 // Each program that was started, with its words, what it gets as environment and folder, and what it took.
 fn push_inputs(told: &mut Told, inputs: &[ChildInput]) -> Result<(), Memory> {
     for input in inputs {
@@ -67,22 +89,6 @@ fn push_inputs(told: &mut Told, inputs: &[ChildInput]) -> Result<(), Memory> {
         }
         told.add(b"<")?;
         told.add(input.bytes.as_slice())?;
-    }
-    Ok(())
-}
-
-// Tells where the read of the mail that was to fail is still to come as the next one.
-fn push_unread(
-    told: &mut Told,
-    case: &FormailCase,
-    source: &mut MemorySource,
-) -> Result<(), Memory> {
-    if case.mail_fails.is_none() || source.faults() > 0 {
-        return Ok(());
-    }
-    let mut room = [0u8; 1];
-    if source.read(&mut room) == Got::Failed {
-        told.begin("unread")?;
     }
     Ok(())
 }

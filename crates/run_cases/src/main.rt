@@ -12,10 +12,11 @@ mod lost;
 mod plan;
 mod running;
 mod session;
+mod streams;
 mod tally;
 mod trying;
 
-use cases::{Refused, read_lines};
+use cases::{Line, Refused, read_lines};
 use session::Session;
 use std::io;
 use std::process::ExitCode;
@@ -50,15 +51,12 @@ fn print_refused(rt: &HostRuntime, refused: Refused) -> io::Result<()> {
 }
 
 fn run_all(rt: &HostRuntime) -> Result<Tally, Refused> {
-    let alloc = rt.alloc();
-    let file = io::read_to_string(alloc, rt.reader())?;
-    let lines = read_lines(alloc, file.as_str())?;
-    let mut session = Session::new(alloc);
-    for line in &lines {
-        session.take(rt, line)?;
-    }
-    let tally = session.finish(rt)?;
-    let Tally { passed, failed, .. } = tally;
-    println!(rt; "{passed} passed, {failed} failed")?;
-    Ok(tally)
+    let lines = read_all(rt)?;
+    let mut session = Session::new(rt.alloc());
+    session.take_all(rt, lines.as_slice())
+}
+
+fn read_all(rt: &HostRuntime) -> Result<Vec<Line>, Refused> {
+    let file = io::read_to_string(rt.alloc(), rt.reader())?;
+    read_lines(rt.alloc(), file.as_str())
 }

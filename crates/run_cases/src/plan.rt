@@ -53,11 +53,15 @@ impl Plan {
             outside: Outside::new(alloc),
             tries: Tries::new(alloc),
         };
-        plan.words.push(string_of(alloc, b"-m")?)?;
-        plan.words.push(string_of(alloc, b"rc")?)?;
-        plan.add_variable(b"LOGNAME", b"joe")?;
-        plan.add_variable(b"HOME", b"/home/joe")?;
+        plan.begin()?;
         Ok(plan)
+    }
+
+    fn begin(&mut self) -> Result<(), Refused> {
+        self.words.push(string_of(self.alloc, b"-m")?)?;
+        self.words.push(string_of(self.alloc, b"rc")?)?;
+        self.add_variable(b"LOGNAME", b"joe")?;
+        self.add_variable(b"HOME", b"/home/joe")
     }
 
     /// Reads a line of the case.
@@ -69,10 +73,7 @@ impl Plan {
         match line.key() {
             "words" => self.words = strings_of(self.alloc, words)?,
             "no-env" => self.variables = Vec::new(self.alloc),
-            "env" => match words {
-                [name, value] => self.add_variable(name, value)?,
-                _ => return Err(TOO_FEW),
-            },
+            "env" => return self.take_variable(words),
             "mail" => self.mail = only(words)?.to_vec(self.alloc)?,
             "mail-fails" => self.mail_fails = Some(read_u64(only(words)?)?),
             "lost-out" => self.out_lost = Some(read_u64(only(words)?)?),
@@ -86,12 +87,7 @@ impl Plan {
     // The words of `calls` stand in one word, with blanks between them.
     fn take_wanted(&mut self, line: &Line) -> Result<(), Refused> {
         match line.key() {
-            "calls" => {
-                let names = joined(self.alloc, line.arguments())?;
-                let wanted = self.tries.last()?;
-                wanted.begin("calls")?;
-                wanted.add(&names)?;
-            }
+            "calls" => self.want_calls(line.arguments())?,
             "status"
             | "entry"
             | "says"
@@ -107,6 +103,20 @@ impl Plan {
             _ => return Err(Refused::Misread("no run has such a line")),
         }
         Ok(())
+    }
+
+    fn want_calls(&mut self, words: &[Vec<u8>]) -> Result<(), Refused> {
+        let names = joined(self.alloc, words)?;
+        let wanted = self.tries.last()?;
+        wanted.begin("calls")?;
+        Ok(wanted.add(&names)?)
+    }
+
+    fn take_variable(&mut self, words: &[Vec<u8>]) -> Result<(), Refused> {
+        match words {
+            [name, value] => self.add_variable(name, value),
+            _ => Err(TOO_FEW),
+        }
     }
 
     fn add_variable(&mut self, name: &[u8], value: &[u8]) -> Result<(), Refused> {

@@ -37,8 +37,19 @@ impl Session {
         }
     }
 
-    /// Reads a line, and tries what it ends.
-    pub fn take<R: Print>(&mut self, rt: &R, line: &Line) -> Result<(), Refused> {
+    /// Reads the lines, tries what they end, and tells how many tries passed and failed.
+    pub fn take_all<R: Print>(&mut self, rt: &R, lines: &[Line]) -> Result<Tally, Refused> {
+        for line in lines {
+            self.take(rt, line)?;
+        }
+        self.end_case(rt)?;
+        let Tally { passed, failed, .. } = self.tally;
+        println!(rt; "{passed} passed, {failed} failed")?;
+        Ok(self.tally)
+    }
+
+    // Reads a line, and tries what it ends.
+    fn take<R: Print>(&mut self, rt: &R, line: &Line) -> Result<(), Refused> {
         match self.read(rt, line) {
             Err(refused) => Err(refused.at(line.number)),
             Ok(()) => Ok(()),
@@ -49,18 +60,15 @@ impl Session {
         match line.key() {
             "run" => {
                 self.end_case(rt)?;
-                self.open = Open::Procmail(Plan::new(self.alloc, line)?);
-                Ok(())
+                self.begin_run(line)
             }
             "formail" => {
                 self.end_case(rt)?;
-                self.open = Open::Formail(FormailCase::new(self.alloc, line)?);
-                Ok(())
+                self.begin_formail(line)
             }
             "about" => {
                 self.end_case(rt)?;
-                self.about = copy_of(self.alloc, line.arguments())?;
-                Ok(())
+                self.begin_rows(line)
             }
             _ => match &mut self.open {
                 Open::Procmail(plan) => plan.take(line),
@@ -68,6 +76,21 @@ impl Session {
                 Open::Rows => self.read_row(rt, line),
             },
         }
+    }
+
+    fn begin_run(&mut self, line: &Line) -> Result<(), Refused> {
+        self.open = Open::Procmail(Plan::new(self.alloc, line)?);
+        Ok(())
+    }
+
+    fn begin_formail(&mut self, line: &Line) -> Result<(), Refused> {
+        self.open = Open::Formail(FormailCase::new(self.alloc, line)?);
+        Ok(())
+    }
+
+    fn begin_rows(&mut self, line: &Line) -> Result<(), Refused> {
+        self.about = copy_of(self.alloc, line.arguments())?;
+        Ok(())
     }
 
     fn read_row<R: Print>(&mut self, rt: &R, line: &Line) -> Result<(), Refused> {
@@ -83,40 +106,50 @@ impl Session {
         let came = answer(self.alloc, &self.state, asked)?;
         self.tally.count(wanted == came.as_slice());
         if wanted == came.as_slice() {
-            return Ok(());
+            Ok(())
+        } else {
+            self.print_row(rt, line.number, [asked, wanted, came.as_slice()])
         }
+    }
+
+    // A row that failed: what is asked, what is wanted and what came.
+    fn print_row<R: Print>(&self, rt: &R, line: u64, row: [&[Vec<u8>]; 3]) -> Result<(), Refused> {
+        let [asked, wanted, came] = row;
+        self.print_asked(rt, line, asked)?;
+        self.print_words(rt, "  wanted", wanted)?;
+        self.print_words(rt, "  came  ", came)
+    }
+
+    fn print_asked<R: Print>(&self, rt: &R, line: u64, asked: &[Vec<u8>]) -> Result<(), Refused> {
         let about = show_words(self.alloc, &self.about)?;
-        let asked = show_words(self.alloc, asked)?;
-        let wanted = show_words(self.alloc, wanted)?;
-        let came = show_words(self.alloc, &came)?;
-        println!(rt; "{}: about {about}: {asked}", line.number)?;
-        println!(rt; "  wanted {wanted}")?;
-        println!(rt; "  came   {came}")?;
-        Ok(())
+        let start = format!(in self.alloc; "{line}: about {about}:")?;
+        self.print_words(rt, start.as_str(), asked)
+    }
+
+    fn print_words<R: Print>(&self, rt: &R, start: &str, words: &[Vec<u8>]) -> Result<(), Refused> {
+        let shown = show_words(self.alloc, words)?;
+        Ok(println!(rt; "{start} {shown}")?)
     }
 
     // Tries the case that is open.
     fn end_case<R: Print>(&mut self, rt: &R) -> Result<(), Refused> {
-        let open = std::mem::replace(&mut self.open, Open::Rows);
-        let (line, tried) = match open {
-            Open::Rows => return Ok(()),
-            Open::Procmail(plan) => (plan.line, try_plan(rt, &plan, &mut self.tally)),
+        match std::mem::replace(&mut self.open, Open::Rows) {
+            Open::Rows => Ok(()),
+            Open::Procmail(plan) => at_line(plan.line, try_plan(rt, &plan, &mut self.tally)),
             Open::Formail(case) => {
-                (
+                at_line(
                     case.line,
                     try_formail(rt, &case, &self.about, &mut self.tally),
                 )
             }
-        };
-        match tried {
-            Err(refused) => Err(refused.at(line)),
-            Ok(()) => Ok(()),
         }
     }
+}
 
-    /// Tries the last case, and tells how many tries passed and failed.
-    pub fn finish<R: Print>(mut self, rt: &R) -> Result<Tally, Refused> {
-        self.end_case(rt)?;
-        Ok(self.tally)
+// A refusal with the number of the line that began the case.
+fn at_line(line: u64, tried: Result<(), Refused>) -> Result<(), Refused> {
+    match tried {
+        Err(refused) => Err(refused.at(line)),
+        Ok(()) => Ok(()),
     }
 }

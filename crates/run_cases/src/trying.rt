@@ -3,7 +3,7 @@ use crate::lost::with_lost;
 use crate::plan::{Choice, Plan};
 use crate::running::run;
 use crate::tally::{IN_FULL, Tally};
-use cases::{Refused, Told, differences, print_differences, show_words};
+use cases::{Difference, Refused, Told, differences, print_differences, show_words};
 
 /// Runs the plan with each choice of failing calls.
 pub fn try_plan<R: Print>(rt: &R, plan: &Plan, tally: &mut Tally) -> Result<(), Refused> {
@@ -11,15 +11,18 @@ pub fn try_plan<R: Print>(rt: &R, plan: &Plan, tally: &mut Tally) -> Result<(), 
     for failing in plan.tries.all()? {
         try_writes(rt, plan, failing, tally)?;
     }
-    let more = tally.unshown();
-    if more > 0 {
-        let name = show_words(plan.alloc, &plan.name)?;
-        println!(rt;
-            "{}: run {name}: failed tries that are not shown: {more}",
-            plan.line
-        )?;
+    match tally.unshown() {
+        0 => Ok(()),
+        more => print_more(rt, plan, more),
     }
-    Ok(())
+}
+
+fn print_more<R: Print>(rt: &R, plan: &Plan, more: u64) -> Result<(), Refused> {
+    let name = show_words(plan.alloc, &plan.name)?;
+    Ok(println!(rt;
+        "{}: run {name}: failed tries that are not shown: {more}",
+        plan.line
+    )?)
 }
 
 fn try_writes<R: Print>(
@@ -35,14 +38,25 @@ fn try_writes<R: Print>(
     };
     judge(rt, plan, choice, wanted, tally)?;
     for lost in 1..=plan.each_lost {
-        let wanted = with_lost(plan.alloc, wanted, lost)?;
         let choice = Choice {
             failing,
             lost: Some(lost),
         };
-        judge(rt, plan, choice, &wanted, tally)?;
+        judge_lost(rt, plan, choice, wanted, tally)?;
     }
     Ok(())
+}
+
+// As what is wanted where this write is lost besides.
+fn judge_lost<R: Print>(
+    rt: &R,
+    plan: &Plan,
+    choice: Choice,
+    wanted: &Told,
+    tally: &mut Tally,
+) -> Result<(), Refused> {
+    let wanted = with_lost(plan.alloc, wanted, choice.lost.unwrap_or(0))?;
+    judge(rt, plan, choice, &wanted, tally)
 }
 
 fn judge<R: Print>(
@@ -56,12 +70,26 @@ fn judge<R: Print>(
     let found = differences(plan.alloc, wanted.lines(), came.lines())?;
     tally.count(found.is_empty());
     if found.is_empty() || tally.failed_here > IN_FULL {
-        return Ok(());
+        Ok(())
+    } else {
+        print_found(rt, plan, choice, found.as_slice())
     }
+}
+
+fn print_found<R: Print>(
+    rt: &R,
+    plan: &Plan,
+    choice: Choice,
+    found: &[Difference],
+) -> Result<(), Refused> {
+    print_name(rt, plan, choice)?;
+    print_differences(rt, plan.alloc, found)
+}
+
+fn print_name<R: Print>(rt: &R, plan: &Plan, choice: Choice) -> Result<(), Refused> {
     let name = show_words(plan.alloc, &plan.name)?;
     let failing = choice_text(plan, choice)?;
-    println!(rt; "{}: run {name}{failing}", plan.line)?;
-    print_differences(rt, plan.alloc, &found)
+    Ok(println!(rt; "{}: run {name}{failing}", plan.line)?)
 }
 
 // What fails, where the plan has a choice of it.

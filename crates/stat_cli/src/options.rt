@@ -84,29 +84,41 @@ fn refused<'a>(error: Error) -> Parsed<'a> {
 }
 
 fn command<'a>(alloc: Global) -> Result<Command<'a>, AllocError> {
-    let old = Arg::new(alloc, "old")
-        .short('o')
-        .action(ArgAction::SetTrue)
-        .help("Read the log files that were put aside: each name with .old after it");
-    let since = Arg::new(alloc, "since")
-        .long("since")
-        .value_name("DATE")
-        .help("Count from the first mail of this day on, as 2026-01-31");
-    let format = Arg::new(alloc, "format")
-        .long("format")
-        .value_name("FORMAT")
-        .value_parser(["text", "json"].as_slice())
-        .help("How the sums are written");
-    let log = Arg::new(alloc, "log")
-        .value_name("LOGFILE")
-        .required(true)
-        .num_args(1..)
-        .help("The log files");
     Command::new(alloc, "procmail-stat")
         .version(VERSION)
         .about("Sums up the log files of procmail")
-        .arg(old)?
-        .arg(since)?
-        .arg(format)?
-        .arg(log)
+        .arg(old_argument(alloc))?
+        .arg(since_argument(alloc))?
+        .arg(format_argument(alloc))?
+        .arg(log_argument(alloc))
+}
+
+fn old_argument<'a>(alloc: Global) -> Arg<'a> {
+    Arg::new(alloc, "old")
+        .short('o')
+        .action(ArgAction::SetTrue)
+        .help("Read the log files that were put aside: each name with .old after it")
+}
+
+fn since_argument<'a>(alloc: Global) -> Arg<'a> {
+    Arg::new(alloc, "since")
+        .long("since")
+        .value_name("DATE")
+        .help("Count from the first mail of this day on, as 2026-01-31")
+}
+
+fn format_argument<'a>(alloc: Global) -> Arg<'a> {
+    Arg::new(alloc, "format")
+        .long("format")
+        .value_name("FORMAT")
+        .value_parser(["text", "json"].as_slice())
+        .help("How the sums are written")
+}
+
+fn log_argument<'a>(alloc: Global) -> Arg<'a> {
+    Arg::new(alloc, "log")
+        .value_name("LOGFILE")
+        .required(true)
+        .num_args(1..)
+        .help("The log files")
 }
