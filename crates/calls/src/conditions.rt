@@ -4,16 +4,15 @@ ghost use Rattle.std.specs.Prelude.{◌≡◌, [], IfOk};
 use crate::failed::Failed;
 use crate::report::Report;
 use crate::world::{NOTHING, make_host};
-use pm_bytes::{Blob, Memory, Name};
+use pm_bytes::{Blob, Name};
 use pm_conds::holds;
 use pm_journal::{HeldLocks, Journal};
-use pm_meaning::{Process, Stored, new_chain};
+use pm_meaning::{Mind, new_chain};
 use pm_memory::{MemoryHost, MemorySink};
-use pm_message::Mail;
+use pm_message::{Message, split};
 use pm_recipe::{Recipe, Statement, read_rc};
 use pm_vars::Vars;
 use std::alloc::Global;
-use std::collections::VecDeque;
 
 const LINES: &[u8] = b":0\n* -2^0\n* 1^1 B ?? ^.*$\nm\n";
 
@@ -68,7 +67,7 @@ fn judge_recipe(
     alloc: Global,
     report: &mut Report,
     recipe: &Recipe,
-    mind: &mut Process,
+    mind: &mut Mind,
 ) -> Result<(), Failed>
     requires { mind.old.locks.names ≡ [] }
 {
@@ -82,7 +81,7 @@ fn judge_by(
     alloc: Global,
     report: &mut Report,
     recipe: &Recipe,
-    mind: &mut Process,
+    mind: &mut Mind,
     host: &mut MemoryHost,
     err: &mut MemorySink,
 )
@@ -107,40 +106,25 @@ fn judge_by(
 }
 
 // A process that has this mail, and no variables and no locks.
-fn mind_with(alloc: Global, mail: &[u8]) -> Result<Process, Failed>
+fn mind_with(alloc: Global, mail: &[u8]) -> Result<Mind, Failed>
     ensures { IfOk result (λ mind. mind.locks.names ≡ []) }
 {
     let base = Name::read(alloc, b"/home/joe")?;
-    let host_name = Name::read(alloc, b"mx")?;
-    let message = mail_of(alloc, mail)?;
-    Ok(mind_of(alloc, message, base, host_name))
+    let message = split(alloc, mail)?;
+    Ok(mind_of(alloc, message, base))
 }
 
-fn mind_of(alloc: Global, message: Mail, base: Name, host_name: Name) -> Process
+fn mind_of(alloc: Global, message: Message, base: Name) -> Mind
     ensures { result.locks.names ≡ [] }
 {
-    Process {
-        filter: true,
-        fails_softly: false,
-        message,
+    Mind {
         vars: Vars::new(alloc, 4242),
+        message,
         base,
-        host_name,
+        chain: new_chain(),
         locks: HeldLocks::new(alloc),
         global: None,
-        chain: new_chain(),
-        placed: 0,
-        rcfile: Name::from_text(String::new(alloc)),
-        openings: 0,
-        is_clone: false,
-        later: VecDeque::new(alloc),
-        stored: Stored {
-            folder: Blob::empty(alloc),
-            size: 0,
-        },
+        rcfiles: Vec::new(alloc),
+        last: None,
     }
-}
-
-fn mail_of(alloc: Global, bytes: &[u8]) -> Result<Mail, Memory> {
-    Mail::split(alloc, Blob::from_slice(alloc, bytes)?)
 }

@@ -21,7 +21,7 @@ use Rattle.pm_meaning.specs.Minds.{Mind}
 use Rattle.pm_meaning.specs.Outputs.{Outputs, run_fault, tell_maybe, run_command, run_line, output_of, output_with, outputs_behind, outputs_of, taken_output}
 use Rattle.pm_meaning.specs.ProgramActions.{Tried, Trying, unlock_behind, try_locked, try_under}
 use Rattle.pm_meaning.specs.Programs.{command_line_of, with_code}
-use Rattle.pm_meaning.specs.Turns.{Turn, say_then}
+use Rattle.pm_meaning.specs.Turns.{say_then}
 use Rattle.pm_meaning.specs.declared.process.ProgramLine.{ProgramLine}
 use Rattle.pm_meaning.specs.declared.process.ProgramLine.TheVariants.{Runs, NoWords, Unusable, TooLong}
 use Rattle.pm_meaning.specs.declared.process.Trial.TheVariants.{Unlocked}
@@ -128,9 +128,9 @@ calm_log flags text p = calm_to flags (log_file p) text
 pub calm_said : {R : Type 0} (flags : Flags) (p : Mind) (text : List ℕ) (next : R) → IsCalm flags (say_then p text next)
 calm_said flags p text next = calm_then flags (log text p) (λ done. Ends next) (calm_log flags text p) (λ done. tt)
 
-pub calm_each : (flags : Flags) (p : Mind) (lines : List (List ℕ)) (turn : Turn) → IsCalm flags (say_each p lines turn)
-calm_each flags p [] turn = tt
-calm_each flags p (line ∷ lines) turn = calm_then flags (log line p) (λ done. say_each p lines turn) (calm_log flags line p) (λ done. calm_each flags p lines turn)
+pub calm_each : {R : Type 0} (flags : Flags) (p : Mind) (lines : List (List ℕ)) (next : R) → IsCalm flags (say_each p lines next)
+calm_each flags p [] next = tt
+calm_each flags p (line ∷ lines) next = calm_then flags (log line p) (λ done. say_each p lines next) (calm_log flags line p) (λ done. calm_each flags p lines next)
 
 -- commands whose outputs are wanted
 calm_maybe : {R : Type 0} (flags : Flags) (line : Option (List ℕ)) (p : Mind) (next : R) → IsCalm flags (tell_maybe line p next)

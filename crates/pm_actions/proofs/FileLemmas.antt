@@ -11,7 +11,7 @@ use Rattle.pm_journal.specs.Entries.{View}
 use Rattle.pm_journal.specs.Noted.{NotesAct}
 use Rattle.pm_journal.specs.declared.acts.Act.TheVariants.{Append}
 use Rattle.pm_journal.specs.declared.acts.Reply.{Reply}
-use Rattle.pm_journal.specs.declared.acts.Reply.TheVariants.{Done, IsFolder, Torn}
+use Rattle.pm_journal.specs.declared.acts.Reply.TheVariants.{Done, IsFolder, Torn, Raced as RacedReply}
 use Rattle.pm_journal.specs.declared.placing.FolderKind.{FolderKind}
 use Rattle.pm_journal.specs.declared.placing.FolderKind.TheVariants.{Plain}
 use Rattle.pm_journal.specs.Plan.{Plan, Ends, and_then, ask}
@@ -173,6 +173,7 @@ append_ends : (flags : Flags) (name : List ℕ) (kept : Kept) (p : Mind) (reply 
     → Ends (filing_of (filed_by name reply) (mind_after (filed_by name reply) kept p)) ≡ appended_by flags name (with_kept kept p) p reply
 append_ends flags name kept p Done h = refl
 append_ends flags name kept p IsFolder h = let e : true ≡ false = h in absurd (cc)
+append_ends flags name kept p RacedReply h = refl
 append_ends flags name kept p (Torn count) h = refl
 append_ends flags name kept p other h = refl
 

@@ -8,11 +8,11 @@ use Rattle.pm_meaning.specs.Forwards.{forward_reading}
 use Rattle.pm_meaning.specs.Minds.{Mind}
 use Rattle.pm_meaning.specs.ProgramActions.{Purpose, Delivers, Captures, Task, appended_name, lock_commands, program_with, do_program, pipe_purpose, pipe, capture_line, forward, write_task, write_with, write_out}
 use Rattle.pm_meaning.specs.Programs.{Reading, line_reading, shell_reading, plain_reading, needs_shell}
-use Rattle.pm_meaning.specs.Turns.{Turn}
+use Rattle.pm_meaning.specs.Turns.{ActEnd}
 use Rattle.pm_meaning.proofs.Choices.{if_yes, if_no}
 
 -- all commands of the texts come first
-abbrev pub with_task : Task → Reading → Ready → Plan Turn
+abbrev pub with_task : Task → Reading → Ready → Plan ActEnd
 with_task t reading = λ ready. program_with t reading ready
 
 pub task_first : (t : Task) (reading : Reading) (firsts commands : List (List ℕ)) (p : Mind) → firsts ≡ lock_commands t → commands ≡ reading.commands
@@ -20,7 +20,7 @@ pub task_first : (t : Task) (reading : Reading) (firsts commands : List (List �
 task_first t reading firsts commands p e is =
     ap (λ l. and_then (make_ready l commands p) (with_task t reading)) e ∙ ap (λ l. and_then (make_ready (lock_commands t) l p) (with_task t reading)) is
 
-abbrev pub with_write : Task → Ready → Plan Turn
+abbrev pub with_write : Task → Ready → Plan ActEnd
 with_write t = λ ready. write_with t ready
 
 pub write_first : (flags : Flags) (lock : Option (List ℕ)) (firsts commands : List (List ℕ)) (p : Mind) → firsts ≡ lock_commands (write_task flags lock) → commands ≡ []

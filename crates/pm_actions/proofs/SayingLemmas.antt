@@ -9,25 +9,25 @@ use Rattle.pm_journal.proofs.WantsMemory.{executes_nothing, out_front}
 use Rattle.pm_meaning.specs.Delivering.{say_each, is_without}
 use Rattle.pm_meaning.specs.Logging.{log, logged}
 use Rattle.pm_meaning.specs.Minds.{Mind}
-use Rattle.pm_meaning.specs.Turns.{Turn}
+use Rattle.pm_meaning.specs.Turns.{ActEnd}
 
 -- a line was said, and the next comes
-pub line_on : (whole : Plan Turn) (p : Mind) (items rest : List (List ℕ)) (line : List ℕ) (turn : Turn) (x y z : JournalState) (a b c : View) → LeadsTo whole (say_each p items turn) x y a b → items ≡ line ∷ rest
-    → Executes (log line p) logged y z b c → LeadsTo whole (say_each p rest turn) x z a c
-line_on whole p items rest line turn x y z a b c h e k =
-    leads_on whole (log line p) (λ done. say_each p rest turn) logged x y z a b c (subst (λ l. LeadsTo whole (say_each p l turn) x y a b) e h) k
+pub line_on : (whole : Plan ActEnd) (p : Mind) (items rest : List (List ℕ)) (line : List ℕ) (came : ActEnd) (x y z : JournalState) (a b c : View) → LeadsTo whole (say_each p items came) x y a b → items ≡ line ∷ rest
+    → Executes (log line p) logged y z b c → LeadsTo whole (say_each p rest came) x z a c
+line_on whole p items rest line came x y z a b c h e k =
+    leads_on whole (log line p) (λ done. say_each p rest came) logged x y z a b c (subst (λ l. LeadsTo whole (say_each p l came) x y a b) e h) k
 
 -- memory was wanting at a line
-pub line_wants : (whole : Plan Turn) (p : Mind) (items rest : List (List ℕ)) (line : List ℕ) (turn : Turn) (x y z : JournalState) (a b c : View) → LeadsTo whole (say_each p items turn) x y a b → items ≡ line ∷ rest
+pub line_wants : (whole : Plan ActEnd) (p : Mind) (items rest : List (List ℕ)) (line : List ℕ) (came : ActEnd) (x y z : JournalState) (a b c : View) → LeadsTo whole (say_each p items came) x y a b → items ≡ line ∷ rest
     → OutOfMemory (log line p) y z b c → OutOfMemory whole x z a c
-line_wants whole p items rest line turn x y z a b c h e k =
-    leads_to_want whole (say_each p (line ∷ rest) turn) x y z a b c (subst (λ l. LeadsTo whole (say_each p l turn) x y a b) e h)
-    (out_front (log line p) (λ done. say_each p rest turn) y z b c k)
+line_wants whole p items rest line came x y z a b c h e k =
+    leads_to_want whole (say_each p (line ∷ rest) came) x y z a b c (subst (λ l. LeadsTo whole (say_each p l came) x y a b) e h)
+    (out_front (log line p) (λ done. say_each p rest came) y z b c k)
 
 -- all lines were said
-pub lines_over : (whole : Plan Turn) (p : Mind) (items : List (List ℕ)) (turn : Turn) (x y : JournalState) (a b : View) → LeadsTo whole (say_each p items turn) x y a b → items ≡ [] → Executes whole turn x y a b
-lines_over whole p items turn x y a b h e =
-    leads_to_end whole (Ends turn) turn x y y a b b (subst (λ l. LeadsTo whole (say_each p l turn) x y a b) e h) (executes_nothing turn y y b refl)
+pub lines_over : (whole : Plan ActEnd) (p : Mind) (items : List (List ℕ)) (came : ActEnd) (x y : JournalState) (a b : View) → LeadsTo whole (say_each p items came) x y a b → items ≡ [] → Executes whole came x y a b
+lines_over whole p items came x y a b h e =
+    leads_to_end whole (Ends came) came x y y a b b (subst (λ l. LeadsTo whole (say_each p l came) x y a b) e h) (executes_nothing came y y b refl)
 
 -- where a line is left, there was one
 pub lines_were : (all lines rest : List (List ℕ)) (line : List ℕ) → (is_without all ≡ true → is_without lines ≡ true) → lines ≡ line ∷ rest → is_without all ≡ false

@@ -8,6 +8,7 @@ use Rattle.pm_meaning.specs.Locks.{is_lock_word, full_lock, is_taken}
 use Rattle.pm_meaning.specs.Minds.{Mind}
 use Rattle.pm_meaning.specs.ProgramActions.{Purpose, Delivers, Filters, Captures, Task, Tried, Trying, is_fine, feed, filter_mail, capture, write, lock_mode, lock_source, named_lock}
 use Rattle.pm_meaning.specs.Turns.{is_too_long, length_in}
+use Rattle.pm_meaning.specs.declared.acted.Cause.TheVariants as cause
 use Rattle.pm_meaning.specs.declared.process.Outcome.{Outcome}
 use Rattle.pm_meaning.specs.declared.process.Trial.{Trial}
 use Rattle.pm_actions.specs.Copies.{remembered, with_kept}
@@ -59,10 +60,12 @@ IsLockText t outputs p (Word word) =
     (is_too_long (lock_mode t) (lock_source t) p.vars outputs ≡ false)
     × (word ≡ named_lock t (first_word (words_in (lock_mode t) p.vars outputs (lock_source t))) p)
 
--- the lock file can be taken, or not
+-- the lock file can be taken; or its name is none, or that of a lock that is held
 abbrev pub IsLockFile : Option (List ℕ) → Mind → LockFile → Type 0
 IsLockFile word p (Free lock) = (is_lock_word word ≡ true) × (lock ≡ full_lock p.base word) × (is_taken lock [] p.locks ≡ false)
-IsLockFile word p Refused = (not (is_lock_word word) || is_taken (full_lock p.base word) [] p.locks) ≡ true
+IsLockFile word p (Refused cause.BadName) = is_lock_word word ≡ false
+IsLockFile word p (Refused cause.NameIsLock) = (is_lock_word word ≡ true) × (is_taken (full_lock p.base word) [] p.locks ≡ true)
+IsLockFile word p (Refused other) = ⊥
 
 -- the errand hands the mail on for good: to a program, or to standard output
 abbrev pub is_for_good : Errand → Bool

@@ -6,10 +6,10 @@ use Rattle.pm_journal.specs.declared.acts.Act.{Act}
 use Rattle.pm_journal.specs.declared.acts.Act.TheVariants.{Append, Moment}
 use Rattle.pm_journal.specs.declared.acts.Entry.{Entry}
 use Rattle.pm_journal.specs.declared.acts.Reply.{Reply}
-use Rattle.pm_journal.specs.declared.acts.Reply.TheVariants.{Done, IsFolder, Torn}
+use Rattle.pm_journal.specs.declared.acts.Reply.TheVariants.{Done, IsFolder, Raced as RacedReply, Torn}
 use Rattle.pm_meaning.specs.Minds.{Mind}
 use Rattle.pm_meaning.specs.declared.process.Filed.{Filed}
-use Rattle.pm_meaning.specs.declared.process.Filed.TheVariants.{Stored, Unwritten, Left}
+use Rattle.pm_meaning.specs.declared.process.Filed.TheVariants.{Stored, Unwritten, Raced, Left}
 use Rattle.pm_actions.specs.Copies.{with_kept}
 use Rattle.pm_actions.specs.declared.kept.Kept.{Kept}
 
@@ -39,6 +39,7 @@ HasMet old new = (more : List Entry) → new.entries ≡ old.entries ++ more →
 -- what came of an append to this file, unless a folder stands there
 abbrev pub filed_by : List ℕ → Reply → Filed
 filed_by name Done = Stored
+filed_by name RacedReply = Raced name
 filed_by name (Torn count) = Left name count
 filed_by name other = Unwritten name
 

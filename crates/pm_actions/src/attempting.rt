@@ -16,7 +16,7 @@ use crate::locks::lock_rule;
 use pm_bytes::{Memory, Name};
 use pm_host::Removed;
 use pm_journal::{Effects, LockEnd, give, take};
-use pm_meaning::{Attempt, Destination, Run};
+use pm_meaning::{Attempt, Cause, Destination, Run};
 use pm_recipe::Flags;
 use std::alloc::Global;
 
@@ -104,7 +104,14 @@ fn file_locked<D: Effects>(
                 stuck,
             })
         }
-        LockEnd::Busy | LockEnd::Failed => Ok(Attempt::NotLocked(name)),
+        LockEnd::Busy => {
+            let cause = Cause::Busy;
+            Ok(Attempt::NotLocked { name, cause })
+        }
+        LockEnd::Failed => {
+            let cause = Cause::LockFailed;
+            Ok(Attempt::NotLocked { name, cause })
+        }
     }
 }
 

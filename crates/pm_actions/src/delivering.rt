@@ -7,14 +7,15 @@ ghost use Rattle.pm_recipe.specs.View.{act_of};
 ghost use Rattle.pm_meaning.specs.Acting.{act_on};
 ghost use Rattle.pm_meaning.specs.Locks.{text_or};
 ghost use Rattle.pm_meaning.specs.Locks;
-ghost use Rattle.pm_meaning.specs.Delivering.{attempt_turn, filed_turn, settled};
+ghost use Rattle.pm_meaning.specs.Delivering.{attempt_acted, settled};
 ghost use Rattle.pm_meaning.specs.Delivering;
 ghost use Rattle.pm_meaning.specs.Turns.{refuse_name};
 ghost use Rattle.pm_meaning.specs.Delivering.{deliver_with, deliver, deliver_to};
-ghost use Rattle.pm_meaning.specs.Minds.{Mind, mind_of};
+ghost use Rattle.pm_meaning.specs.Minds.{mind_of};
 ghost use Rattle.pm_actions.specs.Copies.{IsFreeLock};
 ghost use Rattle.pm_actions.specs.Names.{top_of};
 ghost use Rattle.pm_meaning.specs.Ready.{ready_of};
+ghost use Rattle.pm_meaning.specs.Apart.{acted_with};
 ghost use Rattle.pm_meaning.specs.Turning.{turn_of};
 ghost use Rattle.pm_actions.specs.Undelivered.{Undelivered};
 
@@ -26,12 +27,13 @@ use crate::locks::{
 };
 use crate::names::destinations;
 use crate::pipes::{capture, forward, pipe, write_out};
+use crate::refusing::{overflow, refuse_act};
 use crate::saying::{attempt_lines, say_each};
 use pm_bytes::{Blob, Memory, Name, NameRefused};
 use pm_journal::{Effects, unusable_name};
 use pm_meaning::{
-    Attempt, Destination, End, Expansion, Filed, Process, Ready, Run, expand_text, first_word,
-    make_ready, skip_value, succeed, tell,
+    Acted, Attempt, Cause, Destination, End, Expansion, Filed, Process, Ready, Run, expand_text,
+    first_word, make_ready, succeed, tell,
 };
 use pm_recipe::{Action, Flags, Recipe};
 use pm_subst::{Mode, commands};
@@ -50,10 +52,10 @@ pub fn perform<D: Effects>(
     alloc: Global,
     run: &mut Run<D>,
     recipe: &Recipe,
-) -> Result<Option<End>, Memory>
+) -> Result<Acted, Memory>
     ensures carries { Carries
         (act_on (top_of recipe.now) (act_of recipe.now.action) (mind_of run.old.process))
-        (λ end. turn_of end (mind_of run.new.process)) result
+        (λ acted. acted_with acted (mind_of run.new.process)) result
         run.old.journal run.new.journal (D.told run.old.outside) (D.told run.new.outside) }
     ensures sure { OnErr result (Undelivered recipe.now.flags run.old.journal run.new.journal) }
 {
@@ -75,7 +77,7 @@ pub fn perform<D: Effects>(
             forward(alloc, run, &order)
         }
         Action::WriteOut => write_out(alloc, run, recipe.flags, &recipe.lock),
-        Action::Block(_) => Ok(None),
+        Action::Block(_) => Ok(Acted::Went),
     }
 }
 
@@ -96,9 +98,9 @@ pub fn deliver_default<D: Effects>(
     alloc: Global,
     run: &mut Run<D>,
     mailbox: &Blob,
-) -> Result<Option<End>, Memory>
+) -> Result<Acted, Memory>
     ensures carries { Carries (Delivering.deliver_default mailbox.now (mind_of run.old.process))
-        (λ end. turn_of end (mind_of run.new.process)) result
+        (λ acted. acted_with acted (mind_of run.new.process)) result
         run.old.journal run.new.journal (D.told run.old.outside) (D.told run.new.outside) }
     ensures sure { OnErr result (Undelivered Delivering.no_flags run.old.journal run.new.journal) }
 {
@@ -140,10 +142,10 @@ fn deliver_mail<D: Effects>(
     alloc: Global,
     run: &mut Run<D>,
     order: &Order<'_>,
-) -> Result<Option<End>, Memory>
+) -> Result<Acted, Memory>
     ensures carries { let o = order.now in
         Carries (deliver o.flags o.lock.now o.text.now (mind_of run.old.process))
-        (λ end. turn_of end (mind_of run.new.process)) result
+        (λ acted. acted_with acted (mind_of run.new.process)) result
         run.old.journal run.new.journal (D.told run.old.outside) (D.told run.new.outside) }
     ensures sure { OnErr result (Undelivered order.now.flags run.old.journal run.new.journal) }
 {
@@ -164,12 +166,12 @@ fn deliver_ready<D: Effects>(
     run: &mut Run<D>,
     order: &Order<'_>,
     ready: &Ready,
-) -> Result<Option<End>, Memory>
+) -> Result<Acted, Memory>
     requires locks { length ready.now.lock_outputs.items ≡ length (commands_in One (text_or [] order.now.lock.now)) }
     requires each { length ready.now.outputs.items ≡ length (commands_in Many order.now.text.now) }
     ensures carries { let o = order.now in
         Carries (deliver_with o.flags o.lock.now o.text.now (ready_of ready.now (mind_of run.old.process)))
-        (λ end. turn_of end (mind_of run.new.process)) result
+        (λ acted. acted_with acted (mind_of run.new.process)) result
         run.old.journal run.new.journal (D.told run.old.outside) (D.told run.new.outside) }
     ensures sure { OnErr result (Undelivered order.now.flags run.old.journal run.new.journal) }
 {
@@ -186,7 +188,7 @@ fn deliver_ready<D: Effects>(
             let outputs = ready.outputs.as_slice();
             deliver_text(alloc, run, order, value, outputs)
         }
-        Expansion::TooLong(length) => skip_value(alloc, run, length),
+        Expansion::TooLong(length) => overflow(alloc, run, length),
     }
 }
 
@@ -197,17 +199,17 @@ fn deliver_text<D: Effects>(
     order: &Order<'_>,
     value: Blob,
     outputs: &[Blob],
-) -> Result<Option<End>, Memory>
+) -> Result<Acted, Memory>
     requires each { length outputs.now ≡ length (commands_in Many order.now.text.now) }
     ensures carries { let o = order.now in
         Carries (Delivering.deliver_text o.flags o.lock.now value o.text.now outputs.now (mind_of run.old.process))
-        (λ end. turn_of end (mind_of run.new.process)) result
+        (λ acted. acted_with acted (mind_of run.new.process)) result
         run.old.journal run.new.journal (D.told run.old.outside) (D.told run.new.outside) }
     ensures sure { OnErr result (Undelivered order.now.flags run.old.journal run.new.journal) }
 {
     match expand_text(alloc, order.text, Mode::Many, &run.process.vars, outputs)? {
         Expansion::Words(words) => { deliver_to_words(alloc, run, order, value, words.as_slice()) }
-        Expansion::TooLong(length) => skip_value(alloc, run, length),
+        Expansion::TooLong(length) => overflow(alloc, run, length),
     }
 }
 
@@ -218,22 +220,22 @@ fn deliver_to_words<D: Effects>(
     order: &Order<'_>,
     value: Blob,
     words: &[Blob],
-) -> Result<Option<End>, Memory>
+) -> Result<Acted, Memory>
     ensures carries { let o = order.now in
         Carries (deliver_to o.flags o.lock.now value o.text.now words.now (mind_of run.old.process))
-        (λ end. turn_of end (mind_of run.new.process)) result
+        (λ acted. acted_with acted (mind_of run.new.process)) result
         run.old.journal run.new.journal (D.told run.old.outside) (D.told run.new.outside) }
     ensures sure { OnErr result (Undelivered order.now.flags run.old.journal run.new.journal) }
 {
     if words.len() == 0 {
-        return refuse(alloc, run, order.text);
+        return refuse_act(alloc, run, Cause::NoWords, order.text);
     }
     let word = lock_word(alloc, order.lock, value, words, &run.process)?;
     match lock_name(alloc, word) {
         Ok(lock) => deliver_named(alloc, run, order, lock, words),
         Err(NameRefused::Unusable) => {
             let text = blamed_text(order.lock, order.text);
-            refuse(alloc, run, text)
+            refuse_act(alloc, run, Cause::BadName, text)
         }
         Err(NameRefused::Memory) => Err(Memory),
     }
@@ -246,16 +248,16 @@ fn deliver_named<D: Effects>(
     order: &Order<'_>,
     lock: Option<Name>,
     words: &[Blob],
-) -> Result<Option<End>, Memory>
+) -> Result<Acted, Memory>
     ensures carries { let o = order.now in
         Carries (Delivering.deliver_named o.flags lock (Locks.blamed_text o.lock.now o.text.now) o.text.now words.now
         (mind_of run.old.process))
-        (λ end. turn_of end (mind_of run.new.process)) result
+        (λ acted. acted_with acted (mind_of run.new.process)) result
         run.old.journal run.new.journal (D.told run.old.outside) (D.told run.new.outside) }
     ensures sure { OnErr result (Undelivered order.now.flags run.old.journal run.new.journal) }
 {
     match destinations(alloc, words)? {
-        None => refuse(alloc, run, order.text),
+        None => refuse_act(alloc, run, Cause::BadName, order.text),
         Some(all) => {
             let lock = full_lock(alloc, &run.process.base, lock)?;
             deliver_at(alloc, run, order, lock, all.as_slice())
@@ -270,22 +272,22 @@ fn deliver_at<D: Effects>(
     order: &Order<'_>,
     lock: Option<Name>,
     destinations: &[Destination],
-) -> Result<Option<End>, Memory>
+) -> Result<Acted, Memory>
     ensures carries { let o = order.now in
         Carries (Delivering.deliver_at o.flags lock
         (Locks.blamed_text o.lock.now o.text.now) o.text.now destinations.now
         (mind_of run.old.process))
-        (λ end. turn_of end (mind_of run.new.process)) result
+        (λ acted. acted_with acted (mind_of run.new.process)) result
         run.old.journal run.new.journal (D.told run.old.outside) (D.told run.new.outside) }
     ensures sure { OnErr result (Undelivered order.now.flags run.old.journal run.new.journal) }
 {
     let files = full_names(alloc, &run.process.base, destinations)?;
     if is_taken(&lock, files.as_slice(), &run.process.locks) {
         let text = blamed_text(order.lock, order.text);
-        return refuse(alloc, run, text);
+        return refuse_act(alloc, run, Cause::NameIsLock, text);
     }
     if any_held(files.as_slice(), &run.process.locks) {
-        return refuse(alloc, run, order.text);
+        return refuse_act(alloc, run, Cause::NameIsLock, order.text);
     }
     file_and_say(alloc, run, lock, order, destinations)
 }
@@ -297,17 +299,17 @@ fn file_and_say<D: Effects>(
     lock: Option<Name>,
     order: &Order<'_>,
     destinations: &[Destination],
-) -> Result<Option<End>, Memory>
+) -> Result<Acted, Memory>
     requires free { IsFreeLock lock run.old.process.locks.names }
     ensures carries { let o = order.now in
         Carries (Delivering.file_and_say o.flags lock o.text.now destinations.now (mind_of run.old.process))
-        (λ end. turn_of end (mind_of run.new.process)) result
+        (λ acted. acted_with acted (mind_of run.new.process)) result
         run.old.journal run.new.journal (D.told run.old.outside) (D.told run.new.outside) }
     ensures sure { OnErr result (Undelivered order.now.flags run.old.journal run.new.journal) }
 {
     let attempt = attempt(alloc, run, lock, order.flags, destinations)?;
     settle(&attempt, &mut run.process);
-    let end = end_of(order.flags, &attempt);
+    let acted = acted_by(order.flags, &attempt);
     let mut lines = attempt_lines(alloc, order.text, &attempt)?;
     push_copy(
         alloc,
@@ -316,7 +318,7 @@ fn file_and_say<D: Effects>(
         &run.process,
         &mut lines,
     )?;
-    say_each(alloc, run, lines, end)
+    say_each(alloc, run, lines, acted)
 }
 
 /// The name of a file can't be used: this is told of the text.
@@ -350,34 +352,43 @@ fn is_done(attempt: &Attempt) -> bool
 {
     match attempt {
         Attempt::Unlocked(filed) => is_stored(filed),
-        Attempt::NotLocked(_) => false,
+        Attempt::NotLocked { .. } => false,
         Attempt::Locked { filed, .. } => is_stored(filed),
     }
 }
 
-// What comes after an attempt.
-fn end_of(flags: Flags, attempt: &Attempt) -> Option<End>
-    ensures { (p : Mind) → attempt_turn flags attempt.now p ≡ turn_of result p }
+// What came of an attempt.
+fn acted_by(flags: Flags, attempt: &Attempt) -> Acted
+    ensures { result ≡ attempt_acted flags attempt.now }
 {
     match attempt {
-        Attempt::Unlocked(filed) => filed_end(flags, filed),
-        Attempt::NotLocked(_) => None,
-        Attempt::Locked { filed, .. } => filed_end(flags, filed),
+        Attempt::Unlocked(filed) => filed_acted(flags, filed),
+        Attempt::NotLocked { cause, .. } => Acted::Failed(*cause),
+        Attempt::Locked { filed, .. } => filed_acted(flags, filed),
     }
 }
 
-// A copy doesn't end the process.
-fn filed_end(flags: Flags, filed: &Filed) -> Option<End>
-    ensures { (p : Mind) → filed_turn flags filed.now p ≡ turn_of result p }
+// What came of the destinations.
+fn filed_acted(flags: Flags, filed: &Filed) -> Acted
+    ensures { result ≡ Delivering.filed_acted flags filed.now }
 {
     match filed {
-        Filed::Stored => {
-            if flags.copy {
-                None
-            } else {
-                Some(End::Delivered)
-            }
-        }
-        Filed::Unwritten(_) | Filed::Left { .. } | Filed::Crowded(_) | Filed::Unnamed => None,
+        Filed::Stored => all_stored(flags),
+        Filed::Unwritten(_) => Acted::Failed(Cause::Undone),
+        Filed::Raced(_) => Acted::Failed(Cause::Raced),
+        Filed::Left { .. } => Acted::Failed(Cause::Torn),
+        Filed::Crowded(_) => Acted::Failed(Cause::NamesOut),
+        Filed::Unnamed => Acted::Failed(Cause::BadName),
+    }
+}
+
+/// The mail, or under the flag c a copy, was delivered.
+pub fn all_stored(flags: Flags) -> Acted
+    ensures { result ≡ Delivering.all_stored flags }
+{
+    if flags.copy {
+        Acted::CopyDone
+    } else {
+        Acted::Delivered
     }
 }

@@ -341,7 +341,8 @@ fn filed_of(end: AppendEnd, name: Name) -> Filed
     match end {
         AppendEnd::Done => Filed::Stored,
         AppendEnd::Torn(count) => Filed::Left { name, count },
-        AppendEnd::Undone | AppendEnd::Raced | AppendEnd::IsFolder => Filed::Unwritten(name),
+        AppendEnd::Raced => Filed::Raced(name),
+        AppendEnd::Undone | AppendEnd::IsFolder => Filed::Unwritten(name),
     }
 }
 

@@ -19,6 +19,7 @@ pub mod names;
 pub mod outcomes;
 pub mod pipes;
 pub mod placing;
+pub mod refusing;
 pub mod saying;
 pub mod tasks;
 pub mod trying;

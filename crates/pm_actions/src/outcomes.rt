@@ -30,7 +30,7 @@ pub fn trial_lines(
     let mut lines = VecDeque::new(alloc);
     match trial {
         Trial::Unlocked(outcome) => push_outcome(alloc, flags, line, *outcome, &mut lines)?,
-        Trial::NotLocked(name) => lines.push_back(couldnt_lock(alloc, name)?)?,
+        Trial::NotLocked { name, .. } => lines.push_back(couldnt_lock(alloc, name)?)?,
         Trial::Locked {
             name,
             forced,

@@ -11,7 +11,7 @@ ghost use Rattle.pm_meaning.specs.Programs.{line_reading as reading_of_line};
 ghost use Rattle.pm_actions.specs.Errands.{task_of, purpose_of};
 ghost use Rattle.pm_meaning.specs.Ready.{ready_of};
 ghost use Rattle.pm_actions.specs.Programs.{reading_of};
-ghost use Rattle.pm_meaning.specs.Turning.{turn_of};
+ghost use Rattle.pm_meaning.specs.Apart.{acted_with};
 ghost use Rattle.pm_actions.specs.Undelivered.{Undelivered};
 
 use crate::appended::appended_name;
@@ -19,12 +19,12 @@ use crate::delivering::Order;
 use crate::errands::write_errand;
 use crate::forwards::forward_line;
 use crate::lock_texts::{LockText, lock_commands, lock_word};
+use crate::refusing::overflow;
 use crate::tasks::{Purpose, Task, do_line, do_named};
 use pm_bytes::{Blob, Memory};
 use pm_journal::Effects;
 use pm_meaning::{
-    End, Process, ProgramLine, Ready, Run, expanded_line, make_ready, needs_shell, shell_line,
-    skip_value,
+    Acted, Process, ProgramLine, Ready, Run, expanded_line, make_ready, needs_shell, shell_line,
 };
 use pm_recipe::Flags;
 use pm_subst::{Mode, commands};
@@ -39,14 +39,10 @@ pub enum Reading {
 }
 
 /// The mail goes to the program of the line. Under the flag f what comes out takes its place.
-pub fn pipe<D: Effects>(
-    alloc: Global,
-    run: &mut Run<D>,
-    order: &Order<'_>,
-) -> Result<Option<End>, Memory>
+pub fn pipe<D: Effects>(alloc: Global, run: &mut Run<D>, order: &Order<'_>) -> Result<Acted, Memory>
     ensures carries { let o = order.now in
         Carries (ProgramActions.pipe o.flags o.lock.now o.text.now (mind_of run.old.process))
-        (λ end. turn_of end (mind_of run.new.process)) result
+        (λ acted. acted_with acted (mind_of run.new.process)) result
         run.old.journal run.new.journal (D.told run.old.outside) (D.told run.new.outside) }
     ensures sure { OnErr result (Undelivered order.now.flags run.old.journal run.new.journal) }
 {
@@ -77,10 +73,10 @@ pub fn capture<D: Effects>(
     run: &mut Run<D>,
     order: &Order<'_>,
     name: &Blob,
-) -> Result<Option<End>, Memory>
+) -> Result<Acted, Memory>
     ensures carries { let o = order.now in
         Carries (capture_line o.flags o.lock.now name.now o.text.now (mind_of run.old.process))
-        (λ end. turn_of end (mind_of run.new.process)) result
+        (λ acted. acted_with acted (mind_of run.new.process)) result
         run.old.journal run.new.journal (D.told run.old.outside) (D.told run.new.outside) }
     ensures sure { OnErr result (Undelivered order.now.flags run.old.journal run.new.journal) }
 {
@@ -100,10 +96,10 @@ pub fn forward<D: Effects>(
     alloc: Global,
     run: &mut Run<D>,
     order: &Order<'_>,
-) -> Result<Option<End>, Memory>
+) -> Result<Acted, Memory>
     ensures carries { let o = order.now in
         Carries (ProgramActions.forward o.flags o.lock.now o.text.now (mind_of run.old.process))
-        (λ end. turn_of end (mind_of run.new.process)) result
+        (λ acted. acted_with acted (mind_of run.new.process)) result
         run.old.journal run.new.journal (D.told run.old.outside) (D.told run.new.outside) }
     ensures sure { OnErr result (Undelivered order.now.flags run.old.journal run.new.journal) }
 {
@@ -127,10 +123,10 @@ fn forward_as<'a, D: Effects>(
     lock: &'a Option<Blob>,
     text: &'a [u8],
     destination: &'a [u8],
-) -> Result<Option<End>, Memory>
+) -> Result<Acted, Memory>
     requires called { destination.now ≡ codes "!" ++ text.now }
     ensures carries { Carries (ProgramActions.forward flags lock.now text.now (mind_of run.old.process))
-        (λ end. turn_of end (mind_of run.new.process)) result
+        (λ acted. acted_with acted (mind_of run.new.process)) result
         run.old.journal run.new.journal (D.told run.old.outside) (D.told run.new.outside) }
     ensures sure { OnErr result (Undelivered flags run.old.journal run.new.journal) }
 {
@@ -161,10 +157,10 @@ fn do_program<D: Effects>(
     run: &mut Run<D>,
     task: &Task<'_>,
     reading: Reading,
-) -> Result<Option<End>, Memory>
+) -> Result<Acted, Memory>
     ensures carries { let t = task_of task.now in
         Carries (ProgramActions.do_program t (reading_of reading t.text) (mind_of run.old.process))
-        (λ end. turn_of end (mind_of run.new.process)) result
+        (λ acted. acted_with acted (mind_of run.new.process)) result
         run.old.journal run.new.journal (D.told run.old.outside) (D.told run.new.outside) }
     ensures sure { OnErr result (Undelivered task.now.flags run.old.journal run.new.journal) }
 {
@@ -191,18 +187,18 @@ fn do_ready<D: Effects>(
     task: &Task<'_>,
     reading: Reading,
     ready: &Ready,
-) -> Result<Option<End>, Memory>
+) -> Result<Acted, Memory>
     requires locks { length ready.now.lock_outputs.items ≡ length (ProgramActions.lock_commands (task_of task.now)) }
     requires each { length ready.now.outputs.items ≡ length (reading_of reading task.now.text.now).commands }
     ensures carries { let t = task_of task.now in
         Carries (program_with t (reading_of reading t.text) (ready_of ready.now (mind_of run.old.process)))
-        (λ end. turn_of end (mind_of run.new.process)) result
+        (λ acted. acted_with acted (mind_of run.new.process)) result
         run.old.journal run.new.journal (D.told run.old.outside) (D.told run.new.outside) }
     ensures sure { OnErr result (Undelivered task.now.flags run.old.journal run.new.journal) }
 {
     let text = lock_word(alloc, task, ready.lock_outputs.as_slice(), &run.process)?;
     match text {
-        LockText::TooLong(length) => skip_value(alloc, run, length),
+        LockText::TooLong(length) => overflow(alloc, run, length),
         LockText::Word(word) => {
             let line = read_text(
                 alloc,
@@ -240,9 +236,9 @@ pub fn write_out<D: Effects>(
     run: &mut Run<D>,
     flags: Flags,
     lock: &Option<Blob>,
-) -> Result<Option<End>, Memory>
+) -> Result<Acted, Memory>
     ensures carries { Carries (ProgramActions.write_out flags lock.now (mind_of run.old.process))
-        (λ end. turn_of end (mind_of run.new.process)) result
+        (λ acted. acted_with acted (mind_of run.new.process)) result
         run.old.journal run.new.journal (D.told run.old.outside) (D.told run.new.outside) }
     ensures sure { OnErr result (Undelivered flags run.old.journal run.new.journal) }
 {
@@ -264,17 +260,17 @@ fn write_ready<D: Effects>(
     run: &mut Run<D>,
     task: &Task<'_>,
     ready: &Ready,
-) -> Result<Option<End>, Memory>
+) -> Result<Acted, Memory>
     requires locks { length ready.now.lock_outputs.items ≡ length (ProgramActions.lock_commands (task_of task.now)) }
     ensures carries { Carries
         (write_with (task_of task.now) (ready_of ready.now (mind_of run.old.process)))
-        (λ end. turn_of end (mind_of run.new.process)) result
+        (λ acted. acted_with acted (mind_of run.new.process)) result
         run.old.journal run.new.journal (D.told run.old.outside) (D.told run.new.outside) }
     ensures sure { OnErr result (Undelivered task.now.flags run.old.journal run.new.journal) }
 {
     let text = lock_word(alloc, task, ready.lock_outputs.as_slice(), &run.process)?;
     match text {
-        LockText::TooLong(length) => skip_value(alloc, run, length),
+        LockText::TooLong(length) => overflow(alloc, run, length),
         LockText::Word(word) => {
             let errand = write_errand(alloc, task.flags, &run.process)?;
             do_named(alloc, run, task, word, errand)

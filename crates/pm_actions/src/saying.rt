@@ -6,14 +6,14 @@ ghost use Rattle.pm_meaning.specs.Delivering.{is_without};
 ghost use Rattle.pm_meaning.specs.Delivering.{filed_lines, line_if};
 ghost use Rattle.pm_meaning.specs.Delivering;
 ghost use Rattle.pm_meaning.specs.Minds.{mind_of};
-ghost use Rattle.pm_meaning.specs.Turning.{turn_of};
+ghost use Rattle.pm_meaning.specs.Apart.{acted_with};
 
 use pm_bytes::{Blob, Memory, Name};
 use pm_journal::{
     Effects, bytes_left, couldnt_lock, couldnt_unlock, couldnt_write, forcing_lock, no_free_name,
     unusable_name,
 };
-use pm_meaning::{Attempt, End, Filed, Run, tell};
+use pm_meaning::{Acted, Attempt, Filed, Run, tell};
 use std::alloc::Global;
 use std::collections::VecDeque;
 
@@ -30,7 +30,7 @@ pub fn attempt_lines(
     let mut lines = VecDeque::new(alloc);
     match attempt {
         Attempt::Unlocked(filed) => push_filed(alloc, text, filed, &mut lines)?,
-        Attempt::NotLocked(name) => lines.push_back(couldnt_lock(alloc, name)?)?,
+        Attempt::NotLocked { name, .. } => lines.push_back(couldnt_lock(alloc, name)?)?,
         Attempt::Locked {
             name,
             forced,
@@ -58,6 +58,7 @@ fn push_filed(
     match filed {
         Filed::Stored => {}
         Filed::Unwritten(name) => lines.push_back(couldnt_write(alloc, name)?)?,
+        Filed::Raced(name) => lines.push_back(couldnt_write(alloc, name)?)?,
         Filed::Left { name, count } => lines.push_back(bytes_left(alloc, *count, name)?)?,
         Filed::Crowded(name) => lines.push_back(no_free_name(alloc, name)?)?,
         Filed::Unnamed => lines.push_back(unusable_name(alloc, text)?)?,
@@ -99,16 +100,16 @@ pub fn push_stuck(
     Ok(())
 }
 
-/// Says each line, and answers with this end.
+/// Says each line, and answers with what came of the action.
 pub fn say_each<D: Effects>(
     alloc: Global,
     run: &mut Run<D>,
     mut lines: VecDeque<Blob>,
-    end: Option<End>,
-) -> Result<Option<End>, Memory>
+    acted: Acted,
+) -> Result<Acted, Memory>
     ensures carries { let p = mind_of run.old.process in
-        Carries (Delivering.say_each p lines.items (turn_of end p))
-        (λ end. turn_of end (mind_of run.new.process)) result
+        Carries (Delivering.say_each p lines.items (acted_with acted p))
+        (λ acted. acted_with acted (mind_of run.new.process)) result
         run.old.journal run.new.journal (D.told run.old.outside) (D.told run.new.outside) }
     ensures sure { OnErr result (is_without lines.items ≡ false) }
     ensures same { run.new.process ≡ run.old.process }
@@ -116,5 +117,5 @@ pub fn say_each<D: Effects>(
     while let Some(line) = lines.pop_front() {
         tell(alloc, run, line)?;
     }
-    Ok(end)
+    Ok(acted)
 }

@@ -10,23 +10,24 @@ ghost use Rattle.pm_meaning.specs.ProgramActions.{work_of, fed_piece};
 ghost use Rattle.pm_meaning.specs.ProgramActions.{unusable_text};
 ghost use Rattle.pm_meaning.specs.ProgramActions.{told_first};
 ghost use Rattle.pm_meaning.specs.Locks;
-ghost use Rattle.pm_meaning.specs.Turns.{Turn, refuse_name};
+ghost use Rattle.pm_meaning.specs.Turns.{ActEnd, refuse_act};
+ghost use Rattle.pm_meaning.specs.declared.acted.Cause.TheVariants as cause;
 ghost use Rattle.pm_actions.specs.Copies.{IsFreeLock};
 ghost use Rattle.pm_actions.specs.Errands.{task_of, purpose_of, IsWork, IsLockFile};
-ghost use Rattle.pm_meaning.specs.Turning.{turn_of};
+ghost use Rattle.pm_meaning.specs.Apart.{acted_with};
 ghost use Rattle.pm_actions.specs.Undelivered.{Undelivered};
 
 use crate::abstracts::push_copy;
-use crate::delivering::refuse;
 use crate::errands::{Errand, errand_for};
 use crate::lock_texts::lacks_lock;
 use crate::locks::{blamed_text, full_lock, is_taken, lock_name};
 use crate::outcomes::trial_lines;
+use crate::refusing::{overflow, refuse_act};
 use crate::saying::say_each;
-use crate::trying::{end_of, is_fine_trial, let_go, settle, try_under};
+use crate::trying::{acted_by, is_fine_trial, let_go, settle, try_under};
 use pm_bytes::{Blob, Memory, Name, NameRefused};
 use pm_journal::{Effects, no_lock};
-use pm_meaning::{End, Process, ProgramLine, Run, skip_value, tell};
+use pm_meaning::{Acted, Cause, Process, ProgramLine, Run, tell};
 use pm_recipe::Flags;
 use std::alloc::Global;
 
@@ -50,16 +51,6 @@ pub struct Task<'a> {
     pub purpose: Purpose<'a>,
 }
 
-/// Whether the process ends once such a task is done: the mail was delivered, and no copy of it.
-pub fn is_final(task: &Task<'_>) -> bool
-    ensures { result ≡ ProgramActions.is_final (purpose_of task.now.purpose) task.now.flags }
-{
-    match task.purpose {
-        Purpose::Delivers(_) => !task.flags.copy,
-        Purpose::Filters | Purpose::Captures(_) => false,
-    }
-}
-
 // Whether the task delivers the mail.
 fn is_delivery(task: &Task<'_>) -> bool
     ensures { result ≡ ProgramActions.is_delivery (purpose_of task.now.purpose) }
@@ -71,7 +62,7 @@ fn is_delivery(task: &Task<'_>) -> bool
 #[derive(Drop)]
 pub enum LockFile {
     Free(Option<Name>),
-    Refused,
+    Refused(Cause),
 }
 
 /// Hands the mail to the program of a line that was read so.
@@ -81,10 +72,10 @@ pub fn do_line<D: Effects>(
     task: &Task<'_>,
     word: Option<Blob>,
     line: ProgramLine,
-) -> Result<Option<End>, Memory>
+) -> Result<Acted, Memory>
     ensures carries { let t = task_of task.now in let p = mind_of run.old.process in
         Carries (ProgramActions.do_line t word (work_of t.purpose t.flags (fed_piece t.flags p)) line p)
-        (λ end. turn_of end (mind_of run.new.process)) result
+        (λ acted. acted_with acted (mind_of run.new.process)) result
         run.old.journal run.new.journal (D.told run.old.outside) (D.told run.new.outside) }
     ensures sure { OnErr result (Undelivered task.now.flags run.old.journal run.new.journal) }
 {
@@ -93,9 +84,9 @@ pub fn do_line<D: Effects>(
             let errand = errand_for(alloc, task, command, &run.process)?;
             do_named(alloc, run, task, word, errand)
         }
-        ProgramLine::NoWords => refuse(alloc, run, task.text),
+        ProgramLine::NoWords => refuse_act(alloc, run, Cause::NoWords, task.text),
         ProgramLine::Unusable => refuse_line(alloc, run, task, word),
-        ProgramLine::TooLong(length) => skip_value(alloc, run, length),
+        ProgramLine::TooLong(length) => overflow(alloc, run, length),
     }
 }
 
@@ -105,10 +96,10 @@ fn refuse_line<D: Effects>(
     run: &mut Run<D>,
     task: &Task<'_>,
     word: Option<Blob>,
-) -> Result<Option<End>, Memory>
+) -> Result<Acted, Memory>
     ensures carries { let p = mind_of run.old.process in
-        Carries (refuse_name (unusable_text (task_of task.now) word) p)
-        (λ end. turn_of end (mind_of run.new.process)) result
+        Carries (refuse_act cause.BadName (unusable_text (task_of task.now) word) p)
+        (λ acted. acted_with acted (mind_of run.new.process)) result
         run.old.journal run.new.journal (D.told run.old.outside) (D.told run.new.outside) }
     ensures same { run.new.process ≡ run.old.process }
 {
@@ -118,7 +109,7 @@ fn refuse_line<D: Effects>(
     } else {
         blamed_text(task.lock, task.text)
     };
-    refuse(alloc, run, text)
+    refuse_act(alloc, run, Cause::BadName, text)
 }
 
 // Whether the lock file's name, where one is asked for, can be a file's.
@@ -139,20 +130,20 @@ pub fn do_named<D: Effects>(
     task: &Task<'_>,
     word: Option<Blob>,
     errand: Errand,
-) -> Result<Option<End>, Memory>
+) -> Result<Acted, Memory>
     ensures carries { (work : Mind → Plan Tried) → IsWork task.now.flags errand work
         → Carries (ProgramActions.do_named (task_of task.now) word work (mind_of run.old.process))
-        (λ end. turn_of end (mind_of run.new.process)) result
+        (λ acted. acted_with acted (mind_of run.new.process)) result
         run.old.journal run.new.journal (D.told run.old.outside) (D.told run.new.outside) }
     ensures sure { (work : Mind → Plan Tried) → IsWork task.now.flags errand work
         → OnErr result (Undelivered task.now.flags run.old.journal run.new.journal) }
 {
     match lock_file(alloc, word, &run.process)? {
         LockFile::Free(lock) => do_free(alloc, run, task, lock, errand),
-        LockFile::Refused => {
+        LockFile::Refused(cause) => {
             let_go(errand);
             let text = blamed_text(task.lock, task.text);
-            refuse(alloc, run, text)
+            refuse_act(alloc, run, cause, text)
         }
     }
 }
@@ -163,7 +154,7 @@ fn lock_file(alloc: Global, word: Option<Blob>, process: &Process) -> Result<Loc
 {
     match lock_name(alloc, word) {
         Ok(name) => free_file(alloc, name, process),
-        Err(NameRefused::Unusable) => Ok(LockFile::Refused),
+        Err(NameRefused::Unusable) => Ok(LockFile::Refused(Cause::BadName)),
         Err(NameRefused::Memory) => Err(Memory),
     }
 }
@@ -174,7 +165,7 @@ fn free_file(alloc: Global, name: Option<Name>, process: &Process) -> Result<Loc
 {
     let lock = full_lock(alloc, &process.base, name)?;
     if is_taken(&lock, &[], &process.locks) {
-        Ok(LockFile::Refused)
+        Ok(LockFile::Refused(Cause::NameIsLock))
     } else {
         Ok(LockFile::Free(lock))
     }
@@ -187,12 +178,12 @@ fn do_free<D: Effects>(
     task: &Task<'_>,
     lock: Option<Name>,
     errand: Errand,
-) -> Result<Option<End>, Memory>
+) -> Result<Acted, Memory>
     requires free { IsFreeLock lock run.old.process.locks.names }
     ensures carries { (work : Mind → Plan Tried) → IsWork task.now.flags errand work
         → let t = task_of task.now in let p = mind_of run.old.process in
         Carries (told_first t p (ProgramActions.try_and_say t lock work p))
-        (λ end. turn_of end (mind_of run.new.process)) result
+        (λ acted. acted_with acted (mind_of run.new.process)) result
         run.old.journal run.new.journal (D.told run.old.outside) (D.told run.new.outside) }
     ensures sure { (work : Mind → Plan Tried) → IsWork task.now.flags errand work
         → OnErr result (Undelivered task.now.flags run.old.journal run.new.journal) }
@@ -203,10 +194,10 @@ fn do_free<D: Effects>(
 
 // Tells that there is no automatic lock file, where one is asked for.
 fn tell_first<D: Effects>(alloc: Global, run: &mut Run<D>, task: &Task<'_>) -> Result<(), Memory>
-    ensures told { (next : Plan Turn) → IfOk result (λ _. LeadsTo
+    ensures told { (next : Plan ActEnd) → IfOk result (λ _. LeadsTo
         (told_first (task_of task.now) (mind_of run.old.process) next) next
         run.old.journal run.new.journal (D.told run.old.outside) (D.told run.new.outside)) }
-    ensures memory { (next : Plan Turn) → OnErr result (OutOfMemory
+    ensures memory { (next : Plan ActEnd) → OnErr result (OutOfMemory
         (told_first (task_of task.now) (mind_of run.old.process) next)
         run.old.journal run.new.journal (D.told run.old.outside) (D.told run.new.outside)) }
     ensures same { run.new.process ≡ run.old.process }
@@ -225,20 +216,20 @@ fn try_and_say<D: Effects>(
     task: &Task<'_>,
     lock: Option<Name>,
     errand: Errand,
-) -> Result<Option<End>, Memory>
+) -> Result<Acted, Memory>
     requires free { IsFreeLock lock run.old.process.locks.names }
     ensures carries { (work : Mind → Plan Tried) → IsWork task.now.flags errand work
         → Carries (ProgramActions.try_and_say (task_of task.now) lock work (mind_of run.old.process))
-        (λ end. turn_of end (mind_of run.new.process)) result
+        (λ acted. acted_with acted (mind_of run.new.process)) result
         run.old.journal run.new.journal (D.told run.old.outside) (D.told run.new.outside) }
     ensures sure { (work : Mind → Plan Tried) → IsWork task.now.flags errand work
         → OnErr result (Undelivered task.now.flags run.old.journal run.new.journal) }
 {
     let trial = try_under(alloc, run, lock, errand, task.flags)?;
     settle(&trial, &mut run.process);
-    let end = end_of(is_final(task), &trial);
+    let acted = acted_by(task, &trial);
     let mut lines = trial_lines(alloc, task.flags, task.text, &trial)?;
     let delivered = is_delivery(task) && is_fine_trial(&trial);
     push_copy(alloc, delivered, task.flags, &run.process, &mut lines)?;
-    say_each(alloc, run, lines, end)
+    say_each(alloc, run, lines, acted)
 }

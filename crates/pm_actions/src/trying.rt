@@ -6,18 +6,19 @@ ghost use Rattle.pm_journal.specs.Plan.{Plan};
 ghost use Rattle.pm_meaning.specs.Minds.{Mind, mind_of};
 ghost use Rattle.pm_meaning.specs.ProgramActions.{Tried};
 ghost use Rattle.pm_meaning.specs.ProgramActions;
-ghost use Rattle.pm_meaning.specs.ProgramActions.{settled_by, trial_turn};
+ghost use Rattle.pm_meaning.specs.ProgramActions.{settled_by, trial_acted};
 ghost use Rattle.pm_actions.specs.Copies.{IsFreeLock};
-ghost use Rattle.pm_actions.specs.Errands.{trying_of, IsWork, is_for_good};
-ghost use Rattle.pm_meaning.specs.Turning.{turn_of};
+ghost use Rattle.pm_actions.specs.Errands.{task_of, trying_of, IsWork, is_for_good};
 
 use crate::attempting::is_stuck;
+use crate::delivering::all_stored;
 use crate::ends::is_fine;
 use crate::errands::{Errand, carry};
 use crate::locks::lock_rule;
+use crate::tasks::{Purpose, Task};
 use pm_bytes::{Memory, Name};
 use pm_journal::{Effects, HeldLocks, Journal, LockEnd, give, take};
-use pm_meaning::{End, Process, Run, Trial, succeed};
+use pm_meaning::{Acted, Cause, Outcome, Process, Run, Trial, succeed};
 use pm_recipe::Flags;
 use std::alloc::Global;
 
@@ -143,9 +144,15 @@ fn try_locked<D: Effects>(
                 stuck,
             })
         }
-        LockEnd::Busy | LockEnd::Failed => {
+        LockEnd::Busy => {
             let_go(errand);
-            Ok(Trial::NotLocked(name))
+            let cause = Cause::Busy;
+            Ok(Trial::NotLocked { name, cause })
+        }
+        LockEnd::Failed => {
+            let_go(errand);
+            let cause = Cause::LockFailed;
+            Ok(Trial::NotLocked { name, cause })
         }
     }
 }
@@ -159,7 +166,7 @@ pub fn is_fine_trial(trial: &Trial) -> bool
 {
     match trial {
         Trial::Unlocked(outcome) => is_fine(*outcome),
-        Trial::NotLocked(_) => false,
+        Trial::NotLocked { .. } => false,
         Trial::Locked { outcome, .. } => is_fine(*outcome),
     }
 }
@@ -174,13 +181,38 @@ pub fn settle(trial: &Trial, process: &mut Process)
     }
 }
 
-/// Where the errand is the last and was done, it ends the process.
-pub fn end_of(last: bool, trial: &Trial) -> Option<End>
-    ensures { (p : Mind) → trial_turn last trial.now p ≡ turn_of result p }
+/// What came of the task.
+pub fn acted_by(task: &Task<'_>, trial: &Trial) -> Acted
+    ensures { let t = task_of task.now in result ≡ trial_acted t.purpose t.flags trial.now }
 {
-    if last && is_fine_trial(trial) {
-        Some(End::Delivered)
-    } else {
-        None
+    match trial {
+        Trial::Unlocked(outcome) => outcome_acted(task, *outcome),
+        Trial::NotLocked { cause, .. } => Acted::Failed(*cause),
+        Trial::Locked { outcome, .. } => outcome_acted(task, *outcome),
+    }
+}
+
+fn outcome_acted(task: &Task<'_>, outcome: Outcome) -> Acted
+    ensures { let t = task_of task.now in result ≡ ProgramActions.outcome_acted t.purpose t.flags outcome }
+{
+    match outcome {
+        Outcome::Done => done_acted(task),
+        Outcome::NotStarted => Acted::Failed(Cause::NotStarted),
+        Outcome::Lost => Acted::Failed(Cause::Broken),
+        Outcome::Closed => Acted::Failed(Cause::Closed),
+        Outcome::Code(code) => Acted::Failed(Cause::Code(code)),
+        Outcome::TooLong => Acted::Failed(Cause::TooLong),
+        Outcome::Overflow(length) => Acted::Failed(Cause::Overflow { length }),
+        Outcome::Unwritten => Acted::Failed(Cause::WriteFailed),
+    }
+}
+
+// What a task comes to that was done.
+fn done_acted(task: &Task<'_>) -> Acted
+    ensures { let t = task_of task.now in result ≡ ProgramActions.done_acted t.purpose t.flags }
+{
+    match task.purpose {
+        Purpose::Delivers(_) => all_stored(task.flags),
+        Purpose::Filters | Purpose::Captures(_) => Acted::Went,
     }
 }

@@ -20,8 +20,8 @@ use Rattle.pm_meaning.specs.Logging.{log, logged}
 use Rattle.pm_meaning.specs.Minds.{Mind}
 use Rattle.pm_meaning.specs.Turns.{say_then}
 use Rattle.pm_meaning.proofs.Choices.{line_told}
-use Rattle.pm_meaning.specs.Judging.{held_with, holding}
-use Rattle.pm_conds.specs.Holding.{Holds, verdict_of}
+use Rattle.pm_meaning.specs.Judging.{held_with}
+use Rattle.pm_conds.specs.Holding.{Holds, holding_alone, verdict_of}
 
 -- what was done, whoever holds the objects
 accounts_held : (refs : List ℕ) (es : List Entry) (a b : HostView) (out err s : StreamView) → Accounts es (view_of a out err) (view_of b out s) → Accounts es (seen_by refs a out err) (seen_by refs b out s)
@@ -68,7 +68,7 @@ left_held refs act (Err f) a b out err h = record {
 
 -- the verdict of what was carried out
 pub verdict_holds : (conditions : List Condition) (flags : Flags) (p q : Mind) (result : Result Bool Memory) (x y : JournalState) (a b : View)
-    → Carries (holding conditions flags p) (λ held. held_with held q) result x y a b → Holds (verdict_of result) conditions flags p q x y a b
+    → Carries (holding_alone conditions flags p) (λ held. held_with held q) result x y a b → Holds (verdict_of result) conditions flags p q x y a b
 verdict_holds conditions flags p q (Ok true) x y a b h = h.0
 verdict_holds conditions flags p q (Ok false) x y a b h = h.0
 verdict_holds conditions flags p q (Err e) x y a b h = h.1

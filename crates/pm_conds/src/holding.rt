@@ -7,20 +7,21 @@ ghost use Rattle.pm_journal.specs.Held.{Keeping};
 ghost use Rattle.pm_journal.specs.LogText.{defective_condition_line, value_too_long_line};
 ghost use Rattle.pm_meaning.specs.Changes.{overflowed};
 ghost use Rattle.pm_meaning.specs.Judging.{holding, held_with, told_judgement};
+ghost use Rattle.pm_meaning.specs.Apart.{judged_of};
 ghost use Rattle.pm_meaning.specs.Minds.{mind_of};
 ghost use Rattle.pm_meaning.specs.Turns.{say_then};
-ghost use Rattle.pm_conds.specs.Holding.{Holds, verdict_of};
+ghost use Rattle.pm_conds.specs.Holding.{Holds, holding_alone, verdict_of};
 ghost use Rattle.pm_conds.specs.Notes.{HearsHeld};
 
 use crate::asked::Asked;
 use crate::conditions::judge;
 use crate::observer::{NoObserver, Observer};
 use core::mem::replace_with;
-use pm_bytes::{Blob, Memory};
+use pm_bytes::{Blob, Memory, Name};
 use pm_host::{Host, Sink};
 use pm_journal::{Asks, Journal, defective_condition, value_too_long};
 use pm_meaning::question::Judgement;
-use pm_meaning::{Process, Run, tell};
+use pm_meaning::{Mind, Process, Run, tell};
 use pm_recipe::{Condition, Flags};
 use std::alloc::Global;
 use std::mem;
@@ -39,7 +40,7 @@ pub fn holds<H: Host, E: Sink>(
     alloc: Global,
     conditions: &[Condition],
     flags: &Flags,
-    mind: &mut Process,
+    mind: &mut Mind,
     host: &mut H,
     err: &mut E,
     journal: &mut Journal,
@@ -47,9 +48,10 @@ pub fn holds<H: Host, E: Sink>(
 ) -> Verdict
     requires keeping { Keeping journal.old mind.old.locks.names }
     ensures holds { (told : StreamView) → told.faults ≡ out →
-        Holds result conditions.now flags.now (mind_of mind.old) (mind_of mind.new) journal.old journal.new
+        Holds result conditions.now flags.now (judged_of mind.old) (judged_of mind.new) journal.old journal.new
         (view_of (H.told host.old) told (E.told err.old)) (view_of (H.told host.new) told (E.told err.new)) }
     ensures keeping { Keeping journal.new mind.new.locks.names }
+    ensures rcfiles { mind.new.rcfiles ≡ mind.old.rcfiles }
 {
     let mut asked = Asked { host, err, out };
     hold_lent(alloc, conditions, *flags, mind, &mut asked, journal)
@@ -70,20 +72,44 @@ fn hold_lent<'a, H: Host, E: Sink>(
     alloc: Global,
     conditions: &[Condition],
     flags: Flags,
-    mind: &mut Process,
+    mind: &mut Mind,
     asked: &mut Asked<'a, H, E>,
     journal: &mut Journal,
 ) -> Verdict
     requires keeping { Keeping journal.old mind.old.locks.names }
     ensures holds { (told : StreamView) → told.faults ≡ asked.old.out →
-        Holds result conditions.now flags (mind_of mind.old) (mind_of mind.new) journal.old journal.new
+        Holds result conditions.now flags (judged_of mind.old) (judged_of mind.new) journal.old journal.new
         (view_of (H.told asked.old.host.now) told (E.told asked.old.err.now))
         (view_of (H.told asked.new.host.now) told (E.told asked.new.err.now)) }
     ensures keeping { Keeping journal.new mind.new.locks.names }
+    ensures rcfiles { mind.new.rcfiles ≡ mind.old.rcfiles }
     ensures host { asked.new.host.ghost_name ≡ asked.old.host.ghost_name }
     ensures err { asked.new.err.ghost_name ≡ asked.old.err.ghost_name }
 {
-    answered(hold_parts(alloc, conditions, flags, mind, asked, journal))
+    answered(hold_mind(alloc, conditions, flags, mind, asked, journal))
+}
+
+// The same of a mind, whose process is taken out of it for that.
+fn hold_mind<D: Asks>(
+    alloc: Global,
+    conditions: &[Condition],
+    flags: Flags,
+    mind: &mut Mind,
+    outside: &mut D,
+    journal: &mut Journal,
+) -> Result<bool, Memory>
+    requires keeping { Keeping journal.old mind.old.locks.names }
+    ensures carries { Carries (holding_alone conditions.now flags (judged_of mind.old))
+        (λ held. held_with held (judged_of mind.new)) result
+        journal.old journal.new (D.told outside.old) (D.told outside.new) }
+    ensures keeping { Keeping journal.new mind.new.locks.names }
+    ensures rcfiles { mind.new.rcfiles ≡ mind.old.rcfiles }
+{
+    let nowhere = Name::from_text(String::new(alloc));
+    let mut process = mind.take(alloc, nowhere, 0)?;
+    let held = hold_parts(alloc, conditions, flags, &mut process, outside, journal);
+    mind.restore(process);
+    held
 }
 
 // Whether the conditions hold, by the parts of a run.

@@ -21,7 +21,7 @@ use Rattle.pm_meaning.specs.Destinations.{destination_of, full_of}
 use Rattle.pm_meaning.specs.GlobalLock.{give_named}
 use Rattle.pm_meaning.specs.Logging.{log}
 use Rattle.pm_meaning.specs.Minds.{Mind}
-use Rattle.pm_meaning.specs.Turns.{Turn, GoesOn, Halts, Enters, Includes, Switches, EndsFile, Clones, say_then}
+use Rattle.pm_meaning.specs.Turns.{Turn, GoesOn, Halts, Enters, Includes, Switches, EndsFile, Clones, ActEnd, for_good, say_then}
 use Rattle.pm_meaning.specs.declared.process.End.{End}
 use Rattle.pm_meaning.specs.declared.process.End.TheVariants.{Delivered, FellOff, NoRc, HostOff}
 use Rattle.pm_meaning.specs.Completeness.{AllServed, IsContent, FoundFolder, HasDefault, IsClear, IsWell, EndsWell}
@@ -37,7 +37,6 @@ use Rattle.pm_meaning.proofs.DeliveredLast.{advanced}
 use Rattle.pm_meaning.proofs.EndStatus.{well_is_success}
 use Rattle.pm_meaning.proofs.FirstKept.{parts_through, on_with, over_own}
 use Rattle.pm_meaning.proofs.Lines.{at_end, then_end}
-use Rattle.pm_meaning.proofs.NoDelivery.{delivers}
 use Rattle.pm_meaning.proofs.NoLast.{FailsMidway, never_prepared, never_setting, never_opened, never_left, never_refused}
 use Rattle.pm_meaning.proofs.NoStray.{is_stray_end, strays, never_statement}
 use Rattle.pm_meaning.proofs.OneOutcome.{not_over}
@@ -115,20 +114,12 @@ fares_turn tree count rest (EndsFile p) h = tt
 fares_turn tree count rest (Clones p) h = tt
 
 -- a default mailbox that got the mail
-well_delivered : (end : End) (p : Mind) → delivers (Halts end p) ≡ true → IsWell end
-well_delivered Delivered p h = tt
-well_delivered HostOff p h = tt
-well_delivered FellOff p h = let e : false ≡ true = h in absurd (cc)
-well_delivered NoRc p h = let e : false ≡ true = h in absurd (cc)
+fares_good : (b : Bool) (rest : List (List ℕ)) (p : Mind) → b ≡ true → FaresOn (if b then Go (Over Delivered p) else Go (FallingOff rest p))
+fares_good true rest p h = tt
+fares_good false rest p h = let e : false ≡ true = h in absurd (cc)
 
-fares_default : (rest : List (List ℕ)) (turn : Turn) → delivers turn ≡ true → FaresOn (next_default rest turn)
-fares_default rest (Halts end p) h = well_delivered end p h
-fares_default rest (GoesOn p) h = let e : false ≡ true = h in absurd (cc)
-fares_default rest (Enters lock p) h = let e : false ≡ true = h in absurd (cc)
-fares_default rest (Includes name p) h = let e : false ≡ true = h in absurd (cc)
-fares_default rest (Switches name p) h = let e : false ≡ true = h in absurd (cc)
-fares_default rest (EndsFile p) h = let e : false ≡ true = h in absurd (cc)
-fares_default rest (Clones p) h = let e : false ≡ true = h in absurd (cc)
+fares_default : (rest : List (List ℕ)) (came : ActEnd) → for_good came ≡ true → FaresOn (next_default rest came)
+fares_default rest came h = fares_good (for_good came) rest came.mind h
 
 fares_left : (end : End) (p : Mind) → IsWell end → Fares (left_by end p)
 fares_left Delivered p h = tt

@@ -15,20 +15,20 @@ use Rattle.pm_journal.specs.declared.placing.FolderKind.{FolderKind}
 use Rattle.pm_journal.specs.declared.placing.FolderKind.TheVariants.{Plain}
 use Rattle.pm_journal.proofs.WalkJoin.{parts_of}
 use Rattle.pm_meaning.specs.Abstracts.{copy_lines}
-use Rattle.pm_meaning.specs.Delivering.{folder_piece, mailbox_piece, Filing, placed_by, placed_at, in_folder, plain_prefix, appended_by, file_as, file_one, file_size, is_stored, file_all, Attempted, give_back, under_lock, attempt, attempt_lines, attempt_turn, is_done, settled, after_attempt, file_and_say, deliver_at, deliver_named, no_flags, deliver_default}
+use Rattle.pm_meaning.specs.Delivering.{folder_piece, mailbox_piece, Filing, placed_by, placed_at, in_folder, plain_prefix, appended_by, file_as, file_one, file_size, is_stored, file_all, Attempted, give_back, under_lock, attempt, attempt_lines, attempt_acted, is_done, settled, after_attempt, file_and_say, deliver_at, deliver_named, no_flags, deliver_default}
 use Rattle.pm_meaning.specs.Changes.{counted, stored_in}
 use Rattle.pm_meaning.specs.Destinations.{destination_of, full_of, are_file_texts}
 use Rattle.pm_meaning.specs.Locks.{is_nothing, is_lock_word, full_lock, is_taken, any_held, with_lock}
 use Rattle.pm_meaning.specs.Minds.{Mind}
-use Rattle.pm_meaning.specs.Turns.{Turn, refuse_name}
+use Rattle.pm_meaning.specs.Turns.{ActEnd, is_for_good, for_good, refuse_act}
+use Rattle.pm_meaning.specs.declared.acted.Cause.TheVariants as cause
 use Rattle.pm_meaning.specs.declared.process.Attempt.{Attempt}
 use Rattle.pm_meaning.specs.declared.process.Attempt.TheVariants.{Unlocked, NotLocked, Locked}
 use Rattle.pm_meaning.specs.declared.process.Destination.{Destination}
 use Rattle.pm_meaning.specs.declared.process.Filed.{Filed}
-use Rattle.pm_meaning.specs.declared.process.Filed.TheVariants.{Stored, Unwritten, Left, Crowded, Unnamed}
+use Rattle.pm_meaning.specs.declared.process.Filed.TheVariants.{Stored, Unwritten, Raced, Left, Crowded, Unnamed}
 use Rattle.pm_meaning.specs.Completeness.{IsHeld, IsTaken, IsFiledAway, IsServed, AllServed, file_of, lock_of, CanTake, IsFolderAt, FoundFolder}
 use Rattle.pm_meaning.proofs.MailboxDelivered.{all_said}
-use Rattle.pm_meaning.proofs.NoDelivery.{delivers}
 
 pub served_front : (front rest : List Entry) → AllServed (front ++ rest) → AllServed front
 served_front [] rest h = tt
@@ -160,32 +160,33 @@ attempted (Some name) flags d p (e ∷ es) done usable served h =
     let held : IsHeld e.reply = subst (λ a. IsServed a e.reply) h.0 served.0 in
     locked name flags d p e.reply es done (λ found. usable (inr found)) held served.1 h.2
 
-filed_ends : (filed : Filed) (p : Mind) → is_stored filed ≡ true → delivers (attempt_turn no_flags (Unlocked filed) p) ≡ true
-filed_ends Stored p h = refl
-filed_ends Unnamed p h = let e : false ≡ true = h in absurd (cc)
-filed_ends (Crowded name) p h = let e : false ≡ true = h in absurd (cc)
-filed_ends (Unwritten name) p h = let e : false ≡ true = h in absurd (cc)
-filed_ends (Left name count) p h = let e : false ≡ true = h in absurd (cc)
+filed_ends : (filed : Filed) → is_stored filed ≡ true → is_for_good (attempt_acted no_flags (Unlocked filed)) ≡ true
+filed_ends Stored h = refl
+filed_ends Unnamed h = let e : false ≡ true = h in absurd (cc)
+filed_ends (Crowded name) h = let e : false ≡ true = h in absurd (cc)
+filed_ends (Unwritten name) h = let e : false ≡ true = h in absurd (cc)
+filed_ends (Raced name) h = let e : false ≡ true = h in absurd (cc)
+filed_ends (Left name count) h = let e : false ≡ true = h in absurd (cc)
 
-done_ends : (attempt : Attempt) (p : Mind) → is_done attempt ≡ true → delivers (attempt_turn no_flags attempt p) ≡ true
-done_ends (Unlocked filed) p h = filed_ends filed p h
-done_ends (NotLocked name) p h = let e : false ≡ true = h in absurd (cc)
-done_ends (Locked name forced filed stuck) p h = filed_ends filed p h
+done_ends : (attempt : Attempt) → is_done attempt ≡ true → is_for_good (attempt_acted no_flags attempt) ≡ true
+done_ends (Unlocked filed) h = filed_ends filed h
+done_ends (NotLocked name cause) h = let e : false ≡ true = h in absurd (cc)
+done_ends (Locked name forced filed stuck) h = filed_ends filed h
 
-said : (lock : Option (List ℕ)) (text : List ℕ) (d : Destination) (p : Mind) (es : List Entry) (turn : Turn) → Prefixed (full_of p.base d) p es → AllServed es
-    → Plays (file_and_say no_flags lock text (d ∷ []) p) es turn → delivers turn ≡ true
-said lock text d p es turn usable served h =
-    let k = parts_of (attempt lock no_flags (d ∷ []) p) (after_attempt no_flags text) es turn h in
+said : (lock : Option (List ℕ)) (text : List ℕ) (d : Destination) (p : Mind) (es : List Entry) (end : ActEnd) → Prefixed (full_of p.base d) p es → AllServed es
+    → Plays (file_and_say no_flags lock text (d ∷ []) p) es end → for_good end ≡ true
+said lock text d p es end usable served h =
+    let k = parts_of (attempt lock no_flags (d ∷ []) p) (after_attempt no_flags text) es end h in
     let done = k.middle in
     let q = settled done.attempt done.mind in
     let fine = attempted lock no_flags d p k.front done (prefixed_front (full_of p.base d) p es k.front k.rest k.whole usable) (served_front k.front k.rest (subst AllServed k.whole served)) k.plays_front in
-    let told = all_said q (attempt_lines text done.attempt ++ copy_lines (is_done done.attempt) no_flags q) (attempt_turn no_flags done.attempt q) turn k.rest k.plays_rest in
-    ap delivers told.same ∙ done_ends done.attempt q fine
+    let told = all_said q (attempt_lines text done.attempt ++ copy_lines (is_done done.attempt) no_flags q) (record { acted = attempt_acted no_flags done.attempt; mind = q }) end k.rest k.plays_rest in
+    ap for_good told.same ∙ done_ends done.attempt fine
 
 -- a default mailbox that can take the mail gets it
-pub default_delivers : (mailbox : List ℕ) (p : Mind) (es : List Entry) (turn : Turn) → CanTake mailbox p
-    → (FoundFolder (full_of p.base (destination_of mailbox)) es → is_usable (plain_prefix p) ≡ true) → AllServed es → Plays (deliver_default mailbox p) es turn → delivers turn ≡ true
-default_delivers mailbox p es turn can usable served h =
+pub default_delivers : (mailbox : List ℕ) (p : Mind) (es : List Entry) (end : ActEnd) → CanTake mailbox p
+    → (FoundFolder (full_of p.base (destination_of mailbox)) es → is_usable (plain_prefix p) ≡ true) → AllServed es → Plays (deliver_default mailbox p) es end → for_good end ≡ true
+default_delivers mailbox p es end can usable served h =
     let word = lock_of mailbox p in
     let lock = full_lock p.base word in
     let words = mailbox ∷ [] in
@@ -193,9 +194,9 @@ default_delivers mailbox p es turn can usable served h =
     let named = deliver_named no_flags word mailbox mailbox words p in
     let at = deliver_at no_flags lock mailbox mailbox (d ∷ []) p in
     let filing = file_and_say no_flags lock mailbox (d ∷ []) p in
-    let free : Plan Turn = if any_held (file_of mailbox p) p.locks then refuse_name mailbox p else filing in
-    let a = chosen_false (not (is_lock_word word)) (refuse_name mailbox p) named es turn (not_not (is_lock_word word) can.lock_named) h in
-    let b = chosen_false (not (are_file_texts words)) (refuse_name mailbox p) at es turn (not_not (are_file_texts words) can.named) a in
-    let c = chosen_false (is_taken lock (file_of mailbox p) p.locks) (refuse_name mailbox p) free es turn can.lock_free b in
-    let last = chosen_false (any_held (file_of mailbox p) p.locks) (refuse_name mailbox p) filing es turn can.no_lock c in
-    said lock mailbox d p es turn usable served last
+    let free : Plan ActEnd = if any_held (file_of mailbox p) p.locks then refuse_act cause.NameIsLock mailbox p else filing in
+    let a = chosen_false (not (is_lock_word word)) (refuse_act cause.BadName mailbox p) named es end (not_not (is_lock_word word) can.lock_named) h in
+    let b = chosen_false (not (are_file_texts words)) (refuse_act cause.BadName mailbox p) at es end (not_not (are_file_texts words) can.named) a in
+    let c = chosen_false (is_taken lock (file_of mailbox p) p.locks) (refuse_act cause.NameIsLock mailbox p) free es end can.lock_free b in
+    let last = chosen_false (any_held (file_of mailbox p) p.locks) (refuse_act cause.NameIsLock mailbox p) filing es end can.no_lock c in
+    said lock mailbox d p es end usable served last

@@ -17,7 +17,7 @@ use Rattle.pm_meaning.specs.Delivering.{deliver_default}
 use Rattle.pm_meaning.specs.GlobalLock.{give_named}
 use Rattle.pm_meaning.specs.Locks.{value_or}
 use Rattle.pm_meaning.specs.Minds.{Mind}
-use Rattle.pm_meaning.specs.Turns.{Turn, GoesOn, Halts, Enters, Includes, Switches, EndsFile, Clones}
+use Rattle.pm_meaning.specs.Turns.{Turn, GoesOn, Halts, Enters, Includes, Switches, EndsFile, Clones, ActEnd, for_good}
 use Rattle.pm_meaning.specs.declared.process.End.{End}
 use Rattle.pm_meaning.specs.declared.process.End.TheVariants.{Delivered, FellOff, NoRc, HostOff}
 use Rattle.pm_meaning.specs.Courses.{Others, Course, now_at, with_copy, onward, advance, alone, run_of}
@@ -59,14 +59,12 @@ turn_unsettled tree count rest (Switches name p) = refl
 turn_unsettled tree count rest (EndsFile p) = refl
 turn_unsettled tree count rest (Clones p) = refl
 
-default_unsettled : (rest : List (List ℕ)) (turn : Turn) → is_settled (next_default rest turn) ≡ false
-default_unsettled rest (GoesOn p) = refl
-default_unsettled rest (Halts end p) = refl
-default_unsettled rest (Enters lock p) = refl
-default_unsettled rest (Includes name p) = refl
-default_unsettled rest (Switches name p) = refl
-default_unsettled rest (EndsFile p) = refl
-default_unsettled rest (Clones p) = refl
+either_unsettled : (b : Bool) (rest : List (List ℕ)) (p : Mind) → is_settled (if b then Go (Over Delivered p) else Go (FallingOff rest p)) ≡ false
+either_unsettled true rest p = refl
+either_unsettled false rest p = refl
+
+default_unsettled : (rest : List (List ℕ)) (came : ActEnd) → is_settled (next_default rest came) ≡ false
+default_unsettled rest came = either_unsettled (for_good came) rest came.mind
 
 left_unsettled : (end : End) (p : Mind) → is_settled (Go (left_by end p)) ≡ false
 left_unsettled Delivered p = refl
@@ -86,7 +84,7 @@ running_unsettled (FileEnd name ∷ rest) p = never_ends is_settled (Go (Running
 
 falling_unsettled : (mailboxes : List (List ℕ)) (p : Mind) → Never is_settled (step (FallingOff mailboxes p))
 falling_unsettled [] p = never_said is_settled p no_delivery_line (Go (Over FellOff p)) refl
-falling_unsettled (mailbox ∷ rest) p = leads_to (deliver_default mailbox p) (λ turn. next_default rest turn) (λ turn. default_unsettled rest turn)
+falling_unsettled (mailbox ∷ rest) p = leads_to (deliver_default mailbox p) (λ came. next_default rest came) (λ came. default_unsettled rest came)
 
 leaving_unsettled : (locks : List (Option (List ℕ))) (end : End) (p : Mind) → Never is_settled (step (Leaving locks end p))
 leaving_unsettled [] end p = never_ends is_settled (Go (left_by end p)) (left_unsettled end p)

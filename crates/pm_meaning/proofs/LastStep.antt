@@ -1,5 +1,6 @@
 -- The last step of a process before it is over as delivered is a delivery.
-use Rattle.std.proofs.Common.{◌≡◌, ◌⊎◌, inl, inr, ℕ, true, false, List, [], ◌∷◌, ◌++◌, Option, Some, refl, sym, ap, ◌∙◌, subst, append-nil}
+use Rattle.std.proofs.Common.{◌≡◌, ◌⊎◌, inl, inr, ℕ, Bool, true, false, List, [], ◌∷◌, ◌++◌, Option, Some, refl, sym, ap, ◌∙◌, subst, append-nil}
+use Rattle.std.specs.Prelude.{if◌then◌else◌}
 use Rattle.pm_recipe.specs.Tree.{Tree}
 use Rattle.pm_journal.specs.declared.acts.Entry.{Entry}
 use Rattle.pm_journal.specs.Plan.{Plan, Ends, Plays}
@@ -10,7 +11,7 @@ use Rattle.pm_meaning.specs.Changes.{with_rcfile}
 use Rattle.pm_meaning.specs.Delivering.{no_flags, deliver_default}
 use Rattle.pm_meaning.specs.GlobalLock.{give_named}
 use Rattle.pm_meaning.specs.Minds.{Mind}
-use Rattle.pm_meaning.specs.Turns.{Turn, GoesOn, Halts, Enters, Includes, Switches, EndsFile, Clones}
+use Rattle.pm_meaning.specs.Turns.{Turn, GoesOn, Halts, Enters, Includes, Switches, EndsFile, Clones, ActEnd, for_good}
 use Rattle.pm_meaning.specs.declared.process.End.{End}
 use Rattle.pm_meaning.specs.declared.process.End.TheVariants.{Delivered}
 use Rattle.pm_meaning.specs.declared.ending.Ending.{Ending}
@@ -34,14 +35,12 @@ last_turn tree count rest (Switches name p) e = e
 last_turn tree count rest (EndsFile p) e = e
 last_turn tree count rest (Clones p) e = e
 
-last_default : (rest : List (List ℕ)) (turn : Turn) → is_last (next_default rest turn) ≡ true → delivers turn ≡ true
-last_default rest (GoesOn p) e = e
-last_default rest (Halts end p) e = e
-last_default rest (Enters lock p) e = e
-last_default rest (Includes name p) e = e
-last_default rest (Switches name p) e = e
-last_default rest (EndsFile p) e = e
-last_default rest (Clones p) e = e
+last_good : (b : Bool) (rest : List (List ℕ)) (p : Mind) → is_last (if b then Go (Over Delivered p) else Go (FallingOff rest p)) ≡ true → b ≡ true
+last_good true rest p e = refl
+last_good false rest p e = e
+
+last_default : (rest : List (List ℕ)) (came : ActEnd) → is_last (next_default rest came) ≡ true → for_good came ≡ true
+last_default rest came e = last_good (for_good came) rest came.mind e
 
 by_turn : (rest : List Item) (turn : Turn) (tree : Tree) (p : Mind) (front later : List Entry) (next : Next State Event)
     → Plays (statement tree p) front turn → Plays (Ends (next_of tree p.openings rest turn)) later next → is_last next ≡ true → DeliversTree tree p (front ++ later)
@@ -49,10 +48,10 @@ by_turn rest turn tree p front [] next h k passes =
     subst (DeliversTree tree p) (sym (append-nil front)) (by_statement tree p front turn h (last_turn tree p.openings rest turn (sym (ap is_last k) ∙ passes)))
 by_turn rest turn tree p front (e ∷ later) next h k passes = absurd k
 
-by_default : (mailbox : List ℕ) (rest : List (List ℕ)) (p : Mind) (turn : Turn) (front later : List Entry) (next : Next State Event)
-    → Plays (deliver_default mailbox p) front turn → Plays (Ends (next_default rest turn)) later next → is_last next ≡ true → DeliversState (FallingOff (mailbox ∷ rest) p) (front ++ later)
-by_default mailbox rest p turn front [] next h k passes =
-    let here = delivered_to no_flags (Some []) [] mailbox (mailbox ∷ []) p front turn h (last_default rest turn (sym (ap is_last k) ∙ passes)) in
+by_default : (mailbox : List ℕ) (rest : List (List ℕ)) (p : Mind) (came : ActEnd) (front later : List Entry) (next : Next State Event)
+    → Plays (deliver_default mailbox p) front came → Plays (Ends (next_default rest came)) later next → is_last next ≡ true → DeliversState (FallingOff (mailbox ∷ rest) p) (front ++ later)
+by_default mailbox rest p came front [] next h k passes =
+    let here = delivered_to no_flags (Some []) [] mailbox (mailbox ∷ []) p front came h (last_default rest came (sym (ap is_last k) ∙ passes)) in
     record {
       flags = no_flags;
       mind = p;
@@ -62,7 +61,7 @@ by_default mailbox rest p turn front [] next h k passes =
       final = here.final;
       made = in_files (mailbox ∷ []) (refl, refl, refl, refl) here.usable here.filed;
     }
-by_default mailbox rest p turn front (e ∷ later) next h k passes = absurd k
+by_default mailbox rest p came front (e ∷ later) next h k passes = absurd k
 
 running_last : (items : List Item) (p : Mind) (es : List Entry) (next : Next State Event) → Plays (step (Running items p)) es next → is_last next ≡ true → DeliversState (Running items p) es
 running_last [] p es next h passes = absurd (never_ends is_last (Go (FallingOff (default_mailboxes p.vars) p)) refl es next h passes)
@@ -78,7 +77,7 @@ running_last (FileEnd name ∷ rest) p es next h passes = absurd (never_ends is_
 falling_last : (mailboxes : List (List ℕ)) (p : Mind) (es : List Entry) (next : Next State Event) → Plays (step (FallingOff mailboxes p)) es next → is_last next ≡ true → DeliversState (FallingOff mailboxes p) es
 falling_last [] p es next h passes = absurd (never_lost p es next h passes)
 falling_last (mailbox ∷ rest) p es next h passes =
-    let k = parts_of (deliver_default mailbox p) (λ turn. Ends (next_default rest turn)) es next h in
+    let k = parts_of (deliver_default mailbox p) (λ came. Ends (next_default rest came)) es next h in
     subst (DeliversState (FallingOff (mailbox ∷ rest) p)) (sym k.whole) (by_default mailbox rest p k.middle k.front k.rest next k.plays_front k.plays_rest passes)
 
 -- the process is over as delivered

@@ -21,12 +21,14 @@ use Rattle.pm_meaning.specs.Changes.{with_variable, with_base, without_variable,
 use Rattle.pm_meaning.specs.Logging.{log}
 use Rattle.pm_meaning.specs.Minds.{Mind}
 use Rattle.pm_meaning.specs.Outputs.{Outputs, outputs_of}
-use Rattle.pm_meaning.specs.Turns.{Turn, GoesOn, Halts, Enters, Includes, Switches, EndsFile, Clones, say_then, refuse_name, is_too_long, length_in, skip_value}
+use Rattle.pm_meaning.specs.Turns.{Turn, GoesOn, Halts, Enters, Includes, Switches, EndsFile, Clones, ActEnd, for_good, failed, refuse_act, overflow_act, skip_act, say_then, refuse_name, is_too_long, length_in, skip_value}
 use Rattle.pm_meaning.specs.Assigning.{value_in, probed, change_folder, include_rcfile, switch_rcfile, change_host, change_rcfile, shift_arguments, change_other, assigned, assign_with, assign, unset}
 use Rattle.pm_meaning.specs.GlobalLock.{with_global, give_named, drop_lock, got_lock, take_lock, change_lock}
 use Rattle.pm_meaning.specs.Locks.{rule_of, with_lock}
 use Rattle.pm_meaning.specs.Blocks.{got_block_lock, lock_block, enter_with, enter_under, enter, enter_block}
 use Rattle.pm_meaning.specs.Texts.{is_empty, is_file_text}
+use Rattle.pm_meaning.specs.declared.acted.Cause.{Cause}
+use Rattle.pm_meaning.specs.declared.acted.Cause.TheVariants as cause
 use Rattle.pm_meaning.specs.declared.process.End.TheVariants.{HostOff}
 use Rattle.pm_meaning.specs.Ends.{is_delivered}
 
@@ -52,6 +54,16 @@ never_said test p text next fails = never_then test (log text p) (λ done. Ends 
 pub never_if : {R : Type 0} (test : R → Bool) (b : Bool) (p q : Plan R) → Never test p → Never test q → Never test (if b then p else q)
 never_if test true p q h k = h
 never_if test false p q h k = k
+
+-- an action that wasn't done delivers nothing
+pub never_failed : (cause : Cause) (text : List ℕ) (p : Mind) → Never for_good (refuse_act cause text p)
+never_failed cause text p = never_said for_good p (unusable_name_line text) (failed cause p) refl
+
+pub never_overflowed : (length : ℕ) (p : Mind) → Never for_good (overflow_act length p)
+never_overflowed length p = never_said for_good p (value_too_long_line length) (failed (cause.Overflow length) (overflowed p)) refl
+
+pub never_too_long : (mode : Mode) (text : List ℕ) (outputs : List (List ℕ)) (p : Mind) → Never for_good (skip_act mode text outputs p)
+never_too_long mode text outputs p = never_overflowed (length_in mode text p.vars outputs) p
 
 -- a turn that ends the process as delivered
 abbrev pub delivers : Turn → Bool

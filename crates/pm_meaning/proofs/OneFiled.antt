@@ -7,7 +7,7 @@ use Rattle.pm_host.proofs.Put.{same_name}
 use Rattle.pm_recipe.specs.declared.tree.Flags.{Flags}
 use Rattle.pm_journal.specs.declared.acts.Act.TheVariants.{Append, Moment}
 use Rattle.pm_journal.specs.declared.acts.Reply.{Reply}
-use Rattle.pm_journal.specs.declared.acts.Reply.TheVariants.{Done, IsFolder, Torn, Placed, TornAt, NamesOut, Now}
+use Rattle.pm_journal.specs.declared.acts.Reply.TheVariants.{Done, IsFolder, Torn, Placed, TornAt, NamesOut, Now, Raced as RacedReply}
 use Rattle.pm_journal.specs.declared.acts.Entry.{Entry}
 use Rattle.pm_journal.specs.declared.placing.FolderKind.{FolderKind}
 use Rattle.pm_journal.specs.declared.placing.FolderKind.TheVariants.{Plain}
@@ -23,7 +23,7 @@ use Rattle.pm_meaning.specs.Locks.{is_nothing}
 use Rattle.pm_meaning.specs.Minds.{Mind}
 use Rattle.pm_meaning.specs.declared.process.Destination.{Destination}
 use Rattle.pm_meaning.specs.declared.process.Filed.{Filed}
-use Rattle.pm_meaning.specs.declared.process.Filed.TheVariants.{Stored, Unwritten, Left, Crowded, Unnamed}
+use Rattle.pm_meaning.specs.declared.process.Filed.TheVariants.{Stored, Unwritten, Raced, Left, Crowded, Unnamed}
 
 -- a value that is set again
 pub with_value_again : (name first second : List ℕ) (vs : List Variable) → with_value name second (with_value name first vs) ≡ with_value name second vs
@@ -117,6 +117,7 @@ appended flags name stored p Done (e ∷ es) filing stays h = absurd h
 appended flags name stored p IsFolder es filing stays h =
     let k = plain_one (is_usable (plain_prefix p)) name (plain_prefix p) (folder_piece flags p) p es filing h in
     record { same = k.same; done = λ s. inr (refl, k.done s) }
+appended flags name stored p RacedReply es filing stays h = append_ends name (folder_piece flags p) (Raced name) RacedReply p es filing (λ e. cc) h
 appended flags name stored p (Torn count) es filing stays h = append_ends name (folder_piece flags p) (Left name count) (Torn count) p es filing (λ e. cc) h
 appended flags name stored p other es filing stays h = append_ends name (folder_piece flags p) (Unwritten name) other p es filing (λ e. cc) h
 

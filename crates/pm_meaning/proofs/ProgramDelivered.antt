@@ -4,7 +4,7 @@ use Rattle.std.specs.Prelude.{if◌then◌else◌}
 use Rattle.pm_host.specs.declared.command.Command.{Command}
 use Rattle.pm_recipe.specs.declared.tree.Flags.{Flags}
 use Rattle.pm_subst.specs.Words.{words_in}
-use Rattle.pm_journal.specs.LogText.{unusable_name_line, no_lock_line, value_too_long_line}
+use Rattle.pm_journal.specs.LogText.{no_lock_line}
 use Rattle.pm_journal.specs.Locking.{lock_act}
 use Rattle.pm_journal.specs.Outcomes.{run_end}
 use Rattle.pm_journal.specs.Plan.{Plan, Ends, and_then, Plays}
@@ -13,7 +13,6 @@ use Rattle.pm_journal.specs.declared.acts.Reply.{Reply}
 use Rattle.pm_journal.specs.declared.acts.Reply.TheVariants.{Held, Wrote}
 use Rattle.pm_journal.specs.declared.locking.LockRule.{LockRule}
 use Rattle.pm_meaning.specs.Assigning.{first_word}
-use Rattle.pm_meaning.specs.Changes.{overflowed}
 use Rattle.pm_meaning.specs.Delivering.{Ready, make_ready}
 use Rattle.pm_meaning.specs.RunLaws.{IsGot, IsGiven, AreLines, IsOneAct, IsFed, IsWritten}
 use Rattle.pm_meaning.specs.Locks.{rule_of, blamed_text, is_lock_word, full_lock, is_taken, with_lock}
@@ -21,19 +20,21 @@ use Rattle.pm_meaning.specs.Abstracts.{copy_lines}
 use Rattle.pm_meaning.specs.Logging.{log}
 use Rattle.pm_meaning.specs.Minds.{Mind}
 use Rattle.pm_meaning.specs.Forwards.{forward_reading}
-use Rattle.pm_meaning.specs.ProgramActions.{Purpose, Delivers, Filters, Captures, Task, is_final, Tried, Trying, is_fine, feed_outcome, feed, work_of, write_outcome, write, unlock_behind, try_locked, try_under, trial_lines, is_fine_trial, settled_by, trial_turn, is_delivery, after_trial, try_and_say, lacks_lock, lock_source, lock_mode, lock_commands, named_lock, told_first, do_under, do_named, unusable_text, do_line, lock_first, fed_piece, program_with, do_program, pipe_task, pipe, capture_task, capture_line, forward_task, forward, write_task, write_with, write_out}
+use Rattle.pm_meaning.specs.ProgramActions.{Purpose, Delivers, Filters, Captures, Task, Tried, Trying, is_fine, feed_outcome, feed, work_of, write_outcome, write, unlock_behind, try_locked, try_under, trial_lines, is_fine_trial, settled_by, done_acted, outcome_acted, trial_acted, is_delivery, after_trial, try_and_say, lacks_lock, lock_source, lock_mode, lock_commands, named_lock, told_first, do_under, do_named, unusable_text, do_line, lock_first, fed_piece, program_with, do_program, pipe_task, pipe, capture_task, capture_line, forward_task, forward, write_task, write_with, write_out}
 use Rattle.pm_meaning.specs.Programs.{Reading, line_reading}
-use Rattle.pm_meaning.specs.Turns.{Turn, GoesOn, Halts, refuse_name, is_too_long, skip_value}
-use Rattle.pm_meaning.specs.declared.process.End.TheVariants.{Delivered}
+use Rattle.pm_meaning.specs.Turns.{ActEnd, is_for_good, for_good, refuse_act, is_too_long, skip_act}
+use Rattle.pm_meaning.specs.declared.acted.Acted.TheVariants.{Delivered, CopyDone}
+use Rattle.pm_meaning.specs.declared.acted.Cause.TheVariants as cause
 use Rattle.pm_meaning.specs.declared.process.Outcome.{Outcome}
-use Rattle.pm_meaning.specs.declared.process.Outcome.TheVariants.{Done}
+use Rattle.pm_meaning.specs.declared.process.Outcome.TheVariants.{Done, NotStarted, Lost, Closed, Code, TooLong as OutputTooLong, Overflow, Unwritten}
 use Rattle.pm_meaning.specs.declared.process.ProgramLine.{ProgramLine}
 use Rattle.pm_meaning.specs.declared.process.ProgramLine.TheVariants.{Runs, NoWords, Unusable, TooLong}
-use Rattle.pm_meaning.specs.declared.process.Trial.TheVariants.{Unlocked}
+use Rattle.pm_meaning.specs.declared.process.Trial.{Trial}
+use Rattle.pm_meaning.specs.declared.process.Trial.TheVariants.{Unlocked, NotLocked, Locked}
 use Rattle.pm_journal.proofs.WalkJoin.{parts_of}
 use Rattle.pm_meaning.proofs.MailboxDelivered.{all_said, if_last}
 use Rattle.pm_meaning.proofs.Lines.{told_of}
-use Rattle.pm_meaning.proofs.NoDelivery.{delivers, no_delivery, never_said, never_told, never_skipped}
+use Rattle.pm_meaning.proofs.NoDelivery.{never_failed, never_overflowed, never_too_long}
 
 fine_is : (outcome : Outcome) → is_fine outcome ≡ true → outcome ≡ Done
 fine_is Done h = refl
@@ -131,11 +132,35 @@ under_end Passes None work p es done one h fine =
 under_end Passes (Some name) work p [] done one h fine = absurd h
 under_end Passes (Some name) work p (e ∷ es) done one h fine = locked_end Passes work p name (rule_of p.vars) e es done e.reply one h.0 refl h.2 fine
 
--- where the turn delivers, all was done for good
-last_is : (last fine : Bool) (p : Mind) → delivers (if last && fine then Halts Delivered p else GoesOn p) ≡ true → (last ≡ true) × (fine ≡ true)
-last_is true true p h = (refl, refl)
-last_is true false p h = let e : false ≡ true = h in absurd (cc)
-last_is false fine p h = let e : false ≡ true = h in absurd (cc)
+-- the mail is delivered, and no copy of it
+abbrev pub is_final : Purpose → Flags → Bool
+is_final (Delivers destination) flags = not flags.copy
+is_final other flags = false
+
+copy_final : (b : Bool) → is_for_good (if b then CopyDone else Delivered) ≡ true → not b ≡ true
+copy_final true e = let f : false ≡ true = e in absurd (cc)
+copy_final false e = refl
+
+done_final : (purpose : Purpose) (flags : Flags) → is_for_good (done_acted purpose flags) ≡ true → is_final purpose flags ≡ true
+done_final (Delivers destination) flags h = copy_final flags.copy h
+done_final Filters flags h = let e : false ≡ true = h in absurd (cc)
+done_final (Captures name) flags h = let e : false ≡ true = h in absurd (cc)
+
+outcome_final : (purpose : Purpose) (flags : Flags) (outcome : Outcome) → is_for_good (outcome_acted purpose flags outcome) ≡ true → (is_final purpose flags ≡ true) × (is_fine outcome ≡ true)
+outcome_final purpose flags Done h = (done_final purpose flags h, refl)
+outcome_final purpose flags NotStarted h = let e : false ≡ true = h in absurd (cc)
+outcome_final purpose flags Lost h = let e : false ≡ true = h in absurd (cc)
+outcome_final purpose flags Closed h = let e : false ≡ true = h in absurd (cc)
+outcome_final purpose flags (Code code) h = let e : false ≡ true = h in absurd (cc)
+outcome_final purpose flags OutputTooLong h = let e : false ≡ true = h in absurd (cc)
+outcome_final purpose flags (Overflow size) h = let e : false ≡ true = h in absurd (cc)
+outcome_final purpose flags Unwritten h = let e : false ≡ true = h in absurd (cc)
+
+-- where the mail was delivered for good, all was done
+last_is : (purpose : Purpose) (flags : Flags) (trial : Trial) → is_for_good (trial_acted purpose flags trial) ≡ true → (is_final purpose flags ≡ true) × (is_fine_trial trial ≡ true)
+last_is purpose flags (Unlocked outcome) h = outcome_final purpose flags outcome h
+last_is purpose flags (NotLocked name cause) h = let e : false ≡ true = h in absurd (cc)
+last_is purpose flags (Locked name forced outcome stuck) h = outcome_final purpose flags outcome h
 
 -- the work of a task was done for good
 record IsDone (t : Task) (Passes : Entry → Type 0) (es : List Entry) : Type 0 where
@@ -145,14 +170,14 @@ record IsDone (t : Task) (Passes : Entry → Type 0) (es : List Entry) : Type 0 
 regroup : (all told es front rest got given : List Entry) (act : Entry) → all ≡ told ++ es → es ≡ front ++ rest → front ≡ got ++ (act ∷ given) → all ≡ told ++ (got ++ (act ∷ (given ++ rest)))
 regroup all told es front rest got given act joined whole parts = joined ∙ ap (λ l. told ++ l) (whole ∙ ap (λ l. l ++ rest) parts ∙ append_assoc got (act ∷ given) rest)
 
-tried_end : (t : Task) (Passes : Entry → Type 0) (lock : Option (List ℕ)) (work : Mind → Plan Tried) (p : Mind) (told es all : List Entry) (turn : Turn) → OneOf Passes work → AreLines told → all ≡ told ++ es
-    → Plays (try_and_say t lock work p) es turn → delivers turn ≡ true → IsDone t Passes all
-tried_end t Passes lock work p told es all turn one are_told joined h passes =
-    let k = parts_of (try_under lock work p) (after_trial t) es turn h in
+tried_end : (t : Task) (Passes : Entry → Type 0) (lock : Option (List ℕ)) (work : Mind → Plan Tried) (p : Mind) (told es all : List Entry) (end : ActEnd) → OneOf Passes work → AreLines told → all ≡ told ++ es
+    → Plays (try_and_say t lock work p) es end → for_good end ≡ true → IsDone t Passes all
+tried_end t Passes lock work p told es all end one are_told joined h passes =
+    let k = parts_of (try_under lock work p) (after_trial t) es end h in
     let q = settled_by k.middle.trial k.middle.mind in
     let lines = trial_lines t.flags t.text k.middle.trial ++ copy_lines (is_delivery t.purpose && is_fine_trial k.middle.trial) t.flags q in
-    let said = all_said q lines (trial_turn (is_final t.purpose t.flags) k.middle.trial q) turn k.rest k.plays_rest in
-    let last = last_is (is_final t.purpose t.flags) (is_fine_trial k.middle.trial) q (ap delivers (sym said.same) ∙ passes) in
+    let said = all_said q lines (record { acted = trial_acted t.purpose t.flags k.middle.trial; mind = q }) end k.rest k.plays_rest in
+    let last = last_is t.purpose t.flags k.middle.trial (ap for_good (sym said.same) ∙ passes) in
     let under = under_end Passes lock work p k.front k.middle one k.plays_front last.1 in
     record {
       last_is = last.0;
@@ -172,32 +197,32 @@ tried_end t Passes lock work p told es all turn one are_told joined h passes =
       };
     }
 
-told_end : (t : Task) (Passes : Entry → Type 0) (lock : Option (List ℕ)) (work : Mind → Plan Tried) (p : Mind) (b : Bool) (es : List Entry) (turn : Turn) → OneOf Passes work
-    → Plays (if b then and_then (log (no_lock_line t.text) p) (λ done. try_and_say t lock work p) else try_and_say t lock work p) es turn → delivers turn ≡ true → IsDone t Passes es
-told_end t Passes lock work p true es turn one h passes =
-    let k = told_of (no_lock_line t.text) p (λ done. try_and_say t lock work p) es turn h in
-    tried_end t Passes lock work p k.told k.rest es turn one k.are_lines k.whole k.plays passes
-told_end t Passes lock work p false es turn one h passes = tried_end t Passes lock work p [] es es turn one tt refl h passes
+told_end : (t : Task) (Passes : Entry → Type 0) (lock : Option (List ℕ)) (work : Mind → Plan Tried) (p : Mind) (b : Bool) (es : List Entry) (end : ActEnd) → OneOf Passes work
+    → Plays (if b then and_then (log (no_lock_line t.text) p) (λ done. try_and_say t lock work p) else try_and_say t lock work p) es end → for_good end ≡ true → IsDone t Passes es
+told_end t Passes lock work p true es end one h passes =
+    let k = told_of (no_lock_line t.text) p (λ done. try_and_say t lock work p) es end h in
+    tried_end t Passes lock work p k.told k.rest es end one k.are_lines k.whole k.plays passes
+told_end t Passes lock work p false es end one h passes = tried_end t Passes lock work p [] es es end one tt refl h passes
 
-named_end : (t : Task) (Passes : Entry → Type 0) (word : Option (List ℕ)) (work : Mind → Plan Tried) (p : Mind) (es : List Entry) (turn : Turn) → OneOf Passes work
-    → Plays (do_named t word work p) es turn → delivers turn ≡ true → IsDone t Passes es
-named_end t Passes word work p es turn one h passes =
+named_end : (t : Task) (Passes : Entry → Type 0) (word : Option (List ℕ)) (work : Mind → Plan Tried) (p : Mind) (es : List Entry) (end : ActEnd) → OneOf Passes work
+    → Plays (do_named t word work p) es end → for_good end ≡ true → IsDone t Passes es
+named_end t Passes word work p es end one h passes =
     let P = IsDone t Passes es in
     let lock = full_lock p.base word in
     let blamed = blamed_text t.lock t.text in
     let next = told_first t p (try_and_say t lock work p) in
-    if_last P (not (is_lock_word word)) (refuse_name blamed p) (do_under t lock work p) es turn (λ l. absurd (never_told delivers no_delivery p (unusable_name_line blamed) es turn l passes))
-    (if_last P (is_taken lock [] p.locks) (refuse_name blamed p) next es turn (λ l. absurd (never_told delivers no_delivery p (unusable_name_line blamed) es turn l passes))
-    (λ l. told_end t Passes lock work p (lacks_lock t) es turn one l passes)) h
+    if_last P (not (is_lock_word word)) (refuse_act cause.BadName blamed p) (do_under t lock work p) es end (λ l. absurd (never_failed cause.BadName blamed p es end l passes))
+    (if_last P (is_taken lock [] p.locks) (refuse_act cause.NameIsLock blamed p) next es end (λ l. absurd (never_failed cause.NameIsLock blamed p es end l passes))
+    (λ l. told_end t Passes lock work p (lacks_lock t) es end one l passes)) h
 
 -- the lock file's text was expanded, and then this came
-first_end : (P : Type 0) (t : Task) (outputs : List (List ℕ)) (next : Option (List ℕ) → Plan Turn) (p : Mind) (es : List Entry) (turn : Turn) → ((word : Option (List ℕ)) → Plays (next word) es turn → P)
-    → Plays (lock_first t outputs next p) es turn → delivers turn ≡ true → P
-first_end P t outputs next p es turn ends h passes =
+first_end : (P : Type 0) (t : Task) (outputs : List (List ℕ)) (next : Option (List ℕ) → Plan ActEnd) (p : Mind) (es : List Entry) (end : ActEnd) → ((word : Option (List ℕ)) → Plays (next word) es end → P)
+    → Plays (lock_first t outputs next p) es end → for_good end ≡ true → P
+first_end P t outputs next p es end ends h passes =
     let mode = lock_mode t in
     let source = lock_source t in
     let word = named_lock t (first_word (words_in mode p.vars outputs source)) p in
-    if_last P (is_too_long mode source p.vars outputs) (skip_value mode source outputs p) (next word) es turn (λ l. absurd (never_skipped delivers no_delivery mode source outputs p es turn l passes)) (ends word) h
+    if_last P (is_too_long mode source p.vars outputs) (skip_act mode source outputs p) (next word) es end (λ l. absurd (never_too_long mode source outputs p es end l passes)) (ends word) h
 
 -- the program of a line did its work for good
 record IsRun (t : Task) (Passes : Command → Entry → Type 0) (line : ProgramLine) (es : List Entry) : Type 0 where
@@ -205,12 +230,12 @@ record IsRun (t : Task) (Passes : Command → Entry → Type 0) (line : ProgramL
   runs : line ≡ Runs command
   done : IsDone t (Passes command) es
 
-line_end : (t : Task) (Passes : Command → Entry → Type 0) (word : Option (List ℕ)) (work : Command → Mind → Plan Tried) (line : ProgramLine) (p : Mind) (es : List Entry) (turn : Turn)
-    → ((command : Command) → OneOf (Passes command) (work command)) → Plays (do_line t word work line p) es turn → delivers turn ≡ true → IsRun t Passes line es
-line_end t Passes word work (Runs command) p es turn one h passes = record { command = command; runs = refl; done = named_end t (Passes command) word (work command) p es turn (one command) h passes }
-line_end t Passes word work NoWords p es turn one h passes = absurd (never_told delivers no_delivery p (unusable_name_line t.text) es turn h passes)
-line_end t Passes word work Unusable p es turn one h passes = absurd (never_told delivers no_delivery p (unusable_name_line (unusable_text t word)) es turn h passes)
-line_end t Passes word work (TooLong count) p es turn one h passes = absurd (never_said delivers p (value_too_long_line count) (GoesOn (overflowed p)) refl es turn h passes)
+line_end : (t : Task) (Passes : Command → Entry → Type 0) (word : Option (List ℕ)) (work : Command → Mind → Plan Tried) (line : ProgramLine) (p : Mind) (es : List Entry) (end : ActEnd)
+    → ((command : Command) → OneOf (Passes command) (work command)) → Plays (do_line t word work line p) es end → for_good end ≡ true → IsRun t Passes line es
+line_end t Passes word work (Runs command) p es end one h passes = record { command = command; runs = refl; done = named_end t (Passes command) word (work command) p es end (one command) h passes }
+line_end t Passes word work NoWords p es end one h passes = absurd (never_failed cause.NoWords t.text p es end h passes)
+line_end t Passes word work Unusable p es end one h passes = absurd (never_failed cause.BadName (unusable_text t word) p es end h passes)
+line_end t Passes word work (TooLong count) p es end one h passes = absurd (never_overflowed count p es end h passes)
 
 final_is : (copy : Bool) → not copy ≡ true → copy ≡ false
 final_is true h = let e : false ≡ true = h in absurd (cc)
@@ -228,17 +253,17 @@ pub record ProgramMade (t : Task) (reading : Reading) (p : Mind) (es : List Entr
   pub read : reading.read ready.outputs ready.mind ≡ Runs command
   pub one : IsOneAct (PassesFor t.purpose t.flags (fed_piece t.flags ready.mind) command) last
 
-program_made : (t : Task) (reading : Reading) (p : Mind) (es : List Entry) (turn : Turn) → Plays (do_program t reading p) es turn → delivers turn ≡ true → ProgramMade t reading p es
-program_made t reading p es turn h passes =
-    let k = parts_of (make_ready (lock_commands t) reading.commands p) (λ ready. program_with t reading ready) es turn h in
+program_made : (t : Task) (reading : Reading) (p : Mind) (es : List Entry) (end : ActEnd) → Plays (do_program t reading p) es end → for_good end ≡ true → ProgramMade t reading p es
+program_made t reading p es end h passes =
+    let k = parts_of (make_ready (lock_commands t) reading.commands p) (λ ready. program_with t reading ready) es end h in
     let q = k.middle.mind in
     let piece = fed_piece t.flags q in
     let line = reading.read k.middle.outputs q in
     let Passes : Command → Entry → Type 0 = λ command. PassesFor t.purpose t.flags piece command in
     let work : Command → Mind → Plan Tried = λ command. work_of t.purpose t.flags piece command in
     let run : IsRun t Passes line k.rest =
-    first_end (IsRun t Passes line k.rest) t k.middle.lock_outputs (λ word. do_line t word work line q) q k.rest turn
-    (λ word l. line_end t Passes word work line q k.rest turn (λ command. one_worked t.purpose t.flags piece command) l passes) k.plays_rest passes in
+    first_end (IsRun t Passes line k.rest) t k.middle.lock_outputs (λ word. do_line t word work line q) q k.rest end
+    (λ word l. line_end t Passes word work line q k.rest end (λ command. one_worked t.purpose t.flags piece command) l passes) k.plays_rest passes in
     record {
       ran = k.front;
       last = k.rest;
@@ -269,16 +294,16 @@ no_filter : (b : Bool) (flags : Flags) (line input : List ℕ) (command : Comman
 no_filter true flags line input command es final one = let e : false ≡ true = final in absurd (cc)
 no_filter false flags line input command es final one = record { piped = refl; final = final_is flags.copy final; one = one }
 
-pub pipe_made : (flags : Flags) (lock : Option (List ℕ)) (line : List ℕ) (p : Mind) (es : List Entry) (turn : Turn) → Plays (pipe flags lock line p) es turn → delivers turn ≡ true → PipeMade flags lock line p es
-pipe_made flags lock line p es turn h passes =
-    let k = program_made (pipe_task flags lock line) (line_reading line p) p es turn h passes in
+pub pipe_made : (flags : Flags) (lock : Option (List ℕ)) (line : List ℕ) (p : Mind) (es : List Entry) (end : ActEnd) → Plays (pipe flags lock line p) es end → for_good end ≡ true → PipeMade flags lock line p es
+pipe_made flags lock line p es end h passes =
+    let k = program_made (pipe_task flags lock line) (line_reading line p) p es end h passes in
     let n = no_filter flags.filter flags line (fed_piece flags k.ready.mind) k.command k.last k.final k.one in
     record { made = k; piped = n.piped; final = n.final; one = n.one }
 
 -- a capture never delivers
-pub never_captured : (flags : Flags) (lock : Option (List ℕ)) (name line : List ℕ) (p : Mind) (es : List Entry) (turn : Turn) → Plays (capture_line flags lock name line p) es turn → delivers turn ≡ true → ⊥
-never_captured flags lock name line p es turn h passes =
-    let k = program_made (capture_task flags lock name line) (line_reading line p) p es turn h passes in
+pub never_captured : (flags : Flags) (lock : Option (List ℕ)) (name line : List ℕ) (p : Mind) (es : List Entry) (end : ActEnd) → Plays (capture_line flags lock name line p) es end → for_good end ≡ true → ⊥
+never_captured flags lock name line p es end h passes =
+    let k = program_made (capture_task flags lock name line) (line_reading line p) p es end h passes in
     let e : false ≡ true = k.final in absurd (cc)
 
 -- a forward delivers for good by its program alone
@@ -286,9 +311,9 @@ pub record ForwardMade (flags : Flags) (lock : Option (List ℕ)) (text : List �
   pub made : ProgramMade (forward_task flags lock text) (forward_reading text) p es
   pub final : flags.copy ≡ false
 
-pub forward_made : (flags : Flags) (lock : Option (List ℕ)) (text : List ℕ) (p : Mind) (es : List Entry) (turn : Turn) → Plays (forward flags lock text p) es turn → delivers turn ≡ true → ForwardMade flags lock text p es
-forward_made flags lock text p es turn h passes =
-    let k = program_made (forward_task flags lock text) (forward_reading text) p es turn h passes in
+pub forward_made : (flags : Flags) (lock : Option (List ℕ)) (text : List ℕ) (p : Mind) (es : List Entry) (end : ActEnd) → Plays (forward flags lock text p) es end → for_good end ≡ true → ForwardMade flags lock text p es
+forward_made flags lock text p es end h passes =
+    let k = program_made (forward_task flags lock text) (forward_reading text) p es end h passes in
     record { made = k; final = final_is flags.copy k.final }
 
 -- and so does standard output
@@ -301,13 +326,13 @@ pub record OutputMade (flags : Flags) (lock : Option (List ℕ)) (p : Mind) (es 
   pub final : flags.copy ≡ false
   pub one : IsOneAct (IsWritten (fed_piece flags ready.mind)) last
 
-pub output_made : (flags : Flags) (lock : Option (List ℕ)) (p : Mind) (es : List Entry) (turn : Turn) → Plays (write_out flags lock p) es turn → delivers turn ≡ true → OutputMade flags lock p es
-output_made flags lock p es turn h passes =
+pub output_made : (flags : Flags) (lock : Option (List ℕ)) (p : Mind) (es : List Entry) (end : ActEnd) → Plays (write_out flags lock p) es end → for_good end ≡ true → OutputMade flags lock p es
+output_made flags lock p es end h passes =
     let t = write_task flags lock in
-    let k = parts_of (make_ready (lock_commands t) [] p) (λ ready. write_with t ready) es turn h in
+    let k = parts_of (make_ready (lock_commands t) [] p) (λ ready. write_with t ready) es end h in
     let q = k.middle.mind in
     let piece = fed_piece flags q in
     let done : IsDone t (IsWritten piece) k.rest =
-    first_end (IsDone t (IsWritten piece) k.rest) t k.middle.lock_outputs (λ word. do_named t word (write piece) q) q k.rest turn
-    (λ word l. named_end t (IsWritten piece) word (write piece) q k.rest turn (one_written piece) l passes) k.plays_rest passes in
+    first_end (IsDone t (IsWritten piece) k.rest) t k.middle.lock_outputs (λ word. do_named t word (write piece) q) q k.rest end
+    (λ word l. named_end t (IsWritten piece) word (write piece) q k.rest end (one_written piece) l passes) k.plays_rest passes in
     record { ran = k.front; last = k.rest; whole = k.whole; ready = k.middle; runs = k.plays_front; final = final_is flags.copy done.last_is; one = done.one }

@@ -8,7 +8,7 @@ use Rattle.pm_journal.specs.Plan.{Plan, Ends, and_then}
 use Rattle.pm_journal.specs.Executed.{Executes, OutOfMemory, Carries, LeadsTo}
 use Rattle.pm_journal.proofs.ActPlans.{executes_then}
 use Rattle.pm_journal.proofs.PlanLeads.{leads_to_end, leads_to_want}
-use Rattle.pm_journal.proofs.WantsMemory.{executes_nothing, out_then, out_anywhere, on_err}
+use Rattle.pm_journal.proofs.WantsMemory.{executes_nothing, out_front, out_then, out_anywhere, on_err}
 use Rattle.pm_meaning.proofs.Choices.{ok_map, err_map}
 
 -- a plan was carried out, and then what comes of its end
@@ -39,3 +39,11 @@ known_as value to answer x s h = (
 -- the first of what is left of a list
 pub front_of_rest : {A : Type 0} (items : List A) (i : ℕ) (d item : A) → item ≡ get_or items i d → i < length items → drop i items ≡ item ∷ drop (i + 1) items
 front_of_rest items i d item is more = at_drop_more (λ l. l) items i d more ∙ ap (λ x. x ∷ drop (i + 1) items) (sym is)
+
+-- a plan whose end is seen so
+pub carries_seen : {R S A : Type 0} (p : Plan R) (see : R → S) (end : A → R) (to : A → S) (answer : Result A Memory) (x y : JournalState) (a b : View) → ((v : A) → see (end v) ≡ to v) → Carries p end answer x y a b
+    → Carries (and_then p (λ r. Ends (see r))) to answer x y a b
+carries_seen p see end to answer x y a b same h = (
+  ok_map answer _ _ (λ v l. executes_then p (λ r. Ends (see r)) (end v) (to v) x y y a b b l (subst (λ s. Executes (Ends (see (end v))) s y y b b) (same v) (executes_nothing (see (end v)) y y b refl))) h.0,
+  err_map answer _ _ (λ l. out_front p (λ r. Ends (see r)) x y a b l) h.1,
+)

@@ -12,7 +12,7 @@ use Rattle.pm_meaning.specs.Laws.{AllHave}
 use Rattle.pm_meaning.specs.Minds.{Mind}
 use Rattle.pm_meaning.specs.declared.process.Destination.{Destination}
 use Rattle.pm_meaning.specs.declared.process.Filed.{Filed}
-use Rattle.pm_meaning.specs.declared.process.Filed.TheVariants.{Stored, Unwritten, Left, Crowded, Unnamed}
+use Rattle.pm_meaning.specs.declared.process.Filed.TheVariants.{Stored, Unwritten, Raced, Left, Crowded, Unnamed}
 use Rattle.pm_journal.proofs.WalkJoin.{parts_of}
 use Rattle.pm_meaning.proofs.OneFiled.{StaysSo, one_filed}
 
@@ -20,6 +20,7 @@ use Rattle.pm_meaning.proofs.OneFiled.{StaysSo, one_filed}
 pub stored_is : (filed : Filed) → is_stored filed ≡ true → filed ≡ Stored
 stored_is Stored h = refl
 stored_is (Unwritten name) h = let e : false ≡ true = h in absurd (cc)
+stored_is (Raced name) h = let e : false ≡ true = h in absurd (cc)
 stored_is (Left name count) h = let e : false ≡ true = h in absurd (cc)
 stored_is (Crowded name) h = let e : false ≡ true = h in absurd (cc)
 stored_is Unnamed h = let e : false ≡ true = h in absurd (cc)

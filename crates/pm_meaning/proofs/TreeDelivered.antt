@@ -10,8 +10,9 @@ use Rattle.pm_subst.specs.declared.kinds.Mode.TheVariants.{One, Many}
 use Rattle.pm_meaning.specs.declared.question.Judgement.TheVariants.{Matched, Unmatched, Defective, TooLong}
 use Rattle.pm_journal.specs.LogText.{skipped_line, defective_condition_line, value_too_long_line}
 use Rattle.pm_journal.specs.declared.acts.Entry.{Entry}
-use Rattle.pm_journal.specs.Plan.{Ends, and_then, Plays}
+use Rattle.pm_journal.specs.Plan.{Plan, Ends, and_then, Plays}
 use Rattle.pm_journal.proofs.WalkJoin.{parts_of}
+use Rattle.pm_meaning.specs.Acting.{act_on, acted_turn, turn_after}
 use Rattle.pm_meaning.specs.Blocks.{carry_out}
 use Rattle.pm_meaning.specs.Chains.{is_admitted, passed, executed}
 use Rattle.pm_meaning.specs.Changes.{overflowed}
@@ -21,13 +22,16 @@ use Rattle.pm_meaning.specs.Locks.{text_or}
 use Rattle.pm_meaning.specs.Minds.{Mind}
 use Rattle.pm_meaning.specs.ProgramActions.{lock_commands, pipe_task, forward_task, write_task}
 use Rattle.pm_meaning.specs.Programs.{line_reading}
-use Rattle.pm_meaning.specs.Turns.{Turn, GoesOn}
+use Rattle.pm_meaning.specs.Turns.{Turn, GoesOn, ActEnd, is_for_good, for_good}
+use Rattle.pm_meaning.specs.declared.acted.Acted.{Acted}
+use Rattle.pm_meaning.specs.declared.acted.Acted.TheVariants.{Delivered, Went}
 use Rattle.pm_meaning.specs.declared.process.ProgramLine.TheVariants.{Runs}
 use Rattle.pm_meaning.specs.RunLaws.{DeliversAt, PipesAt, WritesAt, IsMade, in_files, by_program, by_output}
 use Rattle.pm_meaning.specs.Running.{State, Running, Item, Do, statement}
 use Rattle.pm_meaning.proofs.MailboxDelivered.{DeliversReady, delivered_by}
 use Rattle.pm_meaning.proofs.ProgramDelivered.{PipeMade, pipe_made, never_captured, ForwardMade, forward_made, OutputMade, output_made}
 use Rattle.pm_meaning.proofs.RecipeReady.{IsExecuted, ready_of, read_of}
+use Rattle.pm_meaning.proofs.Lines.{then_end}
 use Rattle.pm_meaning.proofs.NoDelivery.{delivers, no_delivery, never_ends, never_goes, never_entered, never_said, never_told, never_assign, never_unset}
 
 -- the action of a recipe delivered so, after its conditions
@@ -57,13 +61,28 @@ pub record DeliversState (s : State) (es : List Entry) : Type 0 where
   pub final : flags.copy ≡ false
   pub made : IsMade s asked flags mind last
 
+delivered_act : (acted : Acted) (p : Mind) → delivers (acted_turn acted p) ≡ true → is_for_good acted ≡ true
+delivered_act Delivered p h = refl
+delivered_act other p h = h
+
+-- the action that was done before its turn
+acted_for : (P : Type 0) (plan : Plan ActEnd) (es : List Entry) (turn : Turn) → Plays (and_then plan (λ came. Ends (turn_after came))) es turn → delivers turn ≡ true
+    → ((came : ActEnd) → Plays plan es came → for_good came ≡ true → P) → P
+acted_for P plan es turn h passes go =
+    let k = then_end plan turn_after es turn h in
+    go k.0 k.1 (delivered_act k.0.acted k.0.mind (sym (ap delivers k.2) ∙ passes))
+
+by_action : (top : Top) (act : Action) (p : Mind) (es : List Entry) (came : ActEnd) → Plays (act_on top act p) es came → for_good came ≡ true → DeliversBy top act p es
+by_action top (Mailbox text) p es came h passes = to_mailboxes text refl (delivered_by top.flags top.lock text p es came h passes)
+by_action top (Pipe line) p es came h passes = to_program line refl (pipe_made top.flags top.lock line p es came h passes)
+by_action top (Capture name line) p es came h passes = absurd (never_captured top.flags top.lock name line p es came h passes)
+by_action top (Forward text) p es came h passes = to_sendmail text refl (forward_made top.flags top.lock text p es came h passes)
+by_action top WriteOut p es came h passes = to_output refl (output_made top.flags top.lock p es came h passes)
+by_action top (Block trees) p es came h passes = absurd (never_ends for_good (record { acted = Went; mind = p }) refl es came h passes)
+
 by_act : (top : Top) (act : Action) (p : Mind) (es : List Entry) (turn : Turn) → Plays (carry_out top act p) es turn → delivers turn ≡ true → DeliversBy top act p es
-by_act top (Mailbox text) p es turn h passes = to_mailboxes text refl (delivered_by top.flags top.lock text p es turn h passes)
-by_act top (Pipe line) p es turn h passes = to_program line refl (pipe_made top.flags top.lock line p es turn h passes)
-by_act top (Capture name line) p es turn h passes = absurd (never_captured top.flags top.lock name line p es turn h passes)
-by_act top (Forward text) p es turn h passes = to_sendmail text refl (forward_made top.flags top.lock text p es turn h passes)
-by_act top WriteOut p es turn h passes = to_output refl (output_made top.flags top.lock p es turn h passes)
 by_act top (Block trees) p es turn h passes = absurd (never_entered delivers no_delivery top p es turn h passes)
+by_act top act p es turn h passes = acted_for (DeliversBy top act p es) (act_on top act p) es turn h passes (by_action top act p es)
 
 -- a test of whether conditions hold
 abbrev are_met : Held → Bool

@@ -21,7 +21,7 @@ use Rattle.pm_meaning.specs.Chains.{executed, passed, succeeded, with_chain}
 use Rattle.pm_meaning.specs.Changes.{overflowed, stored_in}
 use Rattle.pm_meaning.specs.Courses.{Others, make_clone, now_at, with_copy}
 use Rattle.pm_meaning.specs.ConditionExamples.{question}
-use Rattle.pm_meaning.specs.Delivering.{appended_by, attempt_lines, attempt_turn, deliver_at, deliver_to, file_one, file_size, in_plain, is_done, next_stamp, placed_by, plain_prefix}
+use Rattle.pm_meaning.specs.Delivering.{appended_by, attempt_lines, attempt_acted, deliver_at, deliver_named, deliver_to, file_one, file_size, in_plain, is_done, next_stamp, not_got, placed_by, plain_prefix, try_each}
 use Rattle.pm_meaning.specs.Destinations.{destination_of}
 use Rattle.pm_meaning.specs.Ends.{tell_delivery, trap, trap_by, trapped_with}
 use Rattle.pm_meaning.specs.Examples.{chain, letters, process, process_with, variable}
@@ -33,13 +33,15 @@ use Rattle.pm_meaning.specs.Locks.{with_lock}
 use Rattle.pm_meaning.specs.Logging.{log_to, logged}
 use Rattle.pm_meaning.specs.Minds.{Mind}
 use Rattle.pm_meaning.specs.Outputs.{run_fault, taken_output}
-use Rattle.pm_meaning.specs.ProgramActions.{appended_name, forward_task, lock_mode, outcome_lines, pipe_task, trial_lines, trial_turn, write_outcome, write_task, Delivers}
+use Rattle.pm_meaning.specs.ProgramActions.{appended_name, do_line, do_named, forward_task, lock_mode, outcome_acted, outcome_lines, pipe_task, trial_acted, trial_lines, work_of, write_outcome, write_task, Delivers}
 use Rattle.pm_meaning.specs.Programs.{command_line_of, expanded_line, line_of_words, needs_shell, shell_words}
 use Rattle.pm_meaning.specs.Running.{Opening, OpeningRule, Over, Refusing, Running, clone_of, falling_off, pass_over}
-use Rattle.pm_meaning.specs.Turns.{Enters, GoesOn, Halts, Turn, is_too_long, refuse_name, say_then}
+use Rattle.pm_meaning.specs.Turns.{ActEnd, Enters, GoesOn, Turn, is_too_long, overflow_act, refuse_act, refuse_name, say_then}
+use Rattle.pm_meaning.specs.declared.acted.Acted.TheVariants as acted
+use Rattle.pm_meaning.specs.declared.acted.Cause.TheVariants as cause
 use Rattle.pm_meaning.specs.declared.process.Attempt.TheVariants as attempt
 use Rattle.pm_meaning.specs.declared.process.End.TheVariants.{Delivered, FellOff, NoRc}
-use Rattle.pm_meaning.specs.declared.process.Filed.TheVariants.{Stored, Unwritten, Left, Crowded, Unnamed}
+use Rattle.pm_meaning.specs.declared.process.Filed.TheVariants.{Stored, Unwritten, Raced, Left, Crowded, Unnamed}
 use Rattle.pm_meaning.specs.declared.process.Outcome.TheVariants as outcome
 use Rattle.pm_meaning.specs.declared.process.ProgramLine.TheVariants as line
 use Rattle.pm_meaning.specs.declared.process.Trial.TheVariants as trial
@@ -138,7 +140,7 @@ pub record OfDeliveries : Type 0 where
   pub undone : appended_by (letters []) m (stored_in m 33 process) process reply.Undone
       ≡ Ends (record { filed = Unwritten m; mind = process })
   pub raced : appended_by (letters []) m (stored_in m 33 process) process reply.Raced
-      ≡ Ends (record { filed = Unwritten m; mind = process })
+      ≡ Ends (record { filed = Raced m; mind = process })
   pub is_folder : appended_by (letters []) m (stored_in m 33 process) process reply.IsFolder
       ≡ in_plain (letters []) m process
   -- and of a filing; the file with the mail is what is remembered
@@ -154,26 +156,38 @@ pub record OfDeliveries : Type 0 where
   pub told : attempt_lines t (attempt.Locked k 1 (Left m 3) true)
       ≡ forcing_lock_line k ∷ bytes_left_line 3 m ∷ couldnt_unlock_line k ∷ []
   pub nothing_told : attempt_lines t (attempt.Locked k 0 Stored false) ≡ []
-  pub not_locked_told : attempt_lines t (attempt.NotLocked k) ≡ couldnt_lock_line k ∷ []
+  pub not_locked_told : attempt_lines t (attempt.NotLocked k cause.Busy) ≡ couldnt_lock_line k ∷ []
   pub unwritten_told : attempt_lines t (attempt.Unlocked (Unwritten m)) ≡ couldnt_write_line m ∷ []
+  pub raced_told : attempt_lines t (attempt.Unlocked (Raced m)) ≡ couldnt_write_line m ∷ []
   pub crowded_told : attempt_lines t (attempt.Unlocked (Crowded d)) ≡ no_free_name_line d ∷ []
   pub unnamed_told : attempt_lines t (attempt.Unlocked Unnamed) ≡ unusable_name_line t ∷ []
-  -- the process ends if each destination has the mail, though its lock file is left
-  pub ends : attempt_turn (letters []) (attempt.Unlocked Stored) process ≡ Halts Delivered process
-  pub ends_with_lock_left : attempt_turn (letters []) (attempt.Locked k 0 Stored true) process ≡ Halts Delivered process
-  pub copy_goes_on : attempt_turn (letters (codes "c")) (attempt.Locked k 0 Stored false) process ≡ GoesOn process
-  pub left_goes_on : attempt_turn (letters []) (attempt.Unlocked (Left m 3)) process ≡ GoesOn process
-  pub not_locked_goes_on : attempt_turn (letters []) (attempt.NotLocked k) process ≡ GoesOn process
+  -- the mail is delivered if each destination has it, though its lock file is left; else the cause is told of
+  pub delivered : attempt_acted (letters []) (attempt.Unlocked Stored) ≡ acted.Delivered
+  pub delivered_with_lock_left : attempt_acted (letters []) (attempt.Locked k 0 Stored true) ≡ acted.Delivered
+  pub copy_done : attempt_acted (letters (codes "c")) (attempt.Locked k 0 Stored false) ≡ acted.CopyDone
+  pub left_is_torn : attempt_acted (letters []) (attempt.Unlocked (Left m 3)) ≡ acted.Failed cause.Torn
+  pub unwritten_is_undone : attempt_acted (letters []) (attempt.Locked k 0 (Unwritten m) false) ≡ acted.Failed cause.Undone
+  pub raced_is_raced : attempt_acted (letters []) (attempt.Unlocked (Raced m)) ≡ acted.Failed cause.Raced
+  pub crowded_is_names_out : attempt_acted (letters []) (attempt.Unlocked (Crowded d)) ≡ acted.Failed cause.NamesOut
+  pub unnamed_is_bad : attempt_acted (letters []) (attempt.Unlocked Unnamed) ≡ acted.Failed cause.BadName
+  pub busy : attempt_acted (letters []) (attempt.NotLocked k (not_got reply.Busy)) ≡ acted.Failed cause.Busy
+  pub lock_failed : attempt_acted (letters []) (attempt.NotLocked k (not_got reply.Faulted)) ≡ acted.Failed cause.LockFailed
   pub is_fine : is_done (attempt.Locked k 1 Stored true) ≡ true
   pub is_not_fine : is_done (attempt.Locked k 0 (Unwritten m) false) ≡ false
-  pub is_not_locked : is_done (attempt.NotLocked k) ≡ false
+  pub is_not_locked : is_done (attempt.NotLocked k cause.Busy) ≡ false
   -- a name that is the lock file's too is refused, by the text of the lock file or of the action
   pub lock_is_mailbox : deliver_at (letters []) (Some (codes "Mail/m")) (codes "$K") (codes "$M") (destination_of m
       ∷ []) process
-      ≡ refuse_name (codes "$K") process
+      ≡ refuse_act cause.NameIsLock (codes "$K") process
   pub mailbox_is_lock : deliver_at (letters []) None (codes "$K") (codes "$M") (destination_of (codes "l") ∷ []) process
-      ≡ refuse_name (codes "$M") process
-  pub no_mailbox : deliver_to (letters []) (Some []) [] (codes "$M") [] process ≡ refuse_name (codes "$M") process
+      ≡ refuse_act cause.NameIsLock (codes "$M") process
+  pub no_mailbox : deliver_to (letters []) (Some []) [] (codes "$M") [] process ≡ refuse_act cause.NoWords (codes "$M") process
+  pub bad_mailbox : deliver_named (letters []) None (codes "$K") (codes "$M") (m ∷ [] ∷ []) process
+      ≡ refuse_act cause.BadName (codes "$M") process
+  pub bad_lock : deliver_to (letters []) (Some (codes "$K")) [] (codes "$M") (m ∷ []) process
+      ≡ refuse_act cause.BadName (codes "$K") process
+  -- without a default mailbox there is no name; the last one that was tried says why none got the mail
+  pub no_name : try_each [] (acted.Failed cause.NoName) process ≡ Ends (record { acted = acted.Failed cause.NoName; mind = process })
 
 -- the conditions of a recipe, in a mail of 31 bytes
 pub record OfConditions : Type 0 where
@@ -221,12 +235,25 @@ pub record OfTrials : Type 0 where
   pub unwritten : outcome_lines (letters []) t outcome.Unwritten ≡ couldnt_write_out_line ∷ []
   pub told : trial_lines (letters []) t (trial.Locked k 1 outcome.Lost true)
       ≡ forcing_lock_line k ∷ lost_contact_line t ∷ couldnt_unlock_line k ∷ []
-  pub not_locked_told : trial_lines (letters []) t (trial.NotLocked k) ≡ couldnt_lock_line k ∷ []
-  -- what was done ends the process, if it is the last
-  pub ends : trial_turn true (trial.Locked k 0 outcome.Done true) process ≡ Halts Delivered process
-  pub closed_goes_on : trial_turn true (trial.Unlocked outcome.Closed) process ≡ GoesOn process
-  pub not_locked_goes_on : trial_turn true (trial.NotLocked k) process ≡ GoesOn process
-  pub copy_goes_on : trial_turn false (trial.Unlocked outcome.Done) process ≡ GoesOn process
+  pub not_locked_told : trial_lines (letters []) t (trial.NotLocked k cause.LockFailed) ≡ couldnt_lock_line k ∷ []
+  -- what came of them
+  pub delivered : trial_acted (Delivers t) (letters []) (trial.Locked k 0 outcome.Done true) ≡ acted.Delivered
+  pub copy_done : trial_acted (Delivers t) (letters (codes "c")) (trial.Unlocked outcome.Done) ≡ acted.CopyDone
+  pub not_got_lock : trial_acted (Delivers t) (letters []) (trial.NotLocked k (not_got reply.Busy)) ≡ acted.Failed cause.Busy
+  pub closed_failed : outcome_acted (Delivers t) (letters []) outcome.Closed ≡ acted.Failed cause.Closed
+  pub not_started_failed : outcome_acted (Delivers t) (letters []) outcome.NotStarted ≡ acted.Failed cause.NotStarted
+  pub lost_failed : outcome_acted (Delivers t) (letters []) outcome.Lost ≡ acted.Failed cause.Broken
+  pub code_failed : outcome_acted (Delivers t) (letters []) (outcome.Code 3) ≡ acted.Failed (cause.Code 3)
+  pub too_long_failed : outcome_acted (Delivers t) (letters []) outcome.TooLong ≡ acted.Failed cause.TooLong
+  pub overflow_failed : outcome_acted (Delivers t) (letters []) (outcome.Overflow 1048577) ≡ acted.Failed (cause.Overflow 1048577)
+  pub unwritten_failed : outcome_acted (Delivers t) (letters []) outcome.Unwritten ≡ acted.Failed cause.WriteFailed
+  -- a line without words, with a word that is no name, and one that is too long
+  pub no_words : do_line (pipe_task (letters []) None t) None (work_of (Delivers t) (letters []) []) line.NoWords process
+      ≡ refuse_act cause.NoWords t process
+  pub unusable : do_line (pipe_task (letters []) None t) None (work_of (Delivers t) (letters []) []) line.Unusable process
+      ≡ refuse_act cause.BadName t process
+  pub long_line : do_line (pipe_task (letters []) None t) None (work_of (Delivers t) (letters []) []) (line.TooLong 1048577) process
+      ≡ overflow_act 1048577 process
   pub written : write_outcome reply.Wrote ≡ outcome.Done
   pub half_written : write_outcome (reply.Short 3) ≡ outcome.Unwritten
   -- what is remembered of where the mail went

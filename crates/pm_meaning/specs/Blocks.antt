@@ -11,7 +11,7 @@ use Rattle.pm_journal.specs.declared.acts.Act.TheVariants.{Unlock}
 use Rattle.pm_journal.specs.declared.acts.Reply.{Reply}
 use Rattle.pm_journal.specs.declared.acts.Reply.TheVariants.{Held}
 use Rattle.pm_journal.specs.Plan.{Plan, Ends, and_then, ask}
-use Rattle.pm_meaning.specs.Acting.{act_on}
+use Rattle.pm_meaning.specs.Acting.{acting}
 use Rattle.pm_meaning.specs.Chains.{new_chain, with_chain, succeeded}
 use Rattle.pm_meaning.specs.Assigning.{value_in}
 use Rattle.pm_meaning.specs.GlobalLock.{after_giving}
@@ -59,7 +59,7 @@ enter_block top p = if top.flags.copy then Ends (Clones p) else enter top.lock p
 -- what a recipe does that is executed
 abbrev pub carry_out : Top → Act → Mind → Plan Turn
 carry_out top (Block trees) p = enter_block top p
-carry_out top act p = act_on top act p
+carry_out top act p = acting top act p
 
 -- a block begins with nothing before its first recipe
 abbrev pub begun_block : Mind → Mind

@@ -15,7 +15,7 @@ use Rattle.pm_journal.specs.Locking.{lock_act}
 use Rattle.pm_journal.specs.LogText.{couldnt_write_line, bytes_left_line, no_free_name_line, unusable_name_line, couldnt_lock_line, forcing_lock_line, couldnt_unlock_line}
 use Rattle.pm_journal.specs.declared.acts.Act.TheVariants.{Append, Place, Unlock, Moment}
 use Rattle.pm_journal.specs.declared.acts.Reply.{Reply}
-use Rattle.pm_journal.specs.declared.acts.Reply.TheVariants.{Done, IsFolder, Torn, Placed, TornAt, NamesOut, Held, Now}
+use Rattle.pm_journal.specs.declared.acts.Reply.TheVariants.{Done, IsFolder, Raced as RacedReply, Torn, Placed, TornAt, NamesOut, Held, Busy, Now}
 use Rattle.pm_journal.specs.declared.placing.FolderKind.{FolderKind}
 use Rattle.pm_journal.specs.declared.placing.FolderKind.TheVariants.{Plain}
 use Rattle.pm_journal.specs.declared.placing.Stamp.{Stamp}
@@ -27,13 +27,16 @@ use Rattle.pm_meaning.specs.Locks.{is_fault, text_or, value_or, rule_of, is_noth
 use Rattle.pm_meaning.specs.Outputs.{outputs_of}
 use Rattle.pm_meaning.specs.Abstracts.{copy_lines}
 use Rattle.pm_meaning.specs.Logging.{log}
-use Rattle.pm_meaning.specs.Turns.{Turn, GoesOn, Halts, refuse_name, is_too_long, skip_value}
+use Rattle.pm_meaning.specs.Turns.{ActEnd, is_for_good, refuse_act, is_too_long, skip_act}
 use Rattle.pm_meaning.specs.Assigning.{value_in}
 use Rattle.pm_meaning.specs.Minds.{Mind}
+use Rattle.pm_meaning.specs.declared.acted.Acted.{Acted}
+use Rattle.pm_meaning.specs.declared.acted.Acted.TheVariants.{Delivered, CopyDone, Failed}
+use Rattle.pm_meaning.specs.declared.acted.Cause.{Cause}
+use Rattle.pm_meaning.specs.declared.acted.Cause.TheVariants as cause
 use Rattle.pm_meaning.specs.declared.process.Destination.{Destination}
-use Rattle.pm_meaning.specs.declared.process.End.TheVariants.{Delivered}
 use Rattle.pm_meaning.specs.declared.process.Filed.{Filed}
-use Rattle.pm_meaning.specs.declared.process.Filed.TheVariants.{Stored, Unwritten, Left, Crowded, Unnamed}
+use Rattle.pm_meaning.specs.declared.process.Filed.TheVariants.{Stored, Unwritten, Raced, Left, Crowded, Unnamed}
 use Rattle.pm_meaning.specs.declared.process.Attempt.{Attempt}
 use Rattle.pm_meaning.specs.declared.process.Attempt.TheVariants.{Unlocked, NotLocked, Locked}
 
@@ -92,6 +95,7 @@ in_plain flags folder p =
 abbrev pub appended_by : Flags → List ℕ → Mind → Mind → Reply → Plan Filing
 appended_by flags name stored p Done = Ends (record { filed = Stored; mind = stored })
 appended_by flags name stored p IsFolder = in_plain flags name p
+appended_by flags name stored p RacedReply = Ends (record { filed = Raced name; mind = p })
 appended_by flags name stored p (Torn count) = Ends (record { filed = Left name count; mind = p })
 appended_by flags name stored p other = Ends (record { filed = Unwritten name; mind = p })
 
@@ -126,14 +130,19 @@ file_all flags [] p = Ends (record { filed = Stored; mind = p })
 file_all flags (destination ∷ destinations) p =
     and_then (file_one flags destination p) (λ filing. if is_stored filing.filed then file_all flags destinations filing.mind else Ends filing)
 
--- a copy goes on, and any other delivery ends the process
-abbrev pub all_stored : Flags → Mind → Turn
-all_stored flags p = if flags.copy then GoesOn p else Halts Delivered p
+-- under the flag c a copy was delivered
+abbrev pub all_stored : Flags → Acted
+all_stored flags = if flags.copy then CopyDone else Delivered
 
 -- what came of an attempt to deliver, and the process then
 pub record Attempted : Type 0 where
   pub attempt : Attempt
   pub mind : Mind
+
+-- why a lock wasn't got: another had it at each try, or a call failed
+abbrev pub not_got : Reply → Cause
+not_got Busy = cause.Busy
+not_got other = cause.LockFailed
 
 -- the lock is given back
 abbrev pub give_back : List ℕ → ℕ → Filing → Plan Attempted
@@ -144,7 +153,7 @@ give_back name forced filing =
 -- where the lock was got, the destinations get the mail, and then it is given back
 abbrev pub under_lock : List ℕ → Flags → List Destination → Mind → Reply → Plan Attempted
 under_lock name flags destinations p (Held sleeps forced) = and_then (file_all flags destinations (with_lock name p)) (give_back name forced)
-under_lock name flags destinations p other = Ends (record { attempt = NotLocked name; mind = p })
+under_lock name flags destinations p other = Ends (record { attempt = NotLocked name (not_got other); mind = p })
 
 -- the destinations get the mail, under a lock file where one is asked for
 abbrev pub attempt : Option (List ℕ) → Flags → List Destination → Mind → Plan Attempted
@@ -156,6 +165,7 @@ attempt (Some name) flags destinations p = and_then (ask (lock_act name (rule_of
 abbrev pub filed_lines : List ℕ → Filed → List (List ℕ)
 filed_lines text Stored = []
 filed_lines text (Unwritten name) = couldnt_write_line name ∷ []
+filed_lines text (Raced name) = couldnt_write_line name ∷ []
 filed_lines text (Left name count) = bytes_left_line count name ∷ []
 filed_lines text (Crowded name) = no_free_name_line name ∷ []
 filed_lines text Unnamed = unusable_name_line text ∷ []
@@ -167,30 +177,34 @@ line_if told line = if told then line ∷ [] else []
 -- what is told of an attempt: of the lock, of the destinations, and of the lock's removal
 abbrev pub attempt_lines : List ℕ → Attempt → List (List ℕ)
 attempt_lines text (Unlocked filed) = filed_lines text filed
-attempt_lines text (NotLocked name) = couldnt_lock_line name ∷ []
+attempt_lines text (NotLocked name cause) = couldnt_lock_line name ∷ []
 attempt_lines text (Locked name forced filed stuck) =
     (line_if (nat_lt 0 forced) (forcing_lock_line name) ++ filed_lines text filed) ++ line_if stuck (couldnt_unlock_line name)
 
--- where a destination didn't get the mail, the process goes on
-abbrev pub filed_turn : Flags → Filed → Mind → Turn
-filed_turn flags Stored p = all_stored flags p
-filed_turn flags other p = GoesOn p
+-- what came of the destinations: of one that didn't get the mail the cause
+abbrev pub filed_acted : Flags → Filed → Acted
+filed_acted flags Stored = all_stored flags
+filed_acted flags (Unwritten name) = Failed cause.Undone
+filed_acted flags (Raced name) = Failed cause.Raced
+filed_acted flags (Left name count) = Failed cause.Torn
+filed_acted flags (Crowded name) = Failed cause.NamesOut
+filed_acted flags Unnamed = Failed cause.BadName
 
--- what comes after an attempt
-abbrev pub attempt_turn : Flags → Attempt → Mind → Turn
-attempt_turn flags (Unlocked filed) p = filed_turn flags filed p
-attempt_turn flags (NotLocked name) p = GoesOn p
-attempt_turn flags (Locked name forced filed stuck) p = filed_turn flags filed p
+-- what came of an attempt
+abbrev pub attempt_acted : Flags → Attempt → Acted
+attempt_acted flags (Unlocked filed) = filed_acted flags filed
+attempt_acted flags (NotLocked name cause) = Failed cause
+attempt_acted flags (Locked name forced filed stuck) = filed_acted flags filed
 
 -- each line is told, and then this comes
-abbrev pub say_each : Mind → List (List ℕ) → Turn → Plan Turn
-say_each p [] turn = Ends turn
-say_each p (line ∷ lines) turn = and_then (log line p) (λ done. say_each p lines turn)
+abbrev pub say_each : {R : Type 0} → Mind → List (List ℕ) → R → Plan R
+say_each p [] next = Ends next
+say_each p (line ∷ lines) next = and_then (log line p) (λ done. say_each p lines next)
 
 -- the attempt got the mail to each destination
 abbrev pub is_done : Attempt → Bool
 is_done (Unlocked filed) = is_stored filed
-is_done (NotLocked name) = false
+is_done (NotLocked name cause) = false
 is_done (Locked name forced filed stuck) = is_stored filed
 
 -- a recipe that got the mail to each destination succeeded
@@ -198,28 +212,28 @@ abbrev pub settled : Attempt → Mind → Mind
 settled attempt p = if is_done attempt then succeeded p else p
 
 -- what is told of an attempt, with the abstract of a copy, and what comes after it
-abbrev pub told : Flags → List ℕ → Attempt → Mind → Plan Turn
-told flags text attempt p = say_each p (attempt_lines text attempt ++ copy_lines (is_done attempt) flags p) (attempt_turn flags attempt p)
+abbrev pub told : Flags → List ℕ → Attempt → Mind → Plan ActEnd
+told flags text attempt p = say_each p (attempt_lines text attempt ++ copy_lines (is_done attempt) flags p) (record { acted = attempt_acted flags attempt; mind = p })
 
 -- what comes after an attempt, once it is known whether the recipe succeeded
-abbrev pub after_attempt : Flags → List ℕ → Attempted → Plan Turn
+abbrev pub after_attempt : Flags → List ℕ → Attempted → Plan ActEnd
 after_attempt flags text done = told flags text done.attempt (settled done.attempt done.mind)
 
 -- the mail is delivered, and what came of it is told
-abbrev pub file_and_say : Flags → Option (List ℕ) → List ℕ → List Destination → Mind → Plan Turn
+abbrev pub file_and_say : Flags → Option (List ℕ) → List ℕ → List Destination → Mind → Plan ActEnd
 file_and_say flags lock text destinations p = and_then (attempt lock flags destinations p) (after_attempt flags text)
 
 -- a lock file is none of the destinations and not held yet, and no destination is a held lock file
-abbrev pub deliver_at : Flags → Option (List ℕ) → List ℕ → List ℕ → List Destination → Mind → Plan Turn
+abbrev pub deliver_at : Flags → Option (List ℕ) → List ℕ → List ℕ → List Destination → Mind → Plan ActEnd
 deliver_at flags lock blamed text destinations p =
-    if is_taken lock (map (full_of p.base) destinations) p.locks then refuse_name blamed p
-    else if any_held (map (full_of p.base) destinations) p.locks then refuse_name text p
+    if is_taken lock (map (full_of p.base) destinations) p.locks then refuse_act cause.NameIsLock blamed p
+    else if any_held (map (full_of p.base) destinations) p.locks then refuse_act cause.NameIsLock text p
     else file_and_say flags lock text destinations p
 
 -- there are destinations, and the name of each can be that of a file or a folder
-abbrev pub deliver_named : Flags → Option (List ℕ) → List ℕ → List ℕ → List (List ℕ) → Mind → Plan Turn
+abbrev pub deliver_named : Flags → Option (List ℕ) → List ℕ → List ℕ → List (List ℕ) → Mind → Plan ActEnd
 deliver_named flags word blamed text words p =
-    if not (are_file_texts words) then refuse_name text p
+    if not (are_file_texts words) then refuse_act cause.BadName text p
     else deliver_at flags (full_lock p.base word) blamed text (map destination_of words) p
 
 -- there is no destination
@@ -228,16 +242,16 @@ is_without [] = true
 is_without (word ∷ words) = false
 
 -- there are destinations, and the lock file's name can be a file's
-abbrev pub deliver_to : Flags → Option (List ℕ) → List ℕ → List ℕ → List (List ℕ) → Mind → Plan Turn
+abbrev pub deliver_to : Flags → Option (List ℕ) → List ℕ → List ℕ → List (List ℕ) → Mind → Plan ActEnd
 deliver_to flags lock value text words p =
-    if is_without words then refuse_name text p
-    else if not (is_lock_word (lock_word lock value words p)) then refuse_name (blamed_text lock text) p
+    if is_without words then refuse_act cause.NoWords text p
+    else if not (is_lock_word (lock_word lock value words p)) then refuse_act cause.BadName (blamed_text lock text) p
     else deliver_named flags (lock_word lock value words p) (blamed_text lock text) text words p
 
 -- the action's text is expanded with these outputs of its commands, by the variables as they stand
-abbrev pub deliver_text : Flags → Option (List ℕ) → List ℕ → List ℕ → List (List ℕ) → Mind → Plan Turn
+abbrev pub deliver_text : Flags → Option (List ℕ) → List ℕ → List ℕ → List (List ℕ) → Mind → Plan ActEnd
 deliver_text flags lock value text outputs p =
-    if is_too_long Many text p.vars outputs then skip_value Many text outputs p
+    if is_too_long Many text p.vars outputs then skip_act Many text outputs p
     else deliver_to flags lock value text (words_in Many p.vars outputs text) p
 
 -- the outputs of the commands of an action's lock file and of its own text, and the process then
@@ -247,9 +261,9 @@ pub record Ready : Type 0 where
   pub mind : Mind
 
 -- the lock file's text is expanded before that of the action
-abbrev pub deliver_with : Flags → Option (List ℕ) → List ℕ → Ready → Plan Turn
+abbrev pub deliver_with : Flags → Option (List ℕ) → List ℕ → Ready → Plan ActEnd
 deliver_with flags lock text ready =
-    if is_too_long One (text_or [] lock) ready.mind.vars ready.lock_outputs then skip_value One (text_or [] lock) ready.lock_outputs ready.mind
+    if is_too_long One (text_or [] lock) ready.mind.vars ready.lock_outputs then skip_act One (text_or [] lock) ready.lock_outputs ready.mind
     else deliver_text flags lock (value_in ready.mind.vars ready.lock_outputs (text_or [] lock)) text ready.outputs ready.mind
 
 -- the commands of a lock file's text are run before those of the action's text
@@ -260,7 +274,7 @@ make_ready lock_commands commands p =
     (λ second. Ends (record { lock_outputs = first.outputs; outputs = second.outputs; mind = second.mind })))
 
 -- all commands are run before a text is expanded
-abbrev pub deliver : Flags → Option (List ℕ) → List ℕ → Mind → Plan Turn
+abbrev pub deliver : Flags → Option (List ℕ) → List ℕ → Mind → Plan ActEnd
 deliver flags lock text p =
     and_then (make_ready (commands_in One (text_or [] lock)) (commands_in Many text) p) (λ ready. deliver_with flags lock text ready)
 
@@ -285,5 +299,11 @@ no_flags = record {
 }
 
 -- the mail goes to this mailbox as by a recipe `:0:`, under its automatic lock file
-abbrev pub deliver_default : List ℕ → Mind → Plan Turn
+abbrev pub deliver_default : List ℕ → Mind → Plan ActEnd
 deliver_default mailbox p = deliver_to no_flags (Some []) [] mailbox (mailbox ∷ []) p
+
+-- each of these mailboxes is tried in order, up to one that gets the mail; without one this came of it
+abbrev pub try_each : List (List ℕ) → Acted → Mind → Plan ActEnd
+try_each [] last p = Ends (record { acted = last; mind = p })
+try_each (mailbox ∷ mailboxes) last p =
+    and_then (deliver_default mailbox p) (λ came. if is_for_good came.acted then Ends came else try_each mailboxes came.acted came.mind)

@@ -18,6 +18,7 @@ use Rattle.pm_meaning.specs.Assigning.{assigned, probed, unset}
 use Rattle.pm_meaning.specs.Blocks.{enter_block}
 use Rattle.pm_meaning.specs.Chains.{after, is_admitted, new_chain, with_success}
 use Rattle.pm_meaning.specs.Changes.{with_arguments, with_variable, without_variable}
+use Rattle.pm_meaning.specs.Acting.{acted_turn}
 use Rattle.pm_meaning.specs.Delivering.{all_stored, feed_of}
 use Rattle.pm_meaning.specs.Destinations.{are_file_texts, destination_of}
 use Rattle.pm_meaning.specs.FirstValues.{file_values, login_name, home_folder, mailbox_values, place_values, program_values, search_path, time_zone, user_values}
@@ -26,10 +27,12 @@ use Rattle.pm_meaning.specs.GlobalLock.{got_lock}
 use Rattle.pm_meaning.specs.Locks.{automatic_lock, blamed_text, full_lock, is_taken, is_fault, any_held, lock_word, rule_of}
 use Rattle.pm_meaning.specs.Logging.{log_file}
 use Rattle.pm_meaning.specs.Minds.{Mind}
-use Rattle.pm_meaning.specs.ProgramActions.{Delivers, Filters, Captures, appended_name, captured_in, code_outcome, feed_outcome, is_final, named_lock, outcome_lines, pipe_purpose, pipe_task, refilled, unless_overflow, unless_too_long}
+use Rattle.pm_meaning.specs.ProgramActions.{Delivers, Filters, Captures, appended_name, captured_in, code_outcome, feed_outcome, done_acted, named_lock, outcome_lines, pipe_purpose, pipe_task, refilled, unless_overflow, unless_too_long}
 use Rattle.pm_meaning.specs.Programs.{code_of, line_of_words, needs_shell, shell_words}
 use Rattle.pm_meaning.specs.Turns.{Clones, EndsFile, Enters, GoesOn, Halts, Includes, Switches, refuse_name, say_then}
 use Rattle.pm_meaning.specs.declared.chain.Chain.{Chain}
+use Rattle.pm_meaning.specs.declared.acted.Acted.TheVariants as acted
+use Rattle.pm_meaning.specs.declared.acted.Cause.TheVariants as cause
 use Rattle.pm_meaning.specs.declared.process.End.TheVariants.{Delivered, HostOff}
 use Rattle.pm_meaning.specs.declared.process.Outcome.TheVariants as outcome
 use Rattle.pm_meaning.specs.declared.process.ProgramLine.TheVariants.{NoWords, Runs, Unusable}
@@ -253,12 +256,17 @@ pub record OfPrograms : Type 0 where
   -- f makes a filter; a delivery that isn't a copy ends the run
   pub filter : pipe_purpose (letters (codes "fw")) (codes "a") ≡ Filters
   pub delivery : pipe_purpose (letters (codes "w")) (codes "a") ≡ Delivers (codes "a")
-  pub last : is_final (Delivers (codes "a")) (letters []) ≡ true
-  pub copy : is_final (Delivers (codes "a")) (letters (codes "c")) ≡ false
-  pub filter_goes_on : is_final Filters (letters (codes "f")) ≡ false
-  pub capture_goes_on : is_final (Captures (codes "V")) (letters []) ≡ false
-  pub stored : all_stored (letters []) process ≡ Halts Delivered process
-  pub copy_stored : all_stored (letters (codes "c")) process ≡ GoesOn process
+  pub last : done_acted (Delivers (codes "a")) (letters []) ≡ acted.Delivered
+  pub copy : done_acted (Delivers (codes "a")) (letters (codes "c")) ≡ acted.CopyDone
+  pub filtered : done_acted Filters (letters (codes "fc")) ≡ acted.Went
+  pub output_captured : done_acted (Captures (codes "V")) (letters (codes "c")) ≡ acted.Went
+  pub stored : all_stored (letters []) ≡ acted.Delivered
+  pub copy_stored : all_stored (letters (codes "c")) ≡ acted.CopyDone
+  -- only a delivery that is no copy ends the process
+  pub ends : acted_turn acted.Delivered process ≡ Halts Delivered process
+  pub copy_goes_on : acted_turn acted.CopyDone process ≡ GoesOn process
+  pub filter_goes_on : acted_turn acted.Went process ≡ GoesOn process
+  pub failure_goes_on : acted_turn (acted.Failed cause.Torn) process ≡ GoesOn process
   -- a captured output loses the newlines at its end
   pub captured : captured_in (codes "V") (codes "a\n\n") outcome.Done process ≡ with_variable (codes "V") (codes "a") process
   pub not_captured : captured_in (codes "V") (codes "a") (outcome.Code 1) process ≡ process

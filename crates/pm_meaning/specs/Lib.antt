@@ -5,6 +5,7 @@ pub mod Chains
 pub mod FirstValues
 pub mod Changes
 pub mod Turns
+pub mod Apart
 pub mod Destinations
 pub mod Locks
 pub mod Logging

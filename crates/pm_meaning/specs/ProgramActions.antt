@@ -30,7 +30,7 @@ use Rattle.pm_journal.specs.declared.children.RunEnd.TheVariants.{Ended, NotStar
 use Rattle.pm_meaning.specs.Assigning.{first_word}
 use Rattle.pm_meaning.specs.Chains.{succeeded}
 use Rattle.pm_meaning.specs.Changes.{with_variable, with_message, stored_in, overflowed}
-use Rattle.pm_meaning.specs.Delivering.{Ready, make_ready, feed_of, line_if, say_each}
+use Rattle.pm_meaning.specs.Delivering.{Ready, make_ready, feed_of, all_stored, not_got, line_if, say_each}
 use Rattle.pm_meaning.specs.Locks.{is_fault, text_or, value_or, rule_of, blamed_text, is_lock_word, full_lock, is_taken, with_lock}
 use Rattle.pm_meaning.specs.Minds.{Mind}
 use Rattle.pm_meaning.specs.Programs.{Reading, line_reading, code_of, with_exit_code}
@@ -38,8 +38,10 @@ use Rattle.pm_meaning.specs.Forwards.{forward_reading}
 use Rattle.pm_meaning.specs.Texts.{is_empty}
 use Rattle.pm_meaning.specs.Abstracts.{copy_lines}
 use Rattle.pm_meaning.specs.Logging.{log}
-use Rattle.pm_meaning.specs.Turns.{Turn, GoesOn, Halts, say_then, refuse_name, is_too_long, skip_value}
-use Rattle.pm_meaning.specs.declared.process.End.TheVariants.{Delivered}
+use Rattle.pm_meaning.specs.Turns.{ActEnd, overflow_act, refuse_act, is_too_long, skip_act}
+use Rattle.pm_meaning.specs.declared.acted.Acted.{Acted}
+use Rattle.pm_meaning.specs.declared.acted.Acted.TheVariants.{Went, Failed}
+use Rattle.pm_meaning.specs.declared.acted.Cause.TheVariants as cause
 use Rattle.pm_meaning.specs.declared.process.Outcome.{Outcome}
 use Rattle.pm_meaning.specs.declared.process.Outcome.TheVariants.{Done, NotStarted, Lost, Closed, Code, TooLong, Overflow, Unwritten}
 use Rattle.pm_meaning.specs.declared.process.ProgramLine.{ProgramLine}
@@ -62,11 +64,6 @@ pub record Task : Type 0 where
   pub automatic : List ℕ
   pub text : List ℕ
   pub purpose : Purpose
-
--- the process ends once such a task is done: the mail was delivered, and no copy of it
-abbrev pub is_final : Purpose → Flags → Bool
-is_final (Delivers destination) flags = not flags.copy
-is_final other flags = false
 
 -- what was tried came out so, and the process then
 pub record Tried : Type 0 where
@@ -188,7 +185,7 @@ unlock_behind name forced t =
 -- where the lock was got this is tried
 abbrev pub try_locked : List ℕ → (Mind → Plan Tried) → Mind → Reply → Plan Trying
 try_locked name work p (Held sleeps forced) = and_then (work (with_lock name p)) (unlock_behind name forced)
-try_locked name work p other = Ends (record { trial = NotLocked name; mind = p })
+try_locked name work p other = Ends (record { trial = NotLocked name (not_got other); mind = p })
 
 -- this is tried, under a lock file where one is asked for
 abbrev pub try_under : Option (List ℕ) → (Mind → Plan Tried) → Mind → Plan Trying
@@ -209,23 +206,41 @@ outcome_lines flags line Unwritten = couldnt_write_out_line ∷ []
 -- and this of the lock file, of what was tried under it, and of the lock file's removal
 abbrev pub trial_lines : Flags → List ℕ → Trial → List (List ℕ)
 trial_lines flags line (Unlocked outcome) = outcome_lines flags line outcome
-trial_lines flags line (NotLocked name) = couldnt_lock_line name ∷ []
+trial_lines flags line (NotLocked name cause) = couldnt_lock_line name ∷ []
 trial_lines flags line (Locked name forced outcome stuck) =
     (line_if (nat_lt 0 forced) (forcing_lock_line name) ++ outcome_lines flags line outcome) ++ line_if stuck (couldnt_unlock_line name)
 
 -- it was done, with its lock file
 abbrev pub is_fine_trial : Trial → Bool
 is_fine_trial (Unlocked outcome) = is_fine outcome
-is_fine_trial (NotLocked name) = false
+is_fine_trial (NotLocked name cause) = false
 is_fine_trial (Locked name forced outcome stuck) = is_fine outcome
 
 -- a recipe whose action was done succeeded
 abbrev pub settled_by : Trial → Mind → Mind
 settled_by trial p = if is_fine_trial trial then succeeded p else p
 
--- what was done ends the process as delivered where it is the last
-abbrev pub trial_turn : Bool → Trial → Mind → Turn
-trial_turn last trial p = if last && is_fine_trial trial then Halts Delivered p else GoesOn p
+-- it was done: the mail was delivered, for good or as a copy, or it or a variable was changed
+abbrev pub done_acted : Purpose → Flags → Acted
+done_acted (Delivers destination) flags = all_stored flags
+done_acted other flags = Went
+
+-- what came of what was tried: where it wasn't done the cause
+abbrev pub outcome_acted : Purpose → Flags → Outcome → Acted
+outcome_acted purpose flags Done = done_acted purpose flags
+outcome_acted purpose flags NotStarted = Failed cause.NotStarted
+outcome_acted purpose flags Lost = Failed cause.Broken
+outcome_acted purpose flags Closed = Failed cause.Closed
+outcome_acted purpose flags (Code code) = Failed (cause.Code code)
+outcome_acted purpose flags TooLong = Failed cause.TooLong
+outcome_acted purpose flags (Overflow size) = Failed (cause.Overflow size)
+outcome_acted purpose flags Unwritten = Failed cause.WriteFailed
+
+-- and with its lock file
+abbrev pub trial_acted : Purpose → Flags → Trial → Acted
+trial_acted purpose flags (Unlocked outcome) = outcome_acted purpose flags outcome
+trial_acted purpose flags (NotLocked name cause) = Failed cause
+trial_acted purpose flags (Locked name forced outcome stuck) = outcome_acted purpose flags outcome
 
 -- the mail is delivered, for good or as a copy
 abbrev pub is_delivery : Purpose → Bool
@@ -233,11 +248,11 @@ is_delivery (Delivers destination) = true
 is_delivery other = false
 
 -- what is told, with the abstract of a copy, and what comes after it, once it is known whether the recipe succeeded
-abbrev pub after_trial : Task → Trying → Plan Turn
-after_trial t done = let q = settled_by done.trial done.mind in say_each q (trial_lines t.flags t.text done.trial ++ copy_lines (is_delivery t.purpose && is_fine_trial done.trial) t.flags q) (trial_turn (is_final t.purpose t.flags) done.trial q)
+abbrev pub after_trial : Task → Trying → Plan ActEnd
+after_trial t done = let q = settled_by done.trial done.mind in say_each q (trial_lines t.flags t.text done.trial ++ copy_lines (is_delivery t.purpose && is_fine_trial done.trial) t.flags q) (record { acted = trial_acted t.purpose t.flags done.trial; mind = q })
 
 -- this is tried, and what came of it is told
-abbrev pub try_and_say : Task → Option (List ℕ) → (Mind → Plan Tried) → Mind → Plan Turn
+abbrev pub try_and_say : Task → Option (List ℕ) → (Mind → Plan Tried) → Mind → Plan ActEnd
 try_and_say t lock work p = and_then (try_under lock work p) (after_trial t)
 
 -- what stands after the first `>>`
@@ -283,19 +298,19 @@ named_lock t value p =
     else None
 
 -- that there is no automatic lock file is told before this
-abbrev pub told_first : Task → Mind → Plan Turn → Plan Turn
+abbrev pub told_first : Task → Mind → Plan ActEnd → Plan ActEnd
 told_first t p next = if lacks_lock t then and_then (log (no_lock_line t.text) p) (λ done. next) else next
 
 -- the lock file isn't held yet
-abbrev pub do_under : Task → Option (List ℕ) → (Mind → Plan Tried) → Mind → Plan Turn
+abbrev pub do_under : Task → Option (List ℕ) → (Mind → Plan Tried) → Mind → Plan ActEnd
 do_under t lock work p =
-    if is_taken lock [] p.locks then refuse_name (blamed_text t.lock t.text) p
+    if is_taken lock [] p.locks then refuse_act cause.NameIsLock (blamed_text t.lock t.text) p
     else told_first t p (try_and_say t lock work p)
 
 -- the lock file's name can be a file's
-abbrev pub do_named : Task → Option (List ℕ) → (Mind → Plan Tried) → Mind → Plan Turn
+abbrev pub do_named : Task → Option (List ℕ) → (Mind → Plan Tried) → Mind → Plan ActEnd
 do_named t word work p =
-    if not (is_lock_word word) then refuse_name (blamed_text t.lock t.text) p
+    if not (is_lock_word word) then refuse_act cause.BadName (blamed_text t.lock t.text) p
     else do_under t (full_lock p.base word) work p
 
 -- the text that is told where a word of the line is unusable: the lock file's name is looked at before the words
@@ -303,20 +318,20 @@ abbrev pub unusable_text : Task → Option (List ℕ) → List ℕ
 unusable_text t word = if is_lock_word word then t.text else blamed_text t.lock t.text
 
 -- by how the line is read
-abbrev pub do_line : Task → Option (List ℕ) → (Command → Mind → Plan Tried) → ProgramLine → Mind → Plan Turn
+abbrev pub do_line : Task → Option (List ℕ) → (Command → Mind → Plan Tried) → ProgramLine → Mind → Plan ActEnd
 do_line t word work (Runs command) p = do_named t word (work command) p
-do_line t word work NoWords p = refuse_name t.text p
-do_line t word work Unusable p = refuse_name (unusable_text t word) p
-do_line t word work (LineTooLong count) p = say_then p (value_too_long_line count) (GoesOn (overflowed p))
+do_line t word work NoWords p = refuse_act cause.NoWords t.text p
+do_line t word work Unusable p = refuse_act cause.BadName (unusable_text t word) p
+do_line t word work (LineTooLong count) p = overflow_act count p
 
 -- the commands of the lock file's text
 abbrev pub lock_commands : Task → List (List ℕ)
 lock_commands t = commands_in (lock_mode t) (lock_source t)
 
 -- the lock file's text is expanded with these outputs of its commands, and then this comes with its name
-abbrev pub lock_first : Task → List (List ℕ) → (Option (List ℕ) → Plan Turn) → Mind → Plan Turn
+abbrev pub lock_first : Task → List (List ℕ) → (Option (List ℕ) → Plan ActEnd) → Mind → Plan ActEnd
 lock_first t outputs next p =
-    if is_too_long (lock_mode t) (lock_source t) p.vars outputs then skip_value (lock_mode t) (lock_source t) outputs p
+    if is_too_long (lock_mode t) (lock_source t) p.vars outputs then skip_act (lock_mode t) (lock_source t) outputs p
     else next (named_lock t (first_word (words_in (lock_mode t) p.vars outputs (lock_source t))) p)
 
 -- the parts of the mail that the flags h and b feed, as they are
@@ -324,13 +339,13 @@ abbrev pub fed_piece : Flags → Mind → List ℕ
 fed_piece flags p = piece_of p.message (feed_of flags) Other flags.raw
 
 -- the lock file's text is expanded before the line, with the outputs of their commands
-abbrev pub program_with : Task → Reading → Ready → Plan Turn
+abbrev pub program_with : Task → Reading → Ready → Plan ActEnd
 program_with t reading ready =
     let p = ready.mind in
     lock_first t ready.lock_outputs (λ word. do_line t word (work_of t.purpose t.flags (fed_piece t.flags p)) (reading.read ready.outputs p) p) p
 
 -- a program is run; all commands are run before a text is expanded
-abbrev pub do_program : Task → Reading → Mind → Plan Turn
+abbrev pub do_program : Task → Reading → Mind → Plan ActEnd
 do_program t reading p = and_then (make_ready (lock_commands t) reading.commands p) (λ ready. program_with t reading ready)
 
 -- a pipe's program filters the mail under the flag f, and otherwise the mail is delivered to it
@@ -342,7 +357,7 @@ abbrev pub pipe_task : Flags → Option (List ℕ) → List ℕ → Task
 pipe_task flags lock line = record { flags = flags; lock = lock; automatic = appended_name line; text = line; purpose = pipe_purpose flags line }
 
 -- `| program`
-abbrev pub pipe : Flags → Option (List ℕ) → List ℕ → Mind → Plan Turn
+abbrev pub pipe : Flags → Option (List ℕ) → List ℕ → Mind → Plan ActEnd
 pipe flags lock line p = do_program (pipe_task flags lock line) (line_reading line p) p
 
 -- a capture is a pipe whose output is for this variable
@@ -350,7 +365,7 @@ abbrev pub capture_task : Flags → Option (List ℕ) → List ℕ → List ℕ 
 capture_task flags lock name line = record { flags = flags; lock = lock; automatic = appended_name line; text = line; purpose = Captures name }
 
 -- `NAME=| program`
-abbrev pub capture_line : Flags → Option (List ℕ) → List ℕ → List ℕ → Mind → Plan Turn
+abbrev pub capture_line : Flags → Option (List ℕ) → List ℕ → List ℕ → Mind → Plan ActEnd
 capture_line flags lock name line p = do_program (capture_task flags lock name line) (line_reading line p) p
 
 -- mail that is forwarded goes to `!` and the addresses as they are written; there is no automatic lock file
@@ -358,7 +373,7 @@ abbrev pub forward_task : Flags → Option (List ℕ) → List ℕ → Task
 forward_task flags lock text = record { flags = flags; lock = lock; automatic = []; text = text; purpose = Delivers (codes "!" ++ text) }
 
 -- `! addresses`
-abbrev pub forward : Flags → Option (List ℕ) → List ℕ → Mind → Plan Turn
+abbrev pub forward : Flags → Option (List ℕ) → List ℕ → Mind → Plan ActEnd
 forward flags lock text p = do_program (forward_task flags lock text) (forward_reading text) p
 
 -- standard output has no automatic lock file
@@ -366,9 +381,9 @@ abbrev pub write_task : Flags → Option (List ℕ) → Task
 write_task flags lock = record { flags = flags; lock = lock; automatic = []; text = codes "|"; purpose = Delivers (codes "|") }
 
 -- the mail is written to standard output, under its lock file
-abbrev pub write_with : Task → Ready → Plan Turn
+abbrev pub write_with : Task → Ready → Plan ActEnd
 write_with t ready = lock_first t ready.lock_outputs (λ word. do_named t word (write (fed_piece t.flags ready.mind)) ready.mind) ready.mind
 
 -- `|` alone: the piece goes to the output
-abbrev pub write_out : Flags → Option (List ℕ) → Mind → Plan Turn
+abbrev pub write_out : Flags → Option (List ℕ) → Mind → Plan ActEnd
 write_out flags lock p = let t = write_task flags lock in and_then (make_ready (lock_commands t) [] p) (λ ready. write_with t ready)

@@ -17,18 +17,20 @@ use Rattle.pm_journal.specs.Walking.{Next, Stop, Go}
 use Rattle.pm_vars.specs.Table.{Table}
 use Rattle.pm_meaning.specs.FirstValues.{login_name, home_folder, first_process}
 use Rattle.pm_meaning.specs.Changes.{with_variable, with_base, with_rcfile, with_openings, opened}
-use Rattle.pm_meaning.specs.Turns.{Turn, GoesOn, Halts, Enters, Includes, Switches, EndsFile, Clones, say_then}
+use Rattle.pm_meaning.specs.Turns.{Turn, GoesOn, Halts, Enters, Includes, Switches, EndsFile, Clones, ActEnd, is_for_good, say_then}
 use Rattle.pm_meaning.specs.Assigning.{assigned, assign, unset, skip_defect}
-use Rattle.pm_meaning.specs.Delivering.{is_without, deliver_default}
+use Rattle.pm_meaning.specs.Delivering.{is_without, deliver_default, try_each}
 use Rattle.pm_meaning.specs.Blocks.{carry_out, begun_block, closed, give_maybe}
 use Rattle.pm_meaning.specs.Judging.{judge_first}
 use Rattle.pm_meaning.specs.GlobalLock.{give_named}
 use Rattle.pm_meaning.specs.Locks.{value_or}
 use Rattle.pm_meaning.specs.Texts.{is_empty}
 use Rattle.pm_meaning.specs.Minds.{Mind}
+use Rattle.pm_meaning.specs.declared.acted.Acted.TheVariants.{Failed}
+use Rattle.pm_meaning.specs.declared.acted.Cause.TheVariants.{NoName}
 use Rattle.pm_meaning.specs.declared.chain.Chain.{Chain}
 use Rattle.pm_meaning.specs.declared.process.End.{End}
-use Rattle.pm_meaning.specs.declared.process.End.TheVariants.{FellOff, NoRc, HostOff}
+use Rattle.pm_meaning.specs.declared.process.End.TheVariants.{Delivered, FellOff, NoRc, HostOff}
 use Rattle.pm_meaning.specs.Ends.{tell_delivery, trap}
 use Rattle.pm_meaning.specs.Status.{exit_status}
 use Rattle.pm_meaning.specs.declared.command_line.CommandLine.{CommandLine}
@@ -200,6 +202,10 @@ abbrev pub default_mailboxes : Table → List (List ℕ)
 default_mailboxes vars =
     unless_same [] (value_or [] (codes "DEFAULT") vars) ++ unless_same (value_or [] (codes "DEFAULT") vars) (value_or [] (codes "ORGMAIL") vars)
 
+-- the mail goes to the first default mailbox that gets it; without one there is no name
+abbrev pub fall_back : Mind → Plan ActEnd
+fall_back p = try_each (default_mailboxes p.vars) (Failed NoName) p
+
 -- what a statement asks for
 abbrev pub statement : Tree → Mind → Plan Turn
 statement (Assign name text) p = assign name text p
@@ -266,19 +272,13 @@ next_of tree count rest (EndsFile p) = Go (LeavingFile (locks_in_file rest) (beh
 next_of tree count rest (Clones p) = Go (Cloning (block_of tree) rest (with_openings count p))
 
 -- what comes after a default mailbox; no block is open there
-abbrev pub next_default : List (List ℕ) → Turn → Next State Event
-next_default rest (GoesOn p) = Go (FallingOff rest p)
-next_default rest (Halts end p) = Go (Over end p)
-next_default rest (Enters lock p) = Go (FallingOff rest p)
-next_default rest (Includes name p) = Go (FallingOff rest p)
-next_default rest (Switches name p) = Go (FallingOff rest p)
-next_default rest (EndsFile p) = Go (FallingOff rest p)
-next_default rest (Clones p) = Go (FallingOff rest p)
+abbrev pub next_default : List (List ℕ) → ActEnd → Next State Event
+next_default rest came = if is_for_good came.acted then Go (Over Delivered came.mind) else Go (FallingOff rest came.mind)
 
 -- the next default mailbox is tried; without one no delivery was made
 abbrev pub falling_off : List (List ℕ) → Mind → Plan (Next State Event)
 falling_off [] p = say_then p no_delivery_line (Go (Over FellOff p))
-falling_off (mailbox ∷ rest) p = and_then (deliver_default mailbox p) (λ turn. Ends (next_default rest turn))
+falling_off (mailbox ∷ rest) p = and_then (deliver_default mailbox p) (λ came. Ends (next_default rest came))
 
 -- what a process does next: it falls off the end, carries a statement out, leaves a block, whose lock is given back, or comes back
 -- to the rcfile of this name

@@ -1,5 +1,5 @@
 -- What comes of a statement, and what every statement may ask for.
-use Rattle.std.specs.Prelude.{ℕ, Bool, ◌-◌, ◌^◌, min, nat_lt, List, Option}
+use Rattle.std.specs.Prelude.{ℕ, Bool, true, false, ◌-◌, ◌^◌, min, nat_lt, List, Option}
 use Rattle.pm_vars.specs.Table.{Table}
 use Rattle.pm_subst.specs.Words.{size_in}
 use Rattle.pm_subst.specs.declared.kinds.Mode.{Mode}
@@ -8,6 +8,10 @@ use Rattle.pm_journal.specs.Plan.{Plan, Ends, and_then}
 use Rattle.pm_meaning.specs.Changes.{overflowed}
 use Rattle.pm_meaning.specs.Logging.{log}
 use Rattle.pm_meaning.specs.Minds.{Mind}
+use Rattle.pm_meaning.specs.declared.acted.Acted.{Acted}
+use Rattle.pm_meaning.specs.declared.acted.Acted.TheVariants.{Delivered, Failed}
+use Rattle.pm_meaning.specs.declared.acted.Cause.{Cause}
+use Rattle.pm_meaning.specs.declared.acted.Cause.TheVariants.{Overflow}
 use Rattle.pm_meaning.specs.declared.process.End.{End}
 
 -- the next statement comes, the process ends, a block is entered under this lock, this rcfile is asked for before the next
@@ -40,3 +44,33 @@ length_in mode text vars outputs = min (size_in mode vars outputs text) (2 ^ 64 
 -- a value that is too long is told by its length, and the statement is skipped
 abbrev pub skip_value : Mode → List ℕ → List (List ℕ) → Mind → Plan Turn
 skip_value mode text outputs p = say_then p (value_too_long_line (length_in mode text p.vars outputs)) (GoesOn (overflowed p))
+
+-- what an action came to, and the process then
+pub record ActEnd : Type 0 where
+  pub acted : Acted
+  pub mind : Mind
+
+-- a delivery that is no copy
+abbrev pub is_for_good : Acted → Bool
+is_for_good Delivered = true
+is_for_good other = false
+
+-- the mail was delivered for good
+abbrev pub for_good : ActEnd → Bool
+for_good end = is_for_good end.acted
+
+-- an action wasn't done for this cause
+abbrev pub failed : Cause → Mind → ActEnd
+failed cause p = record { acted = Failed cause; mind = p }
+
+-- a name can't be used: this is told, and the action isn't done
+abbrev pub refuse_act : Cause → List ℕ → Mind → Plan ActEnd
+refuse_act cause text p = say_then p (unusable_name_line text) (failed cause p)
+
+-- so an action ends one of whose texts is too long
+abbrev pub overflow_act : ℕ → Mind → Plan ActEnd
+overflow_act length p = say_then p (value_too_long_line length) (failed (Overflow length) (overflowed p))
+
+-- a value that is too long is told by its length, and the action isn't done
+abbrev pub skip_act : Mode → List ℕ → List (List ℕ) → Mind → Plan ActEnd
+skip_act mode text outputs p = overflow_act (length_in mode text p.vars outputs) p

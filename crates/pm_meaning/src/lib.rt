@@ -2,12 +2,14 @@
 //! that conditions and actions both ask for are carried out here: to log, to expand texts, and to run their commands.
 #![tactic(auto)]
 
+pub mod acted;
 mod blanks;
 pub mod chain;
 pub mod command_line;
 pub mod ending;
 pub mod expanding;
 pub mod laws;
+pub mod mind;
 pub mod names;
 pub mod outputs;
 pub mod process;
@@ -19,11 +21,13 @@ pub mod status;
 pub mod telling;
 pub mod weighing;
 
+pub use acted::{Acted, Cause};
 pub use blanks::past_blanks;
 pub use chain::{Chain, admits, after, new_chain, succeed};
 pub use command_line::CommandLine;
 pub use ending::Ending;
 pub use expanding::{Expansion, expand_text, first_word};
+pub use mind::{Last, Mind, Shared};
 pub use names::{file_name, is_nothing};
 pub use outputs::{Ready, make_ready, outputs_of, read_line, tell_run};
 pub use process::{Attempt, Destination, End, Filed, Outcome, Process, ProgramLine, Stored, Trial};

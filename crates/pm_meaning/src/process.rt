@@ -1,7 +1,7 @@
 //! A process that runs recipes, what comes of a delivery, and how a process ends.
 ghost use Rattle.std.specs.Prelude.{◌≡◌, [], IfOk};
 
-use crate::{Chain, new_chain};
+use crate::{Cause, Chain, new_chain};
 use pm_bytes::{Blob, Memory, Name};
 use pm_host::Command;
 use pm_journal::{FolderKind, HeldLocks};
@@ -101,6 +101,8 @@ pub enum Filed {
     /// The file of this name couldn't be written to and has its old contents; or no file was added to the directory of
     /// this name.
     Unwritten(Name),
+    /// The file of this name wasn't there, and then another program had made it.
+    Raced(Name),
     /// The file couldn't be written to, and so many bytes of the piece are left at its end.
     Left { name: Name, count: u64 },
     /// All names that were tried in the folder of this name are taken.
@@ -114,8 +116,11 @@ pub enum Filed {
 pub enum Attempt {
     /// No lock file was asked for.
     Unlocked(Filed),
-    /// The lock of this name wasn't got, and no destination was tried.
-    NotLocked(Name),
+    /// The lock of this name wasn't got for this cause, and no destination was tried.
+    NotLocked {
+        name: Name,
+        cause: Cause,
+    },
     /// The lock was got after so many removals by force; `stuck` where its own removal failed after the delivery.
     Locked {
         name: Name,
@@ -163,8 +168,11 @@ pub enum Outcome {
 pub enum Trial {
     /// No lock file was asked for.
     Unlocked(Outcome),
-    /// The lock of this name wasn't got, and nothing was tried.
-    NotLocked(Name),
+    /// The lock of this name wasn't got for this cause, and nothing was tried.
+    NotLocked {
+        name: Name,
+        cause: Cause,
+    },
     /// The lock was got after so many removals by force; `stuck` where its own removal failed after what was tried.
     Locked {
         name: Name,

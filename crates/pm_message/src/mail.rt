@@ -8,7 +8,7 @@ ghost use Rattle.pm_message.specs.Split.{split_of, whole_of};
 
 use crate::areas::{both_areas, head_area};
 use crate::pieces::{end_unless_empty, needs_escape};
-use crate::{Feed, Kind, Message, Place, divide, piece};
+use crate::{Feed, Kind, Message, Place, divide, piece, whole};
 use pm_bytes::{Blob, Memory};
 use std::alloc::Global;
 use std::marker::Model;
@@ -82,6 +82,29 @@ impl Mail {
             both_areas: None,
             mailbox: None,
         })
+    }
+
+    /// The mail of these parts. `Memory` is the only error.
+    pub fn of(alloc: Global, parts: Message) -> Result<Mail, Memory>
+        ensures { IfOk result (λ mail. mail ≡ parts) }
+    {
+        let whole = whole(alloc, &parts)?;
+        Ok(Mail {
+            parts,
+            whole,
+            ended: None,
+            head_area: None,
+            both_areas: None,
+            mailbox: None,
+        })
+    }
+
+    /// The header and the body, without what was made of them.
+    pub fn into_parts(self) -> Message
+        ensures { result ≡ self }
+    {
+        let Mail { parts, .. } = self;
+        parts
     }
 
     pub fn parts(&self) -> &Message

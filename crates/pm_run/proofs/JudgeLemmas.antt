@@ -14,13 +14,28 @@ use Rattle.pm_recipe.specs.declared.tree.Condition.{Condition}
 use Rattle.pm_meaning.specs.Chains.{is_admitted, passed, executed}
 use Rattle.pm_meaning.specs.Judging.{Held, held_with, holding, behind_conditions, judge_first}
 use Rattle.pm_meaning.specs.Minds.{Mind}
-use Rattle.pm_meaning.specs.Turns.{Turn, GoesOn}
+use Rattle.pm_meaning.specs.Acting.{acted_turn, turn_after}
+use Rattle.pm_meaning.specs.Apart.{acted_with}
+use Rattle.pm_meaning.specs.Turning.{turn_of}
+use Rattle.pm_meaning.specs.Turns.{Turn, GoesOn, ActEnd}
+use Rattle.pm_meaning.specs.declared.acted.Acted.{Acted}
+use Rattle.pm_meaning.specs.declared.process.End.{End}
 use Rattle.pm_meaning.proofs.Choices.{ok_map, err_map}
 use Rattle.pm_host.specs.Told.{Tells, Adds}
 use Rattle.pm_conds.specs.Notes.{HearsHeld}
 use Rattle.pm_conds.specs.declared.observer.Note.{Note}
 use Rattle.pm_conds.specs.declared.observer.Note.TheVariants.{CameTo}
 use Rattle.pm_run.specs.Coming.{HearsConditions, HearsCome}
+
+-- an action was done, or memory was wanting in it, and this comes of it as a statement
+pub acted_executes : (plan : Plan ActEnd) (acted : Acted) (end : Option End) (q : Mind) (x y : JournalState) (a b : View) → acted_turn acted q ≡ turn_of end q → Executes plan (acted_with acted q) x y a b
+    → Executes (and_then plan (λ came. Ends (turn_after came))) (turn_of end q) x y a b
+acted_executes plan acted end q x y a b same h =
+    executes_then plan (λ came. Ends (turn_after came)) (acted_with acted q) (turn_of end q) x y y a b b h
+    (subst (λ t. Executes (Ends (acted_turn acted q)) t y y b b) same (executes_nothing (acted_turn acted q) y y b refl))
+
+pub acted_out : (plan : Plan ActEnd) (x y : JournalState) (a b : View) → OutOfMemory plan x y a b → OutOfMemory (and_then plan (λ came. Ends (turn_after came))) x y a b
+acted_out plan x y a b h = out_front plan (λ came. Ends (turn_after came)) x y a b h
 
 module _ (top : Top) (p : Mind) where
   -- what comes after the conditions

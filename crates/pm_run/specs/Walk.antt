@@ -7,7 +7,7 @@ use Rattle.pm_recipe.specs.Tree.{Tree, Recipe}
 use Rattle.pm_journal.specs.Plan.{Plan, Ends}
 use Rattle.pm_journal.specs.declared.acts.Entry.{Entry}
 use Rattle.pm_meaning.specs.Blocks.{begun_block}
-use Rattle.pm_meaning.specs.Acting.{act_on}
+use Rattle.pm_meaning.specs.Acting.{acting}
 use Rattle.pm_meaning.specs.Judging.{judge_first}
 use Rattle.pm_meaning.specs.Minds.{Mind}
 use Rattle.pm_meaning.specs.Turns.{Turn, GoesOn, Halts, Enters, Clones}
@@ -29,7 +29,7 @@ use Rattle.pm_run.specs.declared.walk.Stepped.TheVariants as stepped
 
 -- what a statement asks for whose recipe has no block
 abbrev pub single : Tree → Mind → Plan Turn
-single (Recipe top act) p = judge_first top (λ q. act_on top act q) p
+single (Recipe top act) p = judge_first top (λ q. acting top act q) p
 single tree p = statement tree p
 
 -- what a step asks for that is such a statement

@@ -3,13 +3,14 @@ ghost use Rattle.std.specs.Prelude.{◌≡◌, ◌++◌, IfOk, OnOk, OnErr, []};
 ghost use Rattle.pm_journal.specs.Executed.{Carries};
 ghost use Rattle.pm_journal.specs.Walking.{Go};
 ghost use Rattle.pm_actions.specs.Undelivered.{Undelivered};
+ghost use Rattle.pm_meaning.specs.Apart.{acted_with};
 ghost use Rattle.pm_meaning.specs.Delivering.{no_flags};
 ghost use Rattle.pm_meaning.specs.Delivering;
 ghost use Rattle.pm_meaning.specs.Locks.{value_or};
 ghost use Rattle.pm_meaning.specs.Minds.{mind_of};
 ghost use Rattle.pm_meaning.specs.Running.{Running, FallingOff, Over, step, unless_same};
 ghost use Rattle.pm_meaning.specs.Running.{default_mailboxes as mailboxes_by_default};
-ghost use Rattle.pm_meaning.specs.Turning.{turn_of};
+ghost use Rattle.pm_meaning.specs.Turns.{is_for_good};
 ghost use Rattle.pm_run.specs.Drafts.{IsDrafted};
 ghost use Rattle.pm_run.specs.Stretches.{Walks};
 
@@ -18,7 +19,7 @@ use crate::drafting::draft_for;
 use pm_actions::deliver_default;
 use pm_bytes::{Blob, Memory};
 use pm_journal::{Effects, no_delivery};
-use pm_meaning::{End, Run, tell};
+use pm_meaning::{Acted, End, Run, tell};
 use pm_vars::Vars;
 use std::alloc::Global;
 use std::collections::VecDeque;
@@ -86,8 +87,9 @@ fn try_each<D: Effects>(
         run.old.journal run.new.journal (D.told run.old.outside) (D.told run.new.outside) }
 {
     while let Some(mailbox) = mailboxes.pop_front() {
-        if let Some(end) = try_mailbox(alloc, run, &mailbox, draft)? {
-            return Ok(end);
+        let acted = try_mailbox(alloc, run, &mailbox, draft)?;
+        if is_delivered(acted) {
+            return Ok(End::Delivered);
         }
     }
     lose(alloc, run)
@@ -99,15 +101,22 @@ fn try_mailbox<D: Effects>(
     run: &mut Run<D>,
     mailbox: &Blob,
     draft: &mut Option<Draft>,
-) -> Result<Option<End>, Memory>
+) -> Result<Acted, Memory>
     ensures carries { Carries (Delivering.deliver_default mailbox.now (mind_of run.old.process))
-        (λ end. turn_of end (mind_of run.new.process)) result
+        (λ acted. acted_with acted (mind_of run.new.process)) result
         run.old.journal run.new.journal (D.told run.old.outside) (D.told run.new.outside) }
     ensures sure { OnErr result (Undelivered no_flags run.old.journal run.new.journal) }
     ensures drafted { IfOk result (λ _. IsDrafted draft.new (mind_of run.old.process)) }
 {
     *draft = draft_for(alloc, &run.process)?;
     deliver_default(alloc, run, mailbox)
+}
+
+// Whether the mail was delivered.
+fn is_delivered(acted: Acted) -> bool
+    ensures { result ≡ is_for_good acted }
+{
+    matches!(acted, Acted::Delivered)
 }
 
 // No mailbox took the mail.

@@ -4,7 +4,7 @@ ghost use Rattle.std.specs.Prelude.{◌≡◌, IfOk, OnErr};
 ghost use Rattle.pm_journal.specs.Executed.{Carries, OutOfMemory};
 ghost use Rattle.pm_journal.specs.Plan.{Plan};
 ghost use Rattle.pm_recipe.specs.View.{act_of};
-ghost use Rattle.pm_meaning.specs.Acting.{act_on};
+ghost use Rattle.pm_meaning.specs.Acting.{acted_turn, acting};
 ghost use Rattle.pm_meaning.specs.Chains.{passed, executed};
 ghost use Rattle.pm_meaning.specs.Judging.{judge_first};
 ghost use Rattle.pm_meaning.specs.Minds.{Mind, mind_of};
@@ -22,7 +22,7 @@ use pm_actions::perform;
 use pm_bytes::Memory;
 use pm_conds::{Observer, conditions_hold};
 use pm_journal::Effects;
-use pm_meaning::{End, Process, Run, admits, after};
+use pm_meaning::{Acted, End, Process, Run, admits, after};
 use pm_recipe::{Flags, Recipe};
 use std::alloc::Global;
 
@@ -93,7 +93,7 @@ pub fn run_recipe<D: Effects, N: Observer>(
     observer: &mut N,
 ) -> Result<Option<End>, Memory>
     ensures carries { let top = top_of recipe.now in
-        Carries (judge_first top (λ p. act_on top (act_of recipe.now.action) p) (mind_of run.old.process))
+        Carries (judge_first top (λ p. acting top (act_of recipe.now.action) p) (mind_of run.old.process))
         (λ end. turn_of end (mind_of run.new.process)) result
         run.old.journal run.new.journal (D.told run.old.outside) (D.told run.new.outside) }
     ensures sure { OnErr result (OfNew (LeavesUndelivered (top_of recipe.now) (mind_of run.old.process))
@@ -113,12 +113,23 @@ fn act<D: Effects>(
     draft: &mut Option<Draft>,
 ) -> Result<Option<End>, Memory>
     ensures carries { Carries
-        (act_on (top_of recipe.now) (act_of recipe.now.action) (mind_of run.old.process))
+        (acting (top_of recipe.now) (act_of recipe.now.action) (mind_of run.old.process))
         (λ end. turn_of end (mind_of run.new.process)) result
         run.old.journal run.new.journal (D.told run.old.outside) (D.told run.new.outside) }
     ensures sure { OnErr result (Undelivered recipe.now.flags run.old.journal run.new.journal) }
     ensures drafted { IfOk result (λ _. IsDrafted draft.new (mind_of run.old.process)) }
 {
     *draft = draft_for(alloc, &run.process)?;
-    perform(alloc, run, recipe)
+    let acted = perform(alloc, run, recipe)?;
+    Ok(end_after(acted))
+}
+
+// Only a delivery for good ends the process.
+fn end_after(acted: Acted) -> Option<End>
+    ensures { (p : Mind) → acted_turn acted p ≡ turn_of result p }
+{
+    match acted {
+        Acted::Delivered => Some(End::Delivered),
+        Acted::CopyDone | Acted::Went | Acted::Failed(_) => None,
+    }
 }

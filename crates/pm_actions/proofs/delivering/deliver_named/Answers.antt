@@ -4,9 +4,10 @@ use Rattle.pm_meaning.specs.Delivering.{deliver_at, deliver_named}
 use Rattle.pm_meaning.specs.Locks.{blamed_text}
 use Rattle.pm_meaning.specs.Minds.{mind_of}
 use Rattle.pm_meaning.proofs.Choices.{carried}
+use Rattle.pm_meaning.specs.Turns.{failed, refuse_act}
+use Rattle.pm_meaning.specs.declared.acted.Cause.TheVariants as cause
 use Rattle.pm_actions.proofs.DeliverLemmas.{texts_usable}
 use Rattle.pm_meaning.proofs.Choices.{err_map}
-use Rattle.pm_meaning.specs.Turns.{GoesOn, refuse_name}
 use Rattle.pm_actions.proofs.CalmLemmas.{calm_out, calm_said, calm_sure, sure_none}
 use Rattle.pm_actions.proofs.delivering.deliver_named.Goals as goal
 
@@ -38,4 +39,4 @@ returns-in_ok-lock-in-Some-clause-sure g c = c.deliver_at.ensures.sure
 
 pub returns-in-None-clause-sure : goal.returns-in-None-clause-sure
 returns-in-None-clause-sure g c =
-    err_map c.refuse.result _ _ (λ out. calm_sure c.args.order.now.flags c.args.run.now.journal c.refuse.new.run.journal (calm_out c.args.order.now.flags (refuse_name c.args.order.now.text.now (mind_of c.args.run.now.process)) c.args.run.now.journal c.refuse.new.run.journal _ _ (calm_said c.args.order.now.flags (mind_of c.args.run.now.process) _ (GoesOn (mind_of c.args.run.now.process))) out)) c.refuse.ensures.carries.1
+    err_map c.refuse_act.result _ _ (λ out. calm_sure c.args.order.now.flags c.args.run.now.journal c.refuse_act.new.run.journal (calm_out c.args.order.now.flags (refuse_act cause.BadName c.args.order.now.text.now (mind_of c.args.run.now.process)) c.args.run.now.journal c.refuse_act.new.run.journal _ _ (calm_said c.args.order.now.flags (mind_of c.args.run.now.process) _ (failed cause.BadName (mind_of c.args.run.now.process))) out)) c.refuse_act.ensures.carries.1

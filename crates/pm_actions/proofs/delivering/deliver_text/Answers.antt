@@ -3,11 +3,11 @@ use Rattle.pm_journal.proofs.WantsMemory.{on_err, out_anywhere}
 use Rattle.pm_meaning.specs.Delivering.{deliver_to, deliver_text}
 use Rattle.pm_meaning.specs.Minds.{mind_of}
 use Rattle.pm_meaning.proofs.Choices.{carried}
+use Rattle.pm_meaning.specs.Turns.{failed, overflow_act}
+use Rattle.pm_meaning.specs.declared.acted.Cause.TheVariants as cause
 use Rattle.pm_actions.proofs.DeliverLemmas.{text_expands}
 use Rattle.pm_meaning.proofs.Choices.{err_map}
-use Rattle.pm_journal.specs.LogText.{value_too_long_line}
 use Rattle.pm_meaning.specs.Changes.{overflowed}
-use Rattle.pm_meaning.specs.Turns.{GoesOn, say_then}
 use Rattle.pm_actions.proofs.CalmLemmas.{calm_out, calm_said, calm_sure, sure_none}
 use Rattle.pm_actions.proofs.delivering.deliver_text.Goals as goal
 
@@ -31,5 +31,5 @@ returns-in-Words-clause-sure g c = c.deliver_to_words.ensures.sure
 
 pub returns-in-TooLong-clause-sure : goal.returns-in-TooLong-clause-sure
 returns-in-TooLong-clause-sure g c =
-    let turn = GoesOn (overflowed (mind_of c.args.run.now.process)) in
-    err_map c.skip_value.result _ _ (λ out. calm_sure c.args.order.now.flags c.args.run.now.journal c.skip_value.new.run.journal (calm_out c.args.order.now.flags (say_then (mind_of c.args.run.now.process) (value_too_long_line c.in-TooLong.length) turn) c.args.run.now.journal c.skip_value.new.run.journal _ _ (calm_said c.args.order.now.flags (mind_of c.args.run.now.process) _ turn) out)) c.skip_value.ensures.carries.1
+    let came = failed (cause.Overflow c.in-TooLong.length) (overflowed (mind_of c.args.run.now.process)) in
+    err_map c.overflow.result _ _ (λ out. calm_sure c.args.order.now.flags c.args.run.now.journal c.overflow.new.run.journal (calm_out c.args.order.now.flags (overflow_act c.in-TooLong.length (mind_of c.args.run.now.process)) c.args.run.now.journal c.overflow.new.run.journal _ _ (calm_said c.args.order.now.flags (mind_of c.args.run.now.process) _ came) out)) c.overflow.ensures.carries.1

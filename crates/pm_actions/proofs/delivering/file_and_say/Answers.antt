@@ -3,7 +3,7 @@ use Rattle.pm_journal.proofs.WantsMemory.{on_err, out_anywhere, out_front}
 use Rattle.pm_meaning.specs.Delivering.{attempt, after_attempt, say_each, attempt_lines}
 use Rattle.pm_meaning.specs.Minds.{mind_of}
 use Rattle.pm_actions.specs.Copies.{attempted_of}
-use Rattle.pm_meaning.specs.Turning.{turn_of}
+use Rattle.pm_meaning.specs.Apart.{acted_with}
 use Rattle.pm_meaning.proofs.Choices.{ok_map, err_map}
 use Rattle.pm_meaning.proofs.Choices.{carried}
 use Rattle.pm_actions.proofs.DeliverLemmas.{said_after, attempt_then, attempt_then_out}
@@ -36,8 +36,8 @@ returns-clause-carries g c =
     let q = mind_of c.settle.new.process in
     let done = attempted_of c.in_ok-attempt.attempt (mind_of c.attempt.new.run.process) in
     let said =
-    carried (say_each q c.push_copy.new.lines.items (turn_of c.end_of-end.result q)) (after_attempt c.args.order.now.flags c.args.order.now.text.now done) _ _ _ _ _ _ (said_after c.args.order.now.flags c.args.order.now.text.now c.in_ok-attempt.attempt (mind_of c.attempt.new.run.process) q c.in_ok-lines.lines.items _ c.is_done.result _ c.in_ok-push_copy.ensures.lines c.in_ok-lines.ensures.lines c.is_done.ensures c.settle.ensures.mind (c.end_of-end.ensures q)) c.say_each.ensures.carries in (
-      ok_map _ _ _ (λ end h. attempt_then c.args.order.now.flags c.args.lock c.args.order.now.text.now c.args.destinations.now p done (turn_of end (mind_of c.say_each.new.run.process)) c.args.run.now.journal c.attempt.new.run.journal c.say_each.new.run.journal _ _ _ c.in_ok-attempt.ensures.carries.0 h) said.0,
+    carried (say_each q c.push_copy.new.lines.items (acted_with c.acted_by-acted.result q)) (after_attempt c.args.order.now.flags c.args.order.now.text.now done) _ _ _ _ _ _ (said_after c.args.order.now.flags c.args.order.now.text.now c.in_ok-attempt.attempt (mind_of c.attempt.new.run.process) q c.in_ok-lines.lines.items _ c.is_done.result _ c.in_ok-push_copy.ensures.lines c.in_ok-lines.ensures.lines c.is_done.ensures c.settle.ensures.mind c.acted_by-acted.ensures) c.say_each.ensures.carries in (
+      ok_map _ _ _ (λ end h. attempt_then c.args.order.now.flags c.args.lock c.args.order.now.text.now c.args.destinations.now p done (acted_with end (mind_of c.say_each.new.run.process)) c.args.run.now.journal c.attempt.new.run.journal c.say_each.new.run.journal _ _ _ c.in_ok-attempt.ensures.carries.0 h) said.0,
       err_map _ _ _ (λ h. attempt_then_out c.args.order.now.flags c.args.lock c.args.order.now.text.now c.args.destinations.now p done c.args.run.now.journal c.attempt.new.run.journal c.say_each.new.run.journal _ _ _ c.in_ok-attempt.ensures.carries.0 h) said.1,
     )
 
@@ -83,5 +83,5 @@ returns-clause-sure g c =
     let all = c.push_copy.new.lines.items in
     let z = c.say_each.new.run.journal in
     let same = c.in_ok-push_copy.ensures.lines ∙ ap (λ l. l ++ copy_lines c.is_done.result flags q) c.in_ok-lines.ensures.lines in
-    err_both c.say_each.result _ _ _ (λ some out. sure_told flags first x y z tried.more tried.entries quiet (calm_out flags (say_each q all (turn_of c.end_of-end.result q)) y z _ _ (calm_each flags q all (turn_of c.end_of-end.result q)) out)
+    err_both c.say_each.result _ _ _ (λ some out. sure_told flags first x y z tried.more tried.entries quiet (calm_out flags (say_each q all (acted_with c.acted_by-acted.result q)) y z _ _ (calm_each flags q all (acted_with c.acted_by-acted.result q)) out)
     (lines_some flags c.is_done.result q all first same some)) c.say_each.ensures.sure c.say_each.ensures.carries.1

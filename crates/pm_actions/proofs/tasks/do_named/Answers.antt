@@ -2,9 +2,9 @@ use Rattle.std.proofs.Common.{refl, rules}
 use Rattle.pm_journal.proofs.WantsMemory.{on_err, out_anywhere}
 use Rattle.pm_meaning.specs.Minds.{mind_of}
 use Rattle.pm_meaning.specs.ProgramActions.{told_first, try_and_say, do_named}
-use Rattle.pm_meaning.specs.Turns.{refuse_name, GoesOn}
 use Rattle.pm_actions.specs.Errands.{task_of}
 use Rattle.pm_meaning.proofs.Choices.{carried}
+use Rattle.pm_meaning.specs.Turns.{failed, refuse_act}
 use Rattle.pm_actions.proofs.DeliverLemmas.{free_lock}
 use Rattle.pm_actions.proofs.TaskLemmas.{lock_refused, lock_free}
 use Rattle.pm_meaning.proofs.Choices.{err_map}
@@ -29,7 +29,7 @@ returns-in-Refused-clause-carries g c =
     let t = task_of c.args.task.now in
     let p = mind_of c.args.run.now.process in
     let h = rw c.in-Refused.is at c.in_ok-lock.ensures in
-    λ work is. carried (refuse_name c.blamed_text-text.result.now p) (do_named t c.args.word work p) _ _ _ _ _ _ (lock_refused t c.args.word work c.blamed_text-text.result.now p h c.blamed_text-text.ensures) c.refuse.ensures.carries
+    λ work is. carried (refuse_act c.in-Refused.cause c.blamed_text-text.result.now p) (do_named t c.args.word work p) _ _ _ _ _ _ (lock_refused t c.args.word work c.blamed_text-text.result.now c.in-Refused.cause p h c.blamed_text-text.ensures) c.refuse_act.ensures.carries
 
 pub returns-in_err-lock-clause-sure : goal.returns-in_err-lock-clause-sure
 returns-in_err-lock-clause-sure g c = λ work is. on_err _ _ (sure_none c.args.task.now.flags c.args.run.now.journal c.args.run.now.journal refl)
@@ -39,4 +39,4 @@ returns-in-Free-clause-sure g c = λ work is. c.do_free.ensures.sure work is
 
 pub returns-in-Refused-clause-sure : goal.returns-in-Refused-clause-sure
 returns-in-Refused-clause-sure g c = λ work is.
-    err_map c.refuse.result _ _ (λ out. calm_sure c.args.task.now.flags c.args.run.now.journal c.refuse.new.run.journal (calm_out c.args.task.now.flags (refuse_name c.blamed_text-text.result.now (mind_of c.args.run.now.process)) c.args.run.now.journal c.refuse.new.run.journal _ _ (calm_said c.args.task.now.flags (mind_of c.args.run.now.process) _ (GoesOn (mind_of c.args.run.now.process))) out)) c.refuse.ensures.carries.1
+    err_map c.refuse_act.result _ _ (λ out. calm_sure c.args.task.now.flags c.args.run.now.journal c.refuse_act.new.run.journal (calm_out c.args.task.now.flags (refuse_act c.in-Refused.cause c.blamed_text-text.result.now (mind_of c.args.run.now.process)) c.args.run.now.journal c.refuse_act.new.run.journal _ _ (calm_said c.args.task.now.flags (mind_of c.args.run.now.process) _ (failed c.in-Refused.cause (mind_of c.args.run.now.process))) out)) c.refuse_act.ensures.carries.1

@@ -4,7 +4,7 @@ use Rattle.pm_meaning.specs.Delivering.{say_each}
 use Rattle.pm_meaning.specs.Minds.{mind_of}
 use Rattle.pm_meaning.specs.ProgramActions.{after_trial, trial_lines}
 use Rattle.pm_actions.specs.Errands.{task_of, trying_of}
-use Rattle.pm_meaning.specs.Turning.{turn_of}
+use Rattle.pm_meaning.specs.Apart.{acted_with}
 use Rattle.pm_meaning.proofs.Choices.{ok_map, err_map}
 use Rattle.pm_meaning.proofs.Choices.{carried}
 use Rattle.pm_actions.proofs.TaskLemmas.{trial_then, trial_then_out, trial_out, said_after_trial}
@@ -37,9 +37,9 @@ returns-clause-carries g c =
     let q = mind_of c.settle.new.process in
     let done = trying_of c.in_ok-trial.trial m in
     let said =
-    carried (say_each q c.push_copy.new.lines.items (turn_of c.end_of-end.result q)) (after_trial t done) _ _ _ _ _ _ (said_after_trial t _ c.in_ok-trial.trial m q c.in_ok-lines.lines.items _ _ _ c.is_final.ensures c.in_ok-push_copy.ensures.lines c.in_ok-lines.ensures.lines (search rules) c.settle.ensures.mind (c.end_of-end.ensures q)) c.say_each.ensures.carries in
+    carried (say_each q c.push_copy.new.lines.items (acted_with c.acted_by-acted.result q)) (after_trial t done) _ _ _ _ _ _ (said_after_trial t c.in_ok-trial.trial m q c.in_ok-lines.lines.items _ _ _ c.in_ok-push_copy.ensures.lines c.in_ok-lines.ensures.lines (search rules) c.settle.ensures.mind c.acted_by-acted.ensures) c.say_each.ensures.carries in
     λ work is. (
-      ok_map _ _ _ (λ end h. trial_then t c.args.lock work p done (turn_of end (mind_of c.say_each.new.run.process)) c.args.run.now.journal c.try_under.new.run.journal c.say_each.new.run.journal _ _ _ (c.in_ok-trial.ensures.carries work is).0 h) said.0,
+      ok_map _ _ _ (λ end h. trial_then t c.args.lock work p done (acted_with end (mind_of c.say_each.new.run.process)) c.args.run.now.journal c.try_under.new.run.journal c.say_each.new.run.journal _ _ _ (c.in_ok-trial.ensures.carries work is).0 h) said.0,
       err_map _ _ _ (λ h. trial_then_out t c.args.lock work p done c.args.run.now.journal c.try_under.new.run.journal c.say_each.new.run.journal _ _ _ (c.in_ok-trial.ensures.carries work is).0 h) said.1,
     )
 
@@ -84,5 +84,5 @@ returns-clause-sure g c =
     let q = mind_of c.settle.new.process in
     let all = c.push_copy.new.lines.items in
     let z = c.say_each.new.run.journal in
-    err_both c.say_each.result _ _ _ (λ some out. sure_told flags first x y z tried.more tried.entries quiet (calm_out flags (say_each q all (turn_of c.end_of-end.result q)) y z _ _ (calm_each flags q all (turn_of c.end_of-end.result q)) out)
+    err_both c.say_each.result _ _ _ (λ some out. sure_told flags first x y z tried.more tried.entries quiet (calm_out flags (say_each q all (acted_with c.acted_by-acted.result q)) y z _ _ (calm_each flags q all (acted_with c.acted_by-acted.result q)) out)
     (lines_told flags _ q all c.in_ok-lines.lines.items first c.in_ok-push_copy.ensures.lines c.in_ok-lines.ensures.lines some)) c.say_each.ensures.sure c.say_each.ensures.carries.1

@@ -1,4 +1,4 @@
-use Rattle.std.proofs.Common.{◌≡◌, [], rules}
+use Rattle.std.proofs.Common.{◌≡◌, [], rules, sym, ◌∙◌}
 use Rattle.pm_journal.proofs.WalkJoin.{reaches_itself}
 use Rattle.pm_journal.proofs.WantsMemory.{on_err}
 use Rattle.pm_meaning.specs.Minds.{mind_of}
@@ -12,36 +12,33 @@ use Rattle.pm_run.proofs.falling_off.try_each.Goals as goal
 pub loop-mailbox-init : goal.loop-mailbox-init
 loop-mailbox-init g c = record { reaches = reaches_itself step _ _ _ }
 
-pub returns-in_err-end : goal.returns-in_err-end
-returns-in_err-end g c = record {
+pub returns-in_err-acted : goal.returns-in_err-acted
+returns-in_err-acted g c = record {
   walks = (
       let start = FallingOff c.args.mailboxes.items (mind_of c.args.run.now.process) in
-      (search rules, on_err _ _ (mailbox_wants start c.loop-mailbox.mailboxes.items c.pop_front.new.self.items c.in-Some.mailbox (mind_of c.loop-mailbox.run.process) c.args.run.now.journal c.loop-mailbox.run.journal c.try_mailbox.new.run.journal _ _ _ c.in-Some.ensures.items c.loop-mailbox.invariant.reaches c.in_err-end.ensures.carries.1 (delivered_none no_flags _ _ c.in_err-end.ensures.sure))));
+      (search rules, on_err _ _ (mailbox_wants start c.loop-mailbox.mailboxes.items c.pop_front.new.self.items c.in-Some.mailbox (mind_of c.loop-mailbox.run.process) c.args.run.now.journal c.loop-mailbox.run.journal c.try_mailbox.new.run.journal _ _ _ c.in-Some.ensures.items c.loop-mailbox.invariant.reaches c.in_err-acted.ensures.carries.1 (delivered_none no_flags _ _ c.in_err-acted.ensures.sure))));
 }
 
-pub returns-in-Some-2 : goal.returns-in-Some-2
-returns-in-Some-2 g c = record {
+pub returns-then-is_delivered : goal.returns-then-is_delivered
+returns-then-is_delivered g c = record {
   walks = (
       let start = FallingOff c.args.mailboxes.items (mind_of c.args.run.now.process) in
-      let ended = rw c.in-Some-2.is at c.in_ok-end.ensures.carries.0 in
-      (mailbox_ends start c.loop-mailbox.mailboxes.items c.pop_front.new.self.items c.in-Some.mailbox (mind_of c.loop-mailbox.run.process) (mind_of c.try_mailbox.new.run.process) c.in-Some-2.end c.args.run.now.journal c.loop-mailbox.run.journal c.try_mailbox.new.run.journal _ _ _ c.in-Some.ensures.items c.loop-mailbox.invariant.reaches ended, tt));
+      (mailbox_ends start c.loop-mailbox.mailboxes.items c.pop_front.new.self.items c.in-Some.mailbox (mind_of c.loop-mailbox.run.process) (mind_of c.try_mailbox.new.run.process) c.in_ok-acted.acted c.args.run.now.journal c.loop-mailbox.run.journal c.try_mailbox.new.run.journal _ _ _ c.in-Some.ensures.items c.loop-mailbox.invariant.reaches (sym c.is_delivered.ensures ∙ c.if-is_delivered.true) c.in_ok-acted.ensures.carries.0, tt));
 }
 
 -- twice, since a mailbox that is dropped may have other owners
 pub loop-mailbox-preserved : goal.loop-mailbox-preserved
 loop-mailbox-preserved g c =
     let start = FallingOff c.args.mailboxes.items (mind_of c.args.run.now.process) in
-    let tried = rw c.in_default-2.is at c.in_ok-end.ensures.carries.0 in
     record {
-      reaches = mailbox_on start c.loop-mailbox.mailboxes.items c.pop_front.new.self.items c.in-Some.mailbox (mind_of c.loop-mailbox.run.process) (mind_of c.try_mailbox.new.run.process) c.args.run.now.journal c.loop-mailbox.run.journal c.try_mailbox.new.run.journal _ _ _ c.in-Some.ensures.items c.loop-mailbox.invariant.reaches tried;
+      reaches = mailbox_on start c.loop-mailbox.mailboxes.items c.pop_front.new.self.items c.in-Some.mailbox (mind_of c.loop-mailbox.run.process) (mind_of c.try_mailbox.new.run.process) c.in_ok-acted.acted c.args.run.now.journal c.loop-mailbox.run.journal c.try_mailbox.new.run.journal _ _ _ c.in-Some.ensures.items c.loop-mailbox.invariant.reaches (sym c.is_delivered.ensures ∙ c.if-is_delivered.false) c.in_ok-acted.ensures.carries.0;
     }
 
-pub loop-mailbox-preserved-in_default-2 : goal.loop-mailbox-preserved-in_default-2
-loop-mailbox-preserved-in_default-2 g c =
+pub loop-mailbox-preserved-else-is_delivered : goal.loop-mailbox-preserved-else-is_delivered
+loop-mailbox-preserved-else-is_delivered g c =
     let start = FallingOff c.args.mailboxes.items (mind_of c.args.run.now.process) in
-    let tried = rw c.in_default-2.is at c.in_ok-end.ensures.carries.0 in
     record {
-      reaches = mailbox_on start c.loop-mailbox.mailboxes.items c.pop_front.new.self.items c.in-Some.mailbox (mind_of c.loop-mailbox.run.process) (mind_of c.try_mailbox.new.run.process) c.args.run.now.journal c.loop-mailbox.run.journal c.try_mailbox.new.run.journal _ _ _ c.in-Some.ensures.items c.loop-mailbox.invariant.reaches tried;
+      reaches = mailbox_on start c.loop-mailbox.mailboxes.items c.pop_front.new.self.items c.in-Some.mailbox (mind_of c.loop-mailbox.run.process) (mind_of c.try_mailbox.new.run.process) c.in_ok-acted.acted c.args.run.now.journal c.loop-mailbox.run.journal c.try_mailbox.new.run.journal _ _ _ c.in-Some.ensures.items c.loop-mailbox.invariant.reaches (sym c.is_delivered.ensures ∙ c.if-is_delivered.false) c.in_ok-acted.ensures.carries.0;
     }
 
 pub returns : goal.returns

@@ -1,7 +1,7 @@
 use Rattle.std.proofs.Common.{rules}
 use Rattle.pm_journal.proofs.WantsMemory.{on_err}
 use Rattle.pm_recipe.specs.View.{act_of}
-use Rattle.pm_meaning.specs.Acting.{act_on}
+use Rattle.pm_meaning.specs.Acting.{acting}
 use Rattle.pm_meaning.specs.Judging.{judge_first}
 use Rattle.pm_meaning.specs.Minds.{Mind, mind_of}
 use Rattle.pm_meaning.specs.Turns.{Turn, GoesOn}
@@ -15,20 +15,20 @@ use Rattle.pm_run.proofs.judging.run_recipe.Goals as goal
 pub returns-in_err-come_to-clause-carries : goal.returns-in_err-come_to-clause-carries
 returns-in_err-come_to-clause-carries g c =
     let top = top_of c.args.recipe.now in
-    let acts : Mind → Plan Turn = λ q. act_on top (act_of c.args.recipe.now.action) q in
+    let acts : Mind → Plan Turn = λ q. acting top (act_of c.args.recipe.now.action) q in
     (search rules, on_err _ _ (c.in_err-come_to.ensures.memory acts))
 
 pub returns-in-Acts-clause-carries : goal.returns-in-Acts-clause-carries
 returns-in-Acts-clause-carries g c =
     let top = top_of c.args.recipe.now in
-    let acts : Mind → Plan Turn = λ q. act_on top (act_of c.args.recipe.now.action) q in
+    let acts : Mind → Plan Turn = λ q. acting top (act_of c.args.recipe.now.action) q in
     let comes = rw c.in-Acts.is at c.in_ok-come_to.ensures.comes in
     acts_on (judge_first top acts (mind_of c.args.run.now.process)) (acts (mind_of c.come_to.new.run.process)) _ _ _ _ _ _ _ _ (comes acts) c.act.ensures.carries
 
 pub returns-in-Ended-clause-carries : goal.returns-in-Ended-clause-carries
 returns-in-Ended-clause-carries g c =
     let top = top_of c.args.recipe.now in
-    let acts : Mind → Plan Turn = λ q. act_on top (act_of c.args.recipe.now.action) q in
+    let acts : Mind → Plan Turn = λ q. acting top (act_of c.args.recipe.now.action) q in
     let comes = rw c.in-Ended.is at c.in_ok-come_to.ensures.comes in
     (comes acts, tt)
 

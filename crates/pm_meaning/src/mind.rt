@@ -1,0 +1,132 @@
+//! The state of a process in the parts that a caller has of it.
+ghost use Rattle.std.specs.Prelude.{◌≡◌, IfOk, OnErr};
+ghost use Rattle.pm_meaning.specs.Apart.{bare, last_of, state_of};
+ghost use Rattle.pm_meaning.specs.Minds.{mind_of};
+
+use crate::{Chain, Process, Stored};
+use pm_bytes::{Blob, Memory, Name};
+use pm_journal::HeldLocks;
+use pm_message::{Mail, Message};
+use pm_vars::Vars;
+use std::alloc::Global;
+use std::collections::VecDeque;
+use std::mem;
+
+/// Where the mail was last delivered to: the text of the destination, or the name of the file in a folder, and how many
+/// bytes it got.
+#[derive(Drop)]
+pub struct Last {
+    pub folder: Blob,
+    pub length: u64,
+}
+
+/// The state of one process: its variables, the message that it delivers, the folder `base` from which names are seen
+/// (MAILDIR, procmailrc(5)), what came of the recipes before, the locks that it holds, which of them LOCKFILE names,
+/// the rcfiles of the command line that are left, and where the mail was last delivered to.
+#[derive(Drop)]
+pub struct Mind {
+    pub vars: Vars,
+    pub message: Message,
+    pub base: Name,
+    pub chain: Chain,
+    pub locks: HeldLocks,
+    pub global: Option<Name>,
+    pub rcfiles: Vec<Name>,
+    pub last: Option<Last>,
+}
+
+/// What the processes of a run share: how many rcfiles it has opened, or tried to, how many copies of processes were
+/// made, how many times mail was filed in a folder, or tried to, and the host's name.
+#[derive(Drop)]
+pub struct Shared {
+    pub openings: u32,
+    pub clones: u32,
+    pub placed: u64,
+    pub host_name: Name,
+}
+
+impl Mind {
+    /// Takes the process of this state out for a recipe; `restore` puts it back. `Memory` is the only error.
+    pub fn take(&mut self, alloc: Global, host_name: Name, placed: u64) -> Result<Process, Memory>
+        ensures state { IfOk result (λ process. mind_of process ≡ state_of self.old host_name placed) }
+        ensures locks { IfOk result (λ process. process.locks ≡ self.old.locks) }
+        ensures rcfiles { self.new.rcfiles ≡ self.old.rcfiles }
+        ensures same { OnErr result (self.new ≡ self.old) }
+    {
+        let message = Mail::of(alloc, self.message.copy(alloc)?)?;
+        let last = mem::replace(&mut self.last, None);
+        Ok(Process {
+            filter: false,
+            fails_softly: false,
+            message,
+            vars: mem::replace(&mut self.vars, Vars::new(alloc, 0)),
+            base: mem::replace(&mut self.base, Name::from_text(String::new(alloc))),
+            host_name,
+            locks: mem::replace(&mut self.locks, HeldLocks::new(alloc)),
+            global: mem::replace(&mut self.global, None),
+            chain: self.chain,
+            placed,
+            rcfile: Name::from_text(String::new(alloc)),
+            openings: 0,
+            is_clone: false,
+            later: VecDeque::new(alloc),
+            stored: stored_as(alloc, last),
+        })
+    }
+
+    /// Puts the process back, and gives the host's name and how many times the run has filed mail.
+    pub fn restore(&mut self, process: Process) -> (Name, u64)
+        ensures state { state_of self.new result.0 result.1 ≡ bare (mind_of process) }
+        ensures locks { self.new.locks ≡ process.locks }
+        ensures rcfiles { self.new.rcfiles ≡ self.old.rcfiles }
+    {
+        let Process {
+            message,
+            vars,
+            base,
+            host_name,
+            locks,
+            global,
+            chain,
+            placed,
+            stored,
+            ..
+        } = process;
+        self.message = message.into_parts();
+        self.vars = vars;
+        self.base = base;
+        self.locks = locks;
+        self.global = global;
+        self.chain = chain;
+        self.last = remembered(stored);
+        (host_name, placed)
+    }
+}
+
+fn stored_as(alloc: Global, last: Option<Last>) -> Stored
+    ensures { result ≡ last_of last }
+{
+    match last {
+        None => Stored {
+            folder: Blob::empty(alloc),
+            size: 0,
+        },
+        Some(Last { folder, length }) => Stored {
+            folder,
+            size: length,
+        },
+    }
+}
+
+fn remembered(stored: Stored) -> Option<Last>
+    ensures { last_of result ≡ stored }
+{
+    if stored.folder.len() == 0 && stored.size == 0 {
+        return None;
+    }
+    let Stored { folder, size } = stored;
+    Some(Last {
+        folder,
+        length: size,
+    })
+}
