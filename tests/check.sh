@@ -361,6 +361,12 @@ X="(\\\nhi|\\<ho)"\nX=hi\n:0:\n*$ B ?? ()\\/$X.*\nmbox\n
 match-begin
 X='^'\nY="$X|hi"\n:0:\n*$ B ?? ()\\/(${Y})\nmbox\n
 X='^'\nY='|hi'\n:0:\n*$ B ?? ()\\/${Y}$X\nmbox\n
+match-begin
+X='^'\n:0:\n*$ B ?? ()\\/$X.*\nmbox\n
+X='^'\n:0\nX=| cat\n:0:\n*$ B ?? ()\\/$X.*\nmbox\n
+match-begin
+:0:\n* B ?? ()\\/^hi\nmbox\n
+:0:\n* B ?? ()\\/^^hi\nmbox\n
 weighted-match
 :0:\n* 1^1 x\\/[0-9]\nmbox\n
 :0:\n* 1^0 x\\/[0-9]\nmbox\n
