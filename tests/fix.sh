@@ -184,8 +184,8 @@ a field of the mail is renamed before the reply: runs
 TO=`formail -r -R To: X-To:`\n:0 whi\n| echo "$TO" >to\n
 TO=`formail -f -R To: X-To: | formail -r | formail -f -R To: X-To:`\n:0 whi\n| echo "$TO" >to\n
 the separator is removed: runs
-:0 fhw\n| formail -I "From "\n:0 h\n| cat >header\n
-:0 fhw\n| formail -f -I "From "\n:0 h\n| cat >header\n
+:0 fhw\n| formail -I "From "\n:0 hw\n| cat >header\n
+:0 fhw\n| formail -f -I "From "\n:0 hw\n| cat >header\n
 the length of a cache: runs
 :0 Wh\n| formail -D 2000000 msgid.cache\n:0:\nmbox\n
 :0 Wh\n| formail -D 1048576 msgid.cache\n:0:\nmbox\n

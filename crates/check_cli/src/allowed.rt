@@ -6,29 +6,29 @@ use std::alloc::{AllocError, Global};
 use std::collections::BTreeMap;
 
 /// Keeps what is reported of an rcfile, in the order of its lines.
-pub fn keep_reported(alloc: Global, allowed: &[&str], file: Checked) -> Result<Checked, Memory> {
-    let Checked {
-        name,
-        text,
-        remarks,
-    } = file;
-    let kept = {
-        let comments = allowing_lines(alloc, text.as_slice())?;
-        let mut kept = Vec::new(alloc);
-        for remark in remarks {
-            let above = comments.get(&remark.line.saturating_sub(1)).copied();
-            if !is_allowed(allowed, above, code_of(remark.source)) {
-                kept.push(remark)?;
-            }
-        }
-        kept.sort_by_key(|remark: &Remark| remark.line)?;
-        kept
-    };
-    Ok(Checked {
-        name,
-        text,
-        remarks: kept,
-    })
+pub fn keep_reported(alloc: Global, allowed: &[&str], file: &mut Checked) -> Result<(), Memory> {
+    let Checked { text, remarks, .. } = file;
+    keep_unallowed(alloc, allowed, text.as_slice(), remarks)?;
+    remarks.sort_by_key(|remark: &Remark| remark.line)?;
+    Ok(())
+}
+
+fn keep_unallowed(
+    alloc: Global,
+    allowed: &[&str],
+    text: &[u8],
+    remarks: &mut Vec<Remark>,
+) -> Result<(), AllocError> {
+    let comments = allowing_lines(alloc, text)?;
+    keep_by(allowed, &comments, remarks);
+    Ok(())
+}
+
+fn keep_by(allowed: &[&str], comments: &BTreeMap<u64, &[u8]>, remarks: &mut Vec<Remark>) {
+    remarks.retain(|remark| {
+        let above = comments.get(&remark.line.saturating_sub(1)).copied();
+        !is_allowed(allowed, above, code_of(remark.source))
+    });
 }
 
 fn is_allowed(allowed: &[&str], above: Option<&[u8]>, code: &str) -> bool {

@@ -5,10 +5,10 @@ use crate::places::{below, column_of, is_absolute};
 use crate::remarks::{Checked, Remark, of_disk, of_finding, of_form};
 use crate::steps::{Step, steps_of};
 use crate::walk::{Next, Walk};
-use check_find::find;
-use check_moving::find_forms;
+use check_find::{Finding, find};
+use check_moving::{Finding as FoundForm, find_forms};
 use check_text::DiskMistake;
-use pm_bytes::Memory;
+use pm_bytes::{Blob, Memory};
 use pm_recipe::RcRefused;
 use std::alloc::Global;
 
@@ -106,56 +106,41 @@ impl Checking {
 
     // An rcfile with this text is executed from here on.
     fn add<D: Disk>(&mut self, disk: &D, name: &str, text: Vec<u8>) -> Result<(), Memory> {
-        let file = self.files.len();
-        let mut remarks = self.found_in(text.as_slice())?;
-        if self.looks && disk.look(name).is_writable() {
-            remarks.push(of_disk(self.alloc, DiskMistake::Writable, 1, 1, "")?)?;
-        }
-        match steps_of(self.alloc, text.as_slice()) {
-            Ok(steps) => self.walk.open(file, steps)?,
-            Err(RcRefused::TooLong { .. }) => {}
-            Err(RcRefused::Memory) => return Err(Memory),
-        }
-        self.files.push(Checked {
-            name: String::from_str(self.alloc, name)?,
-            text,
-            remarks,
-        })?;
-        Ok(())
+        self.open(text.as_slice())?;
+        let file = self.checked(disk, name, text)?;
+        Ok(self.files.push(file)?)
     }
 
-    /// What is found in a text by itself.
-    pub fn found_in(&self, text: &[u8]) -> Result<Vec<Remark>, Memory> {
-        let mut remarks = Vec::new(self.alloc);
-        match find(self.alloc, text) {
-            Ok(findings) => {
-                for finding in findings.as_slice() {
-                    remarks.push(of_finding(self.alloc, text, finding)?)?;
-                }
-            }
-            Err(RcRefused::TooLong { .. }) => {
-                remarks.push(of_disk(self.alloc, DiskMistake::TooLong, 1, 1, "")?)?;
-            }
-            Err(RcRefused::Memory) => return Err(Memory),
-        }
-        if self.from_old {
-            self.add_forms(text, &mut remarks)?;
-        }
-        Ok(remarks)
-    }
-
-    // Of an rcfile that is too long nothing more is said.
-    fn add_forms(&self, text: &[u8], remarks: &mut Vec<Remark>) -> Result<(), Memory> {
-        match find_forms(self.alloc, text) {
-            Ok(found) => {
-                for one in found.as_slice() {
-                    remarks.push(of_form(self.alloc, text, one)?)?;
-                }
-                Ok(())
-            }
+    // Of an rcfile that is too long no step is taken.
+    fn open(&mut self, text: &[u8]) -> Result<(), Memory> {
+        match steps_of(self.alloc, text) {
+            Ok(steps) => self.walk.open(self.files.len(), steps),
             Err(RcRefused::TooLong { .. }) => Ok(()),
             Err(RcRefused::Memory) => Err(Memory),
         }
+    }
+
+    fn checked<D: Disk>(&self, disk: &D, name: &str, text: Vec<u8>) -> Result<Checked, Memory> {
+        let name = String::from_str(self.alloc, name)?;
+        let remarks = self.remarks_of(disk, name.as_str(), text.as_slice())?;
+        Ok(Checked {
+            name,
+            text,
+            remarks,
+        })
+    }
+
+    fn remarks_of<D: Disk>(
+        &self,
+        disk: &D,
+        name: &str,
+        text: &[u8],
+    ) -> Result<Vec<Remark>, Memory> {
+        let mut remarks = found_in(self.alloc, self.from_old, text)?;
+        if self.looks && disk.look(name).is_writable() {
+            push_first(self.alloc, DiskMistake::Writable, &mut remarks)?;
+        }
+        Ok(remarks)
     }
 
     fn take<D: Disk>(&mut self, disk: &D, file: usize, step: Step) -> Result<(), Memory> {
@@ -165,15 +150,8 @@ impl Checking {
                 value,
                 line,
                 first,
-            } => {
-                let place = Place { file, line, first };
-                self.assign(disk, place, name.as_slice(), value.as_slice())?;
-                Ok(self.walk.note(name)?)
-            }
-            Step::Forget { name } => {
-                self.known.lose(name.as_slice())?;
-                Ok(self.walk.note(name)?)
-            }
+            } => { self.assign(disk, Place { file, line, first }, name, value.as_slice()) }
+            Step::Forget { name } => self.forget(name),
             Step::Start {
                 program,
                 line,
@@ -183,12 +161,28 @@ impl Checking {
                 Place { file, line, first },
                 text_in(Some(program.as_slice())),
             ),
-            Step::Open { always } => Ok(self.walk.begin_block(always)?),
+            Step::Open { always } => self.walk.begin_block(always),
             Step::Close => self.close(),
         }
     }
 
+    fn forget(&mut self, name: Vec<u8>) -> Result<(), Memory> {
+        self.known.lose(name.as_slice())?;
+        self.walk.note(name)
+    }
+
     fn assign<D: Disk>(
+        &mut self,
+        disk: &D,
+        place: Place,
+        name: Vec<u8>,
+        text: &[u8],
+    ) -> Result<(), Memory> {
+        self.assign_text(disk, place, name.as_slice(), text)?;
+        self.walk.note(name)
+    }
+
+    fn assign_text<D: Disk>(
         &mut self,
         disk: &D,
         place: Place,
@@ -196,10 +190,17 @@ impl Checking {
         text: &[u8],
     ) -> Result<(), Memory> {
         let value = self.known.value_of(text)?;
-        let value = match &value {
-            Some(value) => Some(value.as_slice()),
-            None => None,
-        };
+        let value = value.as_ref().map(Blob::as_slice);
+        self.assign_known(disk, place, name, value)
+    }
+
+    fn assign_known<D: Disk>(
+        &mut self,
+        disk: &D,
+        place: Place,
+        name: &[u8],
+        value: Option<&[u8]>,
+    ) -> Result<(), Memory> {
         match value {
             Some(value) => self.known.set(name, value)?,
             None => self.known.lose(name)?,
@@ -244,27 +245,32 @@ impl Checking {
         if !self.looks || value.is_empty() || self.files.len() >= MOST_FILES {
             return Ok(());
         }
-        let Some(full) = self.full(value)? else {
-            return Ok(());
-        };
-        match self.number_of(full.as_str()) {
+        match self.full(value)? {
+            Some(full) => self.run_named(disk, place, full.as_str()),
+            None => Ok(()),
+        }
+    }
+
+    fn run_named<D: Disk>(&mut self, disk: &D, place: Place, name: &str) -> Result<(), Memory> {
+        match self.number_of(name) {
             Some(number) if self.walk.is_open(number) => {
-                self.remark(DiskMistake::Recursion, place, full.as_str())
+                self.remark(DiskMistake::Recursion, place, name)
             }
             Some(_) => Ok(()),
-            None => self.follow(disk, place, full.as_str()),
+            None => self.follow(disk, place, name),
         }
     }
 
     // A device such as /dev/null or a FIFO isn't read.
     fn follow<D: Disk>(&mut self, disk: &D, place: Place, name: &str) -> Result<(), Memory> {
         match disk.look(name) {
-            Look::Other => return Ok(()),
-            Look::Nothing | Look::Directory => {
-                return self.remark(DiskMistake::Unreadable, place, name);
-            }
-            Look::File { .. } => {}
+            Look::Other => Ok(()),
+            Look::Nothing | Look::Directory => self.remark(DiskMistake::Unreadable, place, name),
+            Look::File { .. } => self.follow_file(disk, place, name),
         }
+    }
+
+    fn follow_file<D: Disk>(&mut self, disk: &D, place: Place, name: &str) -> Result<(), Memory> {
         match disk.read(name) {
             Ok(text) => self.add(disk, name, text),
             Err(error) if is_memory(&error) => Err(Memory),
@@ -300,12 +306,16 @@ impl Checking {
             return Ok(true);
         };
         for directory in path.split(':') {
-            let name = below(self.alloc, directory, program)?;
-            if disk.look(name.as_str()).is_program() {
+            if self.is_below(disk, directory, program)? {
                 return Ok(true);
             }
         }
         Ok(false)
+    }
+
+    fn is_below<D: Disk>(&self, disk: &D, directory: &str, program: &str) -> Result<bool, Memory> {
+        let name = below(self.alloc, directory, program)?;
+        Ok(disk.look(name.as_str()).is_program())
     }
 
     // The name from the working directory, if it is known to which directory it is relative.
@@ -348,13 +358,17 @@ impl Checking {
             return Ok(());
         };
         for name in block.names {
-            if block.always {
-                self.walk.note(name)?;
-            } else {
-                self.lose(name.as_slice())?;
-            }
+            self.end_name(block.always, name)?;
         }
         Ok(())
+    }
+
+    fn end_name(&mut self, always: bool, name: Vec<u8>) -> Result<(), Memory> {
+        if always {
+            self.walk.note(name)
+        } else {
+            self.lose(name.as_slice())
+        }
     }
 
     fn lose(&mut self, name: &[u8]) -> Result<(), Memory> {
@@ -363,6 +377,76 @@ impl Checking {
         }
         self.known.lose(name)
     }
+}
+
+/// What is found in a text by itself, and the forms of procmail 3.22 in it, if it is from there.
+pub fn found_in(alloc: Global, from_old: bool, text: &[u8]) -> Result<Vec<Remark>, Memory> {
+    let mut remarks = Vec::new(alloc);
+    add_all(alloc, from_old, text, &mut remarks)?;
+    Ok(remarks)
+}
+
+fn add_all(
+    alloc: Global,
+    from_old: bool,
+    text: &[u8],
+    remarks: &mut Vec<Remark>,
+) -> Result<(), Memory> {
+    add_found(alloc, text, remarks)?;
+    if from_old {
+        add_forms(alloc, text, remarks)?;
+    }
+    Ok(())
+}
+
+fn add_found(alloc: Global, text: &[u8], remarks: &mut Vec<Remark>) -> Result<(), Memory> {
+    match find(alloc, text) {
+        Ok(findings) => add_findings(alloc, text, findings.as_slice(), remarks),
+        Err(RcRefused::TooLong { .. }) => push_first(alloc, DiskMistake::TooLong, remarks),
+        Err(RcRefused::Memory) => Err(Memory),
+    }
+}
+
+fn add_findings(
+    alloc: Global,
+    text: &[u8],
+    findings: &[Finding],
+    remarks: &mut Vec<Remark>,
+) -> Result<(), Memory> {
+    for finding in findings {
+        remarks.push(of_finding(alloc, text, finding)?)?;
+    }
+    Ok(())
+}
+
+// Of an rcfile that is too long nothing more is said.
+fn add_forms(alloc: Global, text: &[u8], remarks: &mut Vec<Remark>) -> Result<(), Memory> {
+    match find_forms(alloc, text) {
+        Ok(found) => add_found_forms(alloc, text, found.as_slice(), remarks),
+        Err(RcRefused::TooLong { .. }) => Ok(()),
+        Err(RcRefused::Memory) => Err(Memory),
+    }
+}
+
+fn add_found_forms(
+    alloc: Global,
+    text: &[u8],
+    found: &[FoundForm],
+    remarks: &mut Vec<Remark>,
+) -> Result<(), Memory> {
+    for one in found {
+        remarks.push(of_form(alloc, text, one)?)?;
+    }
+    Ok(())
+}
+
+// A remark on a whole rcfile.
+fn push_first(
+    alloc: Global,
+    mistake: DiskMistake,
+    remarks: &mut Vec<Remark>,
+) -> Result<(), Memory> {
+    Ok(remarks.push(of_disk(alloc, mistake, 1, 1, "")?)?)
 }
 
 fn read<D: Disk>(disk: &D, name: &str) -> Result<Vec<u8>, Stopped> {

@@ -18,6 +18,7 @@ mod status;
 mod steps;
 mod walk;
 
+use clap::Error;
 use options::{Parsed, read_options};
 use report::report_on;
 use status::Status;
@@ -33,18 +34,21 @@ fn main(rt: HostRuntime) -> ExitCode {
 }
 
 fn run(rt: &HostRuntime) -> io::Result<Status> {
-    let alloc = rt.alloc();
-    let words: Vec<String> = std::env::args(rt)?.collect(alloc)?;
-    match read_options(alloc, words.as_slice()) {
+    let words: Vec<String> = std::env::args(rt)?.collect(rt.alloc())?;
+    run_by(rt, words.as_slice())
+}
+
+fn run_by(rt: &HostRuntime, words: &[String]) -> io::Result<Status> {
+    match read_options(rt.alloc(), words) {
         Parsed::Options(options) => report_on(rt, &options),
-        Parsed::Shown(error) => {
-            error.print(rt)?;
-            Ok(Status::Clean)
-        }
-        Parsed::Refused(error) => {
-            error.print(rt)?;
-            Ok(Status::Usage)
-        }
+        Parsed::Shown(error) => print_text(rt, &error, Status::Clean),
+        Parsed::Refused(error) => print_text(rt, &error, Status::Usage),
         Parsed::Memory => Ok(Status::SystemError),
     }
+}
+
+// What clap has to say, and the exit status after it.
+fn print_text(rt: &HostRuntime, error: &Error, status: Status) -> io::Result<Status> {
+    error.print(rt)?;
+    Ok(status)
 }

@@ -1,6 +1,6 @@
 //! The command line of procmail-check.
 use clap::error::ErrorKind;
-use clap::{Arg, ArgAction, Command, Error};
+use clap::{Arg, ArgAction, ArgMatches, Command, Error};
 use std::alloc::{AllocError, Global};
 
 /// The version of the program.
@@ -47,21 +47,30 @@ pub enum Parsed<'a> {
 
 /// Reads the words of a command line, the program's name first.
 pub fn read_options<'a>(alloc: Global, words: &'a [String]) -> Parsed<'a> {
-    let command = match command(alloc) {
-        Ok(command) => command,
-        Err(AllocError) => return Parsed::Memory,
-    };
-    let matches = match command.try_get_matches_from(words) {
-        Ok(matches) => matches,
-        Err(error) => return refused(error),
-    };
-    let (Ok(allowed), Ok(words)) = (
-        texts(alloc, matches.get_strs("allow")),
-        texts(alloc, matches.get_strs("word")),
-    ) else {
-        return Parsed::Memory;
-    };
-    Parsed::Options(Options {
+    match command(alloc) {
+        Ok(command) => parsed_by(alloc, command, words),
+        Err(AllocError) => Parsed::Memory,
+    }
+}
+
+fn parsed_by<'a>(alloc: Global, command: Command<'a>, words: &'a [String]) -> Parsed<'a> {
+    match command.try_get_matches_from(words) {
+        Ok(matches) => parsed_of(alloc, &matches),
+        Err(error) => refused(error),
+    }
+}
+
+fn parsed_of<'a>(alloc: Global, matches: &ArgMatches<'a>) -> Parsed<'a> {
+    match options_of(alloc, matches) {
+        Ok(options) => Parsed::Options(options),
+        Err(AllocError) => Parsed::Memory,
+    }
+}
+
+fn options_of<'a>(alloc: Global, matches: &ArgMatches<'a>) -> Result<Options<'a>, AllocError> {
+    let allowed = texts(alloc, matches.get_strs("allow"))?;
+    let words = texts(alloc, matches.get_strs("word"))?;
+    Ok(Options {
         quiet: matches.get_flag("quiet"),
         format: format_of(matches.get_str("format")),
         allowed,
@@ -98,54 +107,61 @@ fn refused<'a>(error: Error) -> Parsed<'a> {
 }
 
 fn command<'a>(alloc: Global) -> Result<Command<'a>, AllocError> {
-    let format = Arg::new(alloc, "format")
-        .long("format")
-        .value_name("FORMAT")
-        .value_parser(["text", "json", "sarif"].as_slice())
-        .help("How findings are written");
-    let allow = Arg::new(alloc, "allow")
-        .long("allow")
-        .value_name("CODE")
-        .action(ArgAction::Append)
-        .help("Don't report this code");
-    let word = Arg::new(alloc, "word")
-        .value_name("NAME=VALUE|RCFILE")
-        .num_args(0..)
-        .help("Variables that procmail is started with, and the rcfiles; - is standard input");
     Command::new(alloc, "procmail-check")
         .version(VERSION)
         .about("Finds mistakes in rcfiles of procmail")
-        .arg(switch(alloc, "quiet").short('q').help("Print nothing"))?
-        .arg(format)?
-        .arg(allow)?
-        .arg(
-            switch(alloc, "no-disk")
-                .long("no-disk")
-                .help("Read only the rcfiles that are named"),
-        )?
-        .arg(
-            switch(alloc, "from-3.22")
-                .long("from-3.22")
-                .help("Report what does something else under procmail 3.22"),
-        )?
-        .arg(
-            switch(alloc, "fix")
-                .long("fix")
-                .help("Write an rcfile for procmail 3.22 anew"),
-        )?
-        .arg(
-            switch(alloc, "in-place")
-                .long("in-place")
-                .help("Write it in its place, and keep it as RCFILE.orig"),
-        )?
-        .arg(
-            switch(alloc, "filter")
-                .short('m')
-                .help("Check rcfiles for procmail -m"),
-        )?
-        .arg(word)
+        .arg(short_switch(alloc, "quiet", 'q', "Print nothing"))?
+        .arg(format_option(alloc))?
+        .arg(allow_option(alloc))?
+        .arg(switch(alloc, "no-disk", "Read only the rcfiles that are named"))?
+        .arg(switch(
+            alloc,
+            "from-3.22",
+            "Report what does something else under procmail 3.22",
+        ))?
+        .arg(switch(alloc, "fix", "Write an rcfile for procmail 3.22 anew"))?
+        .arg(switch(
+            alloc,
+            "in-place",
+            "Write it in its place, and keep it as RCFILE.orig",
+        ))?
+        .arg(short_switch(alloc, "filter", 'm', "Check rcfiles for procmail -m"))?
+        .arg(word_argument(alloc))
 }
 
-fn switch<'a>(alloc: Global, name: &'a str) -> Arg<'a> {
-    Arg::new(alloc, name).action(ArgAction::SetTrue)
+fn switch<'a>(alloc: Global, name: &'a str, help: &'a str) -> Arg<'a> {
+    Arg::new(alloc, name)
+        .long(name)
+        .action(ArgAction::SetTrue)
+        .help(help)
+}
+
+fn short_switch<'a>(alloc: Global, name: &'a str, letter: char, help: &'a str) -> Arg<'a> {
+    Arg::new(alloc, name)
+        .short(letter)
+        .action(ArgAction::SetTrue)
+        .help(help)
+}
+
+fn format_option<'a>(alloc: Global) -> Arg<'a> {
+    Arg::new(alloc, "format")
+        .long("format")
+        .value_name("FORMAT")
+        .value_parser(["text", "json", "sarif"].as_slice())
+        .help("How findings are written")
+}
+
+fn allow_option<'a>(alloc: Global) -> Arg<'a> {
+    Arg::new(alloc, "allow")
+        .long("allow")
+        .value_name("CODE")
+        .action(ArgAction::Append)
+        .help("Don't report this code")
+}
+
+fn word_argument<'a>(alloc: Global) -> Arg<'a> {
+    Arg::new(alloc, "word")
+        .value_name("NAME=VALUE|RCFILE")
+        .num_args(0..)
+        .help("Variables that procmail is started with, and the rcfiles; - is standard input")
 }

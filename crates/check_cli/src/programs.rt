@@ -3,6 +3,13 @@ ghost use Rattle.std.specs.Prelude.{◌≤◌, length};
 
 use bstr::ByteSlice;
 
+// The shell's own commands that can begin a line.
+const OF_SHELL: [&[u8]; 26] = [
+    b".", b"case", b"cd", b"command", b"echo", b"eval", b"exec", b"exit", b"export", b"false",
+    b"for", b"if", b"kill", b"printf", b"pwd", b"read", b"set", b"test", b"trap", b"true", b"type",
+    b"ulimit", b"umask", b"until", b"wait", b"while",
+];
+
 /// The name of the program that a program line begins with, if it is written out and no command of the shell's own.
 pub fn program_of(line: &[u8]) -> Option<&[u8]> {
     let line = line.trim_start();
@@ -32,31 +39,5 @@ fn is_plain(byte: u8) -> bool {
 }
 
 fn is_of_shell(word: &[u8]) -> bool {
-    matches!(
-        word,
-        b"." | b"case"
-            | b"cd"
-            | b"command"
-            | b"echo"
-            | b"eval"
-            | b"exec"
-            | b"exit"
-            | b"export"
-            | b"false"
-    ) || matches!(
-        word,
-        b"for"
-            | b"if"
-            | b"kill"
-            | b"printf"
-            | b"pwd"
-            | b"read"
-            | b"set"
-            | b"test"
-            | b"trap"
-            | b"true"
-    ) || matches!(
-        word,
-        b"type" | b"ulimit" | b"umask" | b"until" | b"wait" | b"while"
-    )
+    OF_SHELL.iter().any(|name| *name == word)
 }

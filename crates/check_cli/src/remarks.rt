@@ -85,17 +85,24 @@ pub fn severity_of(source: Source) -> Severity {
 
 /// A finding as a remark. The message of a bare word ends with it.
 pub fn of_finding(alloc: Global, text: &[u8], finding: &Finding) -> Result<Remark, AllocError> {
-    let about = match finding.code {
-        Code::Mistake(Mistake::BareWord) => part(text, finding),
-        _ => &[],
-    };
-    let about = String::from_utf8_lossy(alloc, about)?;
     Ok(Remark {
         source: Source::Text(finding.code),
         line: finding.line,
         column: finding.column,
-        text: with_about(alloc, message(finding.code), about.as_str())?,
+        text: finding_text(alloc, text, finding)?,
     })
+}
+
+fn finding_text(alloc: Global, text: &[u8], finding: &Finding) -> Result<String, AllocError> {
+    let about = String::from_utf8_lossy(alloc, about_of(text, finding))?;
+    with_about(alloc, message(finding.code), about.as_str())
+}
+
+fn about_of<'a>(text: &'a [u8], finding: &Finding) -> &'a [u8] {
+    match finding.code {
+        Code::Mistake(Mistake::BareWord) => part(text, finding),
+        _ => &[],
+    }
 }
 
 /// A form of procmail 3.22 as a remark.

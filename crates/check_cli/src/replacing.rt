@@ -26,14 +26,25 @@ pub fn replace<R: Rcfiles>(
 ) -> io::Result<()> {
     let new = format!(in alloc; "{name}.new")?;
     let kept = format!(in alloc; "{name}.orig")?;
-    files.write_new(new.as_str(), name, text)?;
-    if let Err(error) = keep(files, name, kept.as_str(), old) {
-        let _ = files.remove(new.as_str());
+    write_and_rename(files, [name, new.as_str(), kept.as_str()], old, text)
+}
+
+// The names are that of the rcfile, of the file beside it, and of the one that is kept.
+fn write_and_rename<R: Rcfiles>(
+    files: &R,
+    names: [&str; 3],
+    old: &[u8],
+    text: &[u8],
+) -> io::Result<()> {
+    let [name, new, kept] = names;
+    files.write_new(new, name, text)?;
+    if let Err(error) = keep(files, name, kept, old) {
+        let _ = files.remove(new);
         return Err(error);
     }
-    if let Err(error) = files.rename(new.as_str(), name) {
-        let _ = files.remove(new.as_str());
-        let _ = files.remove(kept.as_str());
+    if let Err(error) = files.rename(new, name) {
+        let _ = files.remove(new);
+        let _ = files.remove(kept);
         return Err(error);
     }
     Ok(())

@@ -15,33 +15,73 @@ use std::io::{self, Write};
 
 /// Checks what the options name, and prints it.
 pub fn report_on(rt: &HostRuntime, options: &Options<'_>) -> io::Result<Status> {
-    let alloc = rt.alloc();
-    if let Some(refusal) = refusal_of(alloc, options)? {
-        rt.eprintln(refusal)?;
-        return Ok(Status::Usage);
+    match refusal_of(rt.alloc(), options)? {
+        Some(refusal) => refuse(rt, refusal.as_str()),
+        None => report_at_home(rt, options),
     }
+}
+
+fn refuse(rt: &HostRuntime, text: &str) -> io::Result<Status> {
+    rt.eprintln(text)?;
+    Ok(Status::Usage)
+}
+
+fn report_at_home(rt: &HostRuntime, options: &Options<'_>) -> io::Result<Status> {
     let home = env::var(rt, "HOME").ok();
-    let home = home.as_ref().map(|home| home.as_str());
-    let names = rcfiles(alloc, options, home)?;
+    report_from(rt, options, home.as_ref().map(|home| home.as_str()))
+}
+
+fn report_from(rt: &HostRuntime, options: &Options<'_>, home: Option<&str>) -> io::Result<Status> {
+    let names = rcfiles(rt.alloc(), options, home)?;
+    report_names(rt, options, home, names.as_slice())
+}
+
+fn report_names(
+    rt: &HostRuntime,
+    options: &Options<'_>,
+    home: Option<&str>,
+    names: &[String],
+) -> io::Result<Status> {
     if names.is_empty() {
-        rt.eprintln("procmail-check: HOME isn't set, so name an rcfile")?;
-        return Ok(Status::Usage);
+        return refuse(rt, "procmail-check: HOME isn't set, so name an rcfile");
     }
     if options.fix {
-        return fix_all(rt, options, names.as_slice());
+        return fix_all(rt, options, names);
     }
-    let mut files = Vec::new(alloc);
-    for name in names.as_slice() {
-        match checked(rt, options, home, name.as_str()) {
-            Ok(more) => files.push(more)?,
-            Err(Stopped::Memory) => return Ok(Status::SystemError),
-            Err(Stopped::Unreadable) => {
-                rt.eprintln(format!(in alloc; "procmail-check: can't read {name}")?)?;
-                return Ok(Status::NoInput);
-            }
+    let mut files = Vec::new(rt.alloc());
+    match add_all(rt, options, home, names, &mut files) {
+        Ok(()) => print(rt, options, files.as_slice()),
+        Err(status) => Ok(status),
+    }
+}
+
+fn add_all(
+    rt: &HostRuntime,
+    options: &Options<'_>,
+    home: Option<&str>,
+    names: &[String],
+    files: &mut Vec<Checked>,
+) -> Result<(), Status> {
+    for name in names {
+        match add_checked(rt, options, home, name.as_str(), files) {
+            Ok(()) => {}
+            Err(Stopped::Memory) => return Err(Status::SystemError),
+            Err(Stopped::Unreadable) => return Err(unread(rt, name.as_str())),
         }
     }
-    print(rt, options, files.as_slice())
+    Ok(())
+}
+
+/// It is told that the rcfile can't be read.
+pub fn unread(rt: &HostRuntime, name: &str) -> Status {
+    match tell_unread(rt, name) {
+        Ok(()) => Status::NoInput,
+        Err(_) => Status::SystemError,
+    }
+}
+
+fn tell_unread(rt: &HostRuntime, name: &str) -> io::Result<()> {
+    rt.eprintln(format!(in rt.alloc(); "procmail-check: can't read {name}")?)
 }
 
 // What is wrong with the arguments, if anything is.
@@ -107,25 +147,51 @@ fn rcfiles(
 }
 
 // One rcfile and all that it names, without what isn't reported.
-fn checked(
+fn add_checked(
     rt: &HostRuntime,
     options: &Options<'_>,
     home: Option<&str>,
     name: &str,
-) -> Result<Vec<Checked>, Stopped> {
-    let alloc = rt.alloc();
-    let mut checking = Checking::new(alloc, !options.no_disk, options.from_old);
-    begin(rt, &mut checking, options, home, name)?;
-    checking.check(&RealDisk { rt }, name)?;
-    Ok(reported(alloc, options.allowed.as_slice(), checking)?)
+    files: &mut Vec<Checked>,
+) -> Result<(), Stopped> {
+    let mut checking = Checking::new(rt.alloc(), !options.no_disk, options.from_old);
+    check(rt, &mut checking, options, home, name)?;
+    Ok(add_reported(rt.alloc(), options.allowed.as_slice(), checking, files)?)
 }
 
-fn reported(alloc: Global, allowed: &[&str], checking: Checking) -> Result<Vec<Checked>, Memory> {
-    let mut kept = Vec::new(alloc);
+fn check(
+    rt: &HostRuntime,
+    checking: &mut Checking,
+    options: &Options<'_>,
+    home: Option<&str>,
+    name: &str,
+) -> Result<(), Stopped> {
+    begin(rt, checking, options, home, name)?;
+    checking.check(&RealDisk { rt }, name)
+}
+
+fn add_reported(
+    alloc: Global,
+    allowed: &[&str],
+    checking: Checking,
+    files: &mut Vec<Checked>,
+) -> Result<(), Memory> {
     for file in checking.into_files() {
-        kept.push(keep_reported(alloc, allowed, file)?)?;
+        add_kept(alloc, allowed, file, files)?;
     }
-    Ok(kept)
+    Ok(())
+}
+
+/// Adds an rcfile without what isn't reported.
+pub fn add_kept(
+    alloc: Global,
+    allowed: &[&str],
+    file: Checked,
+    files: &mut Vec<Checked>,
+) -> Result<(), Memory> {
+    let mut file = file;
+    keep_reported(alloc, allowed, &mut file)?;
+    Ok(files.push(file)?)
 }
 
 // What is known before the first line, as procmail(1) has it.
@@ -156,31 +222,59 @@ fn begin(
     Ok(())
 }
 
-fn print(rt: &HostRuntime, options: &Options<'_>, files: &[Vec<Checked>]) -> io::Result<Status> {
-    let alloc = rt.alloc();
-    let lines = lines_of(alloc, files)?;
-    let lines = lines.as_slice();
+fn print(rt: &HostRuntime, options: &Options<'_>, files: &[Checked]) -> io::Result<Status> {
+    let lines = lines_of(rt.alloc(), files)?;
+    print_lines(rt, options, lines.as_slice())
+}
+
+fn print_lines(rt: &HostRuntime, options: &Options<'_>, lines: &[Line<'_>]) -> io::Result<Status> {
     if !options.quiet {
         match options.format {
-            Format::Text => io::writer(rt).write_all(lines_text(alloc, lines)?.as_slice())?,
-            Format::Json => rt.println(findings_json(alloc, lines)?.to_string(alloc)?)?,
-            Format::Sarif => rt.println(sarif_log(alloc, VERSION, lines)?.to_string(alloc)?)?,
+            Format::Text => print_text(rt, lines)?,
+            Format::Json => print_json(rt, lines)?,
+            Format::Sarif => print_sarif(rt, lines)?,
         }
     }
     Ok(status_of(lines))
 }
 
+fn print_text(rt: &HostRuntime, lines: &[Line<'_>]) -> io::Result<()> {
+    let text = lines_text(rt.alloc(), lines)?;
+    io::writer(rt).write_all(text.as_slice())
+}
+
+fn print_json(rt: &HostRuntime, lines: &[Line<'_>]) -> io::Result<()> {
+    rt.println(json_text(rt.alloc(), lines)?)
+}
+
+fn json_text(alloc: Global, lines: &[Line<'_>]) -> Result<String, AllocError> {
+    let findings = findings_json(alloc, lines)?;
+    findings.to_string(alloc)
+}
+
+fn print_sarif(rt: &HostRuntime, lines: &[Line<'_>]) -> io::Result<()> {
+    rt.println(sarif_text(rt.alloc(), lines)?)
+}
+
+fn sarif_text(alloc: Global, lines: &[Line<'_>]) -> Result<String, AllocError> {
+    let log = sarif_log(alloc, VERSION, lines)?;
+    log.to_string(alloc)
+}
+
 /// The lines of rcfiles.
-pub fn lines_of<'a>(alloc: Global, files: &'a [Vec<Checked>]) -> Result<Vec<Line<'a>>, AllocError> {
+pub fn lines_of<'a>(alloc: Global, files: &'a [Checked]) -> Result<Vec<Line<'a>>, AllocError> {
     let mut lines = Vec::new(alloc);
-    for group in files {
-        for file in group.as_slice() {
-            for remark in file.remarks.as_slice() {
-                lines.push(line_of(file.name.as_str(), remark))?;
-            }
-        }
+    for file in files {
+        add_lines(&mut lines, file)?;
     }
     Ok(lines)
+}
+
+fn add_lines<'a>(lines: &mut Vec<Line<'a>>, file: &'a Checked) -> Result<(), AllocError> {
+    for remark in file.remarks.as_slice() {
+        lines.push(line_of(file.name.as_str(), remark))?;
+    }
+    Ok(())
 }
 
 fn line_of<'a>(file: &'a str, remark: &'a Remark) -> Line<'a> {

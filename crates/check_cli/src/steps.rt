@@ -39,18 +39,32 @@ struct Begun {
 /// The steps of a text.
 pub fn steps_of(alloc: Global, text: &[u8]) -> Result<Vec<Step>, RcRefused> {
     let spans = cut_rc(alloc, text)?;
+    Ok(steps_in(alloc, spans.as_slice())?)
+}
+
+fn steps_in(alloc: Global, spans: &[Span<'_>]) -> Result<Vec<Step>, Memory> {
     let mut steps = Vec::new(alloc);
     let mut begun = Begun { always: true };
-    for span in spans.as_slice() {
-        if let Some(step) = start_of(alloc, span)? {
-            push(&mut steps, step)?;
-        }
-        if let Some(step) = step_of(alloc, span, begun)? {
-            push(&mut steps, step)?;
-        }
+    for span in spans {
+        add_steps(alloc, span, begun, &mut steps)?;
         begun = begun_after(span, begun);
     }
     Ok(steps)
+}
+
+fn add_steps(
+    alloc: Global,
+    span: &Span<'_>,
+    begun: Begun,
+    steps: &mut Vec<Step>,
+) -> Result<(), Memory> {
+    if let Some(step) = start_of(alloc, span)? {
+        push(steps, step)?;
+    }
+    match step_of(alloc, span, begun)? {
+        Some(step) => push(steps, step),
+        None => Ok(()),
+    }
 }
 
 fn push(steps: &mut Vec<Step>, step: Step) -> Result<(), Memory> {

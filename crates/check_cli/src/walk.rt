@@ -1,6 +1,7 @@
 //! The order in which rcfiles are executed: the steps that are still to come of each open rcfile, and the open blocks.
 use crate::steps::Step;
-use std::alloc::{AllocError, Global};
+use pm_bytes::Memory;
+use std::alloc::Global;
 use std::vec::IntoIter;
 
 /// An rcfile in progress: its number, and how many blocks were open when it began.
@@ -47,7 +48,7 @@ impl Walk {
     }
 
     /// Opens the rcfile with this number.
-    pub fn open(&mut self, file: usize, steps: Vec<Step>) -> Result<(), AllocError> {
+    pub fn open(&mut self, file: usize, steps: Vec<Step>) -> Result<(), Memory> {
         self.frames.push(Frame {
             file,
             depth: self.blocks.len(),
@@ -80,7 +81,7 @@ impl Walk {
     }
 
     /// A block begins.
-    pub fn begin_block(&mut self, always: bool) -> Result<(), AllocError> {
+    pub fn begin_block(&mut self, always: bool) -> Result<(), Memory> {
         self.blocks.push(Block {
             always,
             names: Vec::new(self.alloc),
@@ -94,7 +95,7 @@ impl Walk {
     }
 
     /// A variable is assigned in the innermost block.
-    pub fn note(&mut self, name: Vec<u8>) -> Result<(), AllocError> {
+    pub fn note(&mut self, name: Vec<u8>) -> Result<(), Memory> {
         if let Some(block) = self.blocks.last_mut() {
             block.names.push(name)?;
         }

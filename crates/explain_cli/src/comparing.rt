@@ -27,14 +27,17 @@ pub fn compare(
     mails: &[Blob],
 ) -> Result<(), Stopped> {
     check_rcfile(rt, rcfile)?;
-    let both = Both {
-        old: telling(rt.alloc(), line)?,
-        new: telling_with(rt, line, rcfile)?,
-    };
+    let both = both_of(rt, line, rcfile)?;
     let progress = Progress::new(rt, mails.len(), options.is_mailbox);
     let compared = compare_all(rt, runs, &both, mails, progress)?;
     progress.end(rt);
     print(rt, options, compared.as_slice())
+}
+
+fn both_of(rt: &HostRuntime, line: &CommandLine, rcfile: &str) -> Result<Both, Stopped> {
+    let old = telling(rt.alloc(), line)?;
+    let new = telling_with(rt, line, rcfile)?;
+    Ok(Both { old, new })
 }
 
 // A name that is mistyped would put all mails elsewhere.
@@ -68,11 +71,14 @@ fn compare_one(
     number: u64,
     mail: &Blob,
 ) -> Result<Compared, Memory> {
+    let subject = subject_of(rt.alloc(), mail.as_slice())?;
+    let old = runs.outcome(rt, both.old.as_slice(), mail)?;
+    let new = runs.outcome(rt, both.new.as_slice(), mail)?;
     Ok(Compared {
         number,
-        subject: subject_of(rt.alloc(), mail.as_slice())?,
-        old: runs.outcome(rt, both.old.as_slice(), mail)?,
-        new: runs.outcome(rt, both.new.as_slice(), mail)?,
+        subject,
+        old,
+        new,
     })
 }
 

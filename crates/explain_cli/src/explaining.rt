@@ -9,33 +9,72 @@ use crate::status::{Status, Stopped};
 use crate::words::{line_of, owned, telling};
 use explain_host::Machine;
 use explain_json::{mail_object, outcome_object, run_object};
-use explain_mails::{mail_heading, mail_line, subject_of};
+use explain_mails::{Outcome, mail_heading, mail_line, subject_of};
 use explain_notes::explain as run_text;
 use explain_started::with_started;
 use explain_text::{result_line, steps_of};
 use pm_bytes::{Blob, Memory};
+use pm_meaning::CommandLine;
 use std::alloc::Global;
 
 /// Prints what procmail would do with the mail on standard input, or with each mail of the mailbox there.
 pub fn explain(rt: &HostRuntime, options: &Options<'_>) -> Result<Status, Stopped> {
     let words = owned(rt.alloc(), options.words.as_slice())?;
-    let line = line_of(rt, words.as_slice())?;
-    let runs = Runs {
-        given: answers_of(rt, options.answers.as_slice())?,
-        machine: Machine::new(rt)?,
+    explain_words(rt, options, words.as_slice())?;
+    Ok(Status::Explained)
+}
+
+fn explain_words(rt: &HostRuntime, options: &Options<'_>, words: &[String]) -> Result<(), Stopped> {
+    let line = line_of(rt, words)?;
+    explain_line(rt, options, words, &line)
+}
+
+fn explain_line(
+    rt: &HostRuntime,
+    options: &Options<'_>,
+    words: &[String],
+    line: &CommandLine,
+) -> Result<(), Stopped> {
+    let runs = runs_of(rt, options)?;
+    explain_by(rt, options, &runs, words, line)
+}
+
+fn runs_of(rt: &HostRuntime, options: &Options<'_>) -> Result<Runs, Stopped> {
+    let given = answers_of(rt, options.answers.as_slice())?;
+    let machine = Machine::new(rt)?;
+    Ok(Runs {
+        machine,
+        given,
         starts: options.starts,
-    };
+    })
+}
+
+fn explain_by(
+    rt: &HostRuntime,
+    options: &Options<'_>,
+    runs: &Runs,
+    words: &[String],
+    line: &CommandLine,
+) -> Result<(), Stopped> {
     let mails = read_mails(rt, options.is_mailbox)?;
     let mails = mails.as_slice();
     match options.rcfile {
-        Some(rcfile) => compare(rt, options, &runs, &line, rcfile, mails)?,
-        None if options.is_mailbox && options.quiet => {
-            let words = telling(rt.alloc(), &line)?;
-            explain_all(rt, options, &runs, words.as_slice(), mails)?;
-        }
-        None => explain_all(rt, options, &runs, words.as_slice(), mails)?,
+        Some(rcfile) => compare(rt, options, runs, line, rcfile, mails),
+        None if options.is_mailbox && options.quiet => explain_told(rt, options, runs, line, mails),
+        None => explain_all(rt, options, runs, words, mails),
     }
-    Ok(Status::Explained)
+}
+
+// By the words by which the journal tells each delivery.
+fn explain_told(
+    rt: &HostRuntime,
+    options: &Options<'_>,
+    runs: &Runs,
+    line: &CommandLine,
+    mails: &[Blob],
+) -> Result<(), Stopped> {
+    let words = telling(rt.alloc(), line)?;
+    explain_all(rt, options, runs, words.as_slice(), mails)
 }
 
 fn explain_all(
@@ -48,20 +87,30 @@ fn explain_all(
     let progress = Progress::new(rt, mails.len(), options.is_mailbox);
     for (index, mail) in mails.iter().enumerate() {
         progress.show(rt, index);
-        let text = if !options.is_mailbox {
-            one_text(rt, options, runs, words, mail)?
-        } else if options.quiet {
-            outcome_text(rt, options.format, runs, words, index as u64 + 1, mail)?
-        } else {
-            mail_text(rt, options.format, runs, words, index as u64 + 1, mail)?
-        };
-        write_out(rt, &text)?;
+        explain_one(rt, options, runs, words, index as u64 + 1, mail)?;
     }
     progress.end(rt);
     Ok(())
 }
 
-// A run that did nothing at all was refused before it began.
+fn explain_one(
+    rt: &HostRuntime,
+    options: &Options<'_>,
+    runs: &Runs,
+    words: &[String],
+    number: u64,
+    mail: &Blob,
+) -> Result<(), Stopped> {
+    let text = if !options.is_mailbox {
+        one_text(rt, options, runs, words, mail)?
+    } else if options.quiet {
+        outcome_text(rt, options.format, runs, words, number, mail)?
+    } else {
+        mail_text(rt, options.format, runs, words, number, mail)?
+    };
+    write_out(rt, &text)
+}
+
 fn one_text(
     rt: &HostRuntime,
     options: &Options<'_>,
@@ -70,10 +119,15 @@ fn one_text(
     mail: &Blob,
 ) -> Result<Blob, Stopped> {
     let ran = runs.run(rt, words, mail)?;
+    run_told(rt, options, &ran)
+}
+
+// A run that did nothing at all was refused before it began.
+fn run_told(rt: &HostRuntime, options: &Options<'_>, ran: &Ran) -> Result<Blob, Stopped> {
     if ran.journal.entries().is_empty() {
         complain_of(rt, ran.status)?;
     }
-    Ok(text_of(rt.alloc(), options, &ran)?)
+    Ok(text_of(rt.alloc(), options, ran)?)
 }
 
 fn complain_of(rt: &HostRuntime, status: u8) -> Result<(), Stopped> {
@@ -82,22 +136,22 @@ fn complain_of(rt: &HostRuntime, status: u8) -> Result<(), Stopped> {
 }
 
 fn text_of(alloc: Global, options: &Options<'_>, ran: &Ran) -> Result<Blob, Memory> {
-    let entries = ran.journal.entries();
     match options.format {
         Format::Json => run_object(
             alloc,
             options.quiet,
-            entries,
+            ran.journal.entries(),
             ran.notes.as_slice(),
             ran.status,
         ),
-        Format::Text if options.quiet => {
-            let steps = steps_of(alloc, entries)?;
-            let line = result_line(alloc, steps.as_slice(), ran.status)?;
-            told(alloc, line, ran)
-        }
+        Format::Text if options.quiet => told(alloc, result_of(alloc, ran)?, ran),
         Format::Text => lines_of(alloc, ran),
     }
+}
+
+fn result_of(alloc: Global, ran: &Ran) -> Result<Blob, Memory> {
+    let steps = steps_of(alloc, ran.journal.entries())?;
+    result_line(alloc, steps.as_slice(), ran.status)
 }
 
 fn lines_of(alloc: Global, ran: &Ran) -> Result<Blob, Memory> {
@@ -125,9 +179,19 @@ fn outcome_text(
 ) -> Result<Blob, Memory> {
     let subject = subject_of(rt.alloc(), mail.as_slice())?;
     let outcome = runs.outcome(rt, words, mail)?;
+    outcome_told(rt.alloc(), format, number, &subject, &outcome)
+}
+
+fn outcome_told(
+    alloc: Global,
+    format: Format,
+    number: u64,
+    subject: &Option<Blob>,
+    outcome: &Outcome,
+) -> Result<Blob, Memory> {
     match format {
-        Format::Text => mail_line(rt.alloc(), number, &subject, &outcome),
-        Format::Json => outcome_object(rt.alloc(), number, &subject, &outcome),
+        Format::Text => mail_line(alloc, number, subject, outcome),
+        Format::Json => outcome_object(alloc, number, subject, outcome),
     }
 }
 
@@ -142,20 +206,37 @@ fn mail_text(
 ) -> Result<Blob, Memory> {
     let subject = subject_of(rt.alloc(), mail.as_slice())?;
     let ran = runs.run(rt, words, mail)?;
+    mail_told(rt.alloc(), format, number, &subject, &ran)
+}
+
+fn mail_told(
+    alloc: Global,
+    format: Format,
+    number: u64,
+    subject: &Option<Blob>,
+    ran: &Ran,
+) -> Result<Blob, Memory> {
     match format {
         Format::Json => mail_object(
-            rt.alloc(),
+            alloc,
             number,
-            &subject,
+            subject,
             ran.journal.entries(),
             ran.notes.as_slice(),
             ran.status,
         ),
-        Format::Text => {
-            let mut text = mail_heading(rt.alloc(), number, &subject)?;
-            let lines = lines_of(rt.alloc(), &ran)?;
-            text.push_slice(lines.as_slice())?;
-            Ok(text)
-        }
+        Format::Text => mail_lines(alloc, number, subject, ran),
     }
+}
+
+fn mail_lines(
+    alloc: Global,
+    number: u64,
+    subject: &Option<Blob>,
+    ran: &Ran,
+) -> Result<Blob, Memory> {
+    let lines = lines_of(alloc, ran)?;
+    let mut text = mail_heading(alloc, number, subject)?;
+    text.push_slice(lines.as_slice())?;
+    Ok(text)
 }

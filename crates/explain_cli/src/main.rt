@@ -12,6 +12,7 @@ mod running;
 mod status;
 mod words;
 
+use clap::Error;
 use explaining::explain;
 use options::{Parsed, read_options};
 use status::{Status, Stopped};
@@ -27,16 +28,20 @@ fn main(rt: HostRuntime) -> ExitCode {
 
 fn run(rt: &HostRuntime) -> Result<Status, Stopped> {
     let words: Vec<String> = std::env::args(rt)?.collect(rt.alloc())?;
-    match read_options(rt.alloc(), words.as_slice()) {
+    run_by(rt, words.as_slice())
+}
+
+fn run_by(rt: &HostRuntime, words: &[String]) -> Result<Status, Stopped> {
+    match read_options(rt.alloc(), words) {
         Parsed::Options(options) => explain(rt, &options),
-        Parsed::Shown(error) => {
-            error.print(rt)?;
-            Ok(Status::Explained)
-        }
-        Parsed::Refused(error) => {
-            error.print(rt)?;
-            Ok(Status::Usage)
-        }
+        Parsed::Shown(error) => print_text(rt, &error, Status::Explained),
+        Parsed::Refused(error) => print_text(rt, &error, Status::Usage),
         Parsed::Memory => Ok(Status::SystemError),
     }
+}
+
+// What clap has to say, and the exit status after it.
+fn print_text(rt: &HostRuntime, error: &Error, status: Status) -> Result<Status, Stopped> {
+    error.print(rt)?;
+    Ok(status)
 }

@@ -42,29 +42,38 @@ pub enum Parsed<'a> {
 
 /// Reads the words of a command line, the program's name first.
 pub fn read_options<'a>(alloc: Global, words: &'a [String]) -> Parsed<'a> {
-    let command = match command(alloc) {
-        Ok(command) => command,
-        Err(AllocError) => return Parsed::Memory,
-    };
-    let matches = match command.try_get_matches_from(words) {
-        Ok(matches) => matches,
-        Err(error) => return refused(error),
-    };
-    match (
-        texts(alloc, &matches, "answer"),
-        texts(alloc, &matches, "word"),
-    ) {
-        (Ok(answers), Ok(words)) => Parsed::Options(Options {
-            quiet: matches.get_flag("quiet"),
-            is_mailbox: matches.get_flag("mailbox"),
-            format: format_of(matches.get_str("format")),
-            starts: matches.get_flag("run"),
-            rcfile: matches.get_str("compare"),
-            answers,
-            words,
-        }),
-        _ => Parsed::Memory,
+    match command(alloc) {
+        Ok(command) => parsed_by(alloc, command, words),
+        Err(AllocError) => Parsed::Memory,
     }
+}
+
+fn parsed_by<'a>(alloc: Global, command: Command<'a>, words: &'a [String]) -> Parsed<'a> {
+    match command.try_get_matches_from(words) {
+        Ok(matches) => parsed_of(alloc, &matches),
+        Err(error) => refused(error),
+    }
+}
+
+fn parsed_of<'a>(alloc: Global, matches: &ArgMatches<'a>) -> Parsed<'a> {
+    match options_of(alloc, matches) {
+        Ok(options) => Parsed::Options(options),
+        Err(AllocError) => Parsed::Memory,
+    }
+}
+
+fn options_of<'a>(alloc: Global, matches: &ArgMatches<'a>) -> Result<Options<'a>, AllocError> {
+    let answers = texts(alloc, matches, "answer")?;
+    let words = texts(alloc, matches, "word")?;
+    Ok(Options {
+        quiet: matches.get_flag("quiet"),
+        is_mailbox: matches.get_flag("mailbox"),
+        format: format_of(matches.get_str("format")),
+        starts: matches.get_flag("run"),
+        rcfile: matches.get_str("compare"),
+        answers,
+        words,
+    })
 }
 
 fn texts<'a>(

@@ -10,7 +10,7 @@ use explain_run::{Script, Stepping, next_start, started_after};
 use pm_bytes::{Blob, Memory};
 use pm_conds::{NoObserver, Observer};
 use pm_host::Host;
-use pm_journal::Journal;
+use pm_journal::{Entry, Journal};
 use pm_overlay::{Given, Overlay, Void};
 use pm_top::{MessageSource, procmail_observed};
 use std::alloc::Global;
@@ -39,19 +39,24 @@ pub struct Ran {
 impl Runs {
     /// Runs procmail by these words on a mail.
     pub fn run(&self, rt: &HostRuntime, words: &[String], mail: &Blob) -> Result<Ran, Memory> {
+        let first = self.run_once(rt, words, mail)?;
+        if self.starts {
+            self.start_programs(rt, words, mail, first)
+        } else {
+            Ok(first)
+        }
+    }
+
+    // The run in which no program is started.
+    fn run_once(&self, rt: &HostRuntime, words: &[String], mail: &Blob) -> Result<Ran, Memory> {
         let mut notes = Notes::new(rt.alloc());
-        let (journal, status) = self.observe_once(rt, words, mail, &mut notes)?;
-        let ran = Ran {
+        let (journal, status) = self.observe(rt, words, mail, None, &mut notes)?;
+        Ok(Ran {
             journal,
             notes,
             status,
             started: Vec::new(rt.alloc()),
-        };
-        if self.starts {
-            self.start_programs(rt, words, mail, ran)
-        } else {
-            Ok(ran)
-        }
+        })
     }
 
     /// What a mail comes to by these words.
@@ -61,36 +66,25 @@ impl Runs {
         words: &[String],
         mail: &Blob,
     ) -> Result<Outcome, Memory> {
-        let (journal, status) = if self.starts {
-            let Ran {
-                journal,
-                status,
-                ..
-            } = self.run(rt, words, mail)?;
-            (journal, status)
+        if self.starts {
+            let ran = self.run(rt, words, mail)?;
+            outcome_of(rt.alloc(), ran.journal.entries(), ran.status)
         } else {
-            self.observe_once(rt, words, mail, &mut NoObserver)?
-        };
-        let names = destination_names(rt.alloc(), journal.entries())?;
-        Ok(Outcome::new(names, status))
+            self.outcome_once(rt, words, mail)
+        }
     }
 
-    // The run in which no program is started.
-    fn observe_once<N: Observer>(
+    // That of the run in which no program is started.
+    fn outcome_once(
         &self,
         rt: &HostRuntime,
         words: &[String],
         mail: &Blob,
-        observer: &mut N,
-    ) -> Result<(Journal, u8), Memory> {
-        let given = copies(rt.alloc(), self.given.as_slice())?;
-        let lines = lines_of(rt.alloc(), self.given.as_slice())?;
-        let overlay = Overlay::new(rt.alloc(), self.machine.base(rt)?, given);
-        let mut host = OwnCode::new(rt.alloc(), overlay, lines)?;
-        self.observe(rt, words, mail, &mut host, observer)
+    ) -> Result<Outcome, Memory> {
+        let (journal, status) = self.observe(rt, words, mail, None, &mut NoObserver)?;
+        outcome_of(rt.alloc(), journal.entries(), status)
     }
 
-    // The run is repeated, each time with one program more that is started, until none is left.
     fn start_programs(
         &self,
         rt: &HostRuntime,
@@ -98,19 +92,46 @@ impl Runs {
         mail: &Blob,
         first: Ran,
     ) -> Result<Ran, Memory> {
-        let lines = lines_of(rt.alloc(), self.given.as_slice())?;
         let mut ran = first;
+        self.start_each(rt, words, mail, &mut ran)?;
+        Ok(ran)
+    }
+
+    // The run is repeated, each time with one program more that is started, until none is left.
+    fn start_each(
+        &self,
+        rt: &HostRuntime,
+        words: &[String],
+        mail: &Blob,
+        ran: &mut Ran,
+    ) -> Result<(), Memory> {
+        let lines = lines_of(rt.alloc(), self.given.as_slice())?;
         let mut last = None;
         for _ in 0..MOST_STARTS {
-            let entries = ran.journal.entries();
-            let notes = ran.notes.as_slice();
-            let Some(place) = next_start(rt.alloc(), lines.as_slice(), entries, notes, last)? else {
-                return Ok(ran);
-            };
-            ran = self.start_program(rt, words, mail, &ran, place)?;
-            last = Some(place);
+            last = self.start_next(rt, words, mail, lines.as_slice(), last, ran)?;
+            if last.is_none() {
+                break;
+            }
         }
-        Ok(ran)
+        Ok(())
+    }
+
+    // Starts the first program after the place, and answers where it is. These lines are answered without a start.
+    fn start_next(
+        &self,
+        rt: &HostRuntime,
+        words: &[String],
+        mail: &Blob,
+        lines: &[Blob],
+        last: Option<usize>,
+        ran: &mut Ran,
+    ) -> Result<Option<usize>, Memory> {
+        let entries = ran.journal.entries();
+        let next = next_start(rt.alloc(), lines, entries, ran.notes.as_slice(), last)?;
+        if let Some(place) = next {
+            *ran = self.start_program(rt, words, mail, ran, place)?;
+        }
+        Ok(next)
     }
 
     // The same run once more, in which the program at this place is started.
@@ -129,13 +150,8 @@ impl Runs {
             started,
             next: Some(place),
         };
-        let given = copies(rt.alloc(), self.given.as_slice())?;
-        let lines = lines_of(rt.alloc(), self.given.as_slice())?;
-        let overlay = Overlay::new(rt.alloc(), self.machine.base(rt)?, given);
-        let below = OwnCode::new(rt.alloc(), overlay, lines)?;
-        let mut host = Stepping::new(rt.alloc(), below, self.machine.host(rt)?, script);
         let mut notes = Notes::new(rt.alloc());
-        let (journal, status) = self.observe(rt, words, mail, &mut host, &mut notes)?;
+        let (journal, status) = self.observe(rt, words, mail, Some(script), &mut notes)?;
         let started = started_after(rt.alloc(), entries, journal.entries(), started, place)?;
         Ok(Ran {
             journal,
@@ -145,8 +161,58 @@ impl Runs {
         })
     }
 
-    // The entries and the status of a run over this host, which the observer follows.
-    fn observe<H: Host, N: Observer>(
+    // The entries and the status of a run, which the observer follows. Programs are started by the script, or none.
+    fn observe<N: Observer>(
+        &self,
+        rt: &HostRuntime,
+        words: &[String],
+        mail: &Blob,
+        script: Option<Script<'_>>,
+        observer: &mut N,
+    ) -> Result<(Journal, u8), Memory> {
+        let given = copies(rt.alloc(), self.given.as_slice())?;
+        let lines = lines_of(rt.alloc(), self.given.as_slice())?;
+        let overlay = Overlay::new(rt.alloc(), self.machine.base(rt)?, given);
+        let host = OwnCode::new(rt.alloc(), overlay, lines)?;
+        self.observe_by(rt, words, mail, host, script, observer)
+    }
+
+    fn observe_by<H: Host + Drop, N: Observer>(
+        &self,
+        rt: &HostRuntime,
+        words: &[String],
+        mail: &Blob,
+        below: H,
+        script: Option<Script<'_>>,
+        observer: &mut N,
+    ) -> Result<(Journal, u8), Memory>
+        requires { (H.told below).child ≡ Child.NoChild }
+    {
+        match script {
+            Some(script) => self.observe_started(rt, words, mail, below, script, observer),
+            None => {
+                let mut host = below;
+                self.observe_over(rt, words, mail, &mut host, observer)
+            }
+        }
+    }
+
+    fn observe_started<H: Host + Drop, N: Observer>(
+        &self,
+        rt: &HostRuntime,
+        words: &[String],
+        mail: &Blob,
+        below: H,
+        script: Script<'_>,
+        observer: &mut N,
+    ) -> Result<(Journal, u8), Memory>
+        requires { (H.told below).child ≡ Child.NoChild }
+    {
+        let mut host = Stepping::new(rt.alloc(), below, self.machine.host(rt)?, script);
+        self.observe_over(rt, words, mail, &mut host, observer)
+    }
+
+    fn observe_over<H: Host, N: Observer>(
         &self,
         rt: &HostRuntime,
         words: &[String],
@@ -171,6 +237,11 @@ impl Runs {
         );
         Ok((journal, status))
     }
+}
+
+fn outcome_of(alloc: Global, entries: &[Entry], status: u8) -> Result<Outcome, Memory> {
+    let names = destination_names(alloc, entries)?;
+    Ok(Outcome::new(names, status))
 }
 
 fn copies(alloc: Global, given: &[Given]) -> Result<Vec<Given>, Memory> {

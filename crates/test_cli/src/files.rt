@@ -3,7 +3,7 @@ use crate::status::{Status, Stopped};
 use bstr::ByteSlice;
 use pm_bytes::Blob;
 use pm_overlay::Given;
-use std::alloc::Global;
+use std::alloc::{AllocError, Global};
 use std::fs;
 use test_file::{Answer, Fault, Reading, Reason, Tests, read_tests};
 
@@ -17,18 +17,29 @@ pub struct Place<'a> {
 
 /// The tests of a file.
 pub fn tests_of(rt: &HostRuntime, file: &str) -> Result<Tests, Stopped> {
-    let Ok(bytes) = fs::read(rt, file) else {
-        rt.eprintln(format!(in rt.alloc(); "procmail-test: can't read {file}")?)?;
-        return Err(Stopped(Status::NoInput));
-    };
-    match read_tests(rt.alloc(), bytes.as_slice())? {
-        Reading::Tests(tests) => Ok(tests),
-        Reading::Fault(Fault { line, reason }) => {
-            let text = text_of(reason);
-            rt.eprintln(format!(in rt.alloc(); "procmail-test: {file}:{line}: {text}")?)?;
-            Err(Stopped(Status::Usage))
-        }
+    match fs::read(rt, file) {
+        Ok(bytes) => tests_in(rt, file, bytes.as_slice()),
+        Err(_) => Err(missing(rt, file)?),
     }
+}
+
+fn tests_in(rt: &HostRuntime, file: &str, bytes: &[u8]) -> Result<Tests, Stopped> {
+    match read_tests(rt.alloc(), bytes)? {
+        Reading::Tests(tests) => Ok(tests),
+        Reading::Fault(fault) => Err(misread(rt, file, fault)?),
+    }
+}
+
+fn missing(rt: &HostRuntime, file: &str) -> Result<Stopped, Stopped> {
+    rt.eprintln(format!(in rt.alloc(); "procmail-test: can't read {file}")?)?;
+    Ok(Stopped(Status::NoInput))
+}
+
+fn misread(rt: &HostRuntime, file: &str, fault: Fault) -> Result<Stopped, Stopped> {
+    let Fault { line, reason } = fault;
+    let text = text_of(reason);
+    rt.eprintln(format!(in rt.alloc(); "procmail-test: {file}:{line}: {text}")?)?;
+    Ok(Stopped(Status::Usage))
 }
 
 fn text_of(reason: Reason) -> &'static str {
@@ -47,42 +58,57 @@ fn text_of(reason: Reason) -> &'static str {
 
 /// The name of a file from where the program runs: names are as seen from the directory of the file of tests, and `~/`
 /// is the home directory. It begins with a slash or a dot.
-pub fn path_of(alloc: Global, place: Place<'_>, name: &str) -> Result<String, Stopped> {
+pub fn path_of(alloc: Global, place: Place<'_>, name: &str) -> Result<String, AllocError> {
     if name.starts_with("/") {
-        return Ok(String::from_str(alloc, name)?);
+        return String::from_str(alloc, name);
     }
     if let Some(rest) = name.strip_prefix("~/") {
         let home = place.home;
-        return Ok(format!(in alloc; "{home}/{rest}")?);
+        return format!(in alloc; "{home}/{rest}");
     }
     let Some(slash) = place.file.rfind('/') else {
-        return Ok(format!(in alloc; "./{name}")?);
+        return format!(in alloc; "./{name}");
     };
     let directory = &place.file[..slash];
     if place.file.starts_with("/") || place.file.starts_with("./") {
-        return Ok(format!(in alloc; "{directory}/{name}")?);
+        return format!(in alloc; "{directory}/{name}");
     }
-    Ok(format!(in alloc; "./{directory}/{name}")?)
+    format!(in alloc; "./{directory}/{name}")
 }
 
 /// The bytes of a file that a test names.
 pub fn bytes_of(rt: &HostRuntime, place: Place<'_>, name: &[u8]) -> Result<Vec<u8>, Stopped> {
-    if let Ok(text) = std::str::from_utf8(name) {
-        let path = path_of(rt.alloc(), place, text)?;
-        if let Ok(bytes) = fs::read(rt, path.as_str()) {
-            return Ok(bytes);
-        }
+    match bytes_at(rt, place, name)? {
+        Some(bytes) => Ok(bytes),
+        None => Err(unread(rt, place, name)?),
     }
-    Err(unread(rt, place, name)?)
+}
+
+fn bytes_at(
+    rt: &HostRuntime,
+    place: Place<'_>,
+    name: &[u8],
+) -> Result<Option<Vec<u8>>, AllocError> {
+    match std::str::from_utf8(name) {
+        Ok(name) => {
+            let path = path_of(rt.alloc(), place, name)?;
+            Ok(fs::read(rt, path.as_str()).ok())
+        }
+        Err(_) => Ok(None),
+    }
 }
 
 /// It is told that the file can't be read.
 pub fn unread(rt: &HostRuntime, place: Place<'_>, name: &[u8]) -> Result<Stopped, Stopped> {
-    let (file, line) = (place.file, place.line);
-    let name = name.to_str_lossy(rt.alloc())?;
-    let name = name.as_str();
-    rt.eprintln(format!(in rt.alloc(); "procmail-test: {file}:{line}: can't read {name}")?)?;
+    rt.eprintln(unread_text(rt.alloc(), place, name)?)?;
     Ok(Stopped(Status::NoInput))
+}
+
+fn unread_text(alloc: Global, place: Place<'_>, name: &[u8]) -> Result<String, AllocError> {
+    let (file, line) = (place.file, place.line);
+    let name = name.to_str_lossy(alloc)?;
+    let name = name.as_str();
+    format!(in alloc; "procmail-test: {file}:{line}: can't read {name}")
 }
 
 /// What programs answer in a test.
@@ -93,15 +119,24 @@ pub fn given_of(
 ) -> Result<Vec<Given>, Stopped> {
     let mut given = Vec::new(rt.alloc());
     for answer in answers {
-        let output = match &answer.output {
-            None => None,
-            Some(name) => Some(Blob::from_vec(bytes_of(rt, place, name.as_slice())?)),
-        };
-        given.push(Given {
-            line: answer.line.copy(rt.alloc())?,
-            code: answer.code,
-            output,
-        })?;
+        given.push(given_by(rt, place, answer)?)?;
     }
     Ok(given)
+}
+
+fn given_by(rt: &HostRuntime, place: Place<'_>, answer: &Answer) -> Result<Given, Stopped> {
+    let line = answer.line.copy(rt.alloc())?;
+    let output = output_of(rt, place, answer)?;
+    Ok(Given {
+        line,
+        code: answer.code,
+        output,
+    })
+}
+
+fn output_of(rt: &HostRuntime, place: Place<'_>, answer: &Answer) -> Result<Option<Blob>, Stopped> {
+    match &answer.output {
+        None => Ok(None),
+        Some(name) => Ok(Some(Blob::from_vec(bytes_of(rt, place, name.as_slice())?))),
+    }
 }

@@ -7,6 +7,7 @@ mod running;
 mod status;
 mod testing;
 
+use clap::Error;
 use options::{Parsed, read_options};
 use status::Status;
 use std::io;
@@ -22,18 +23,21 @@ fn main(rt: HostRuntime) -> ExitCode {
 }
 
 fn run(rt: &HostRuntime) -> io::Result<Status> {
-    let alloc = rt.alloc();
-    let words: Vec<String> = std::env::args(rt)?.collect(alloc)?;
-    match read_options(alloc, words.as_slice()) {
-        Parsed::Options(options) => test_files(rt, &options),
-        Parsed::Shown(error) => {
-            error.print(rt)?;
-            Ok(Status::Passed)
-        }
-        Parsed::Refused(error) => {
-            error.print(rt)?;
-            Ok(Status::Usage)
-        }
+    let words: Vec<String> = std::env::args(rt)?.collect(rt.alloc())?;
+    run_by(rt, words.as_slice())
+}
+
+fn run_by(rt: &HostRuntime, words: &[String]) -> io::Result<Status> {
+    match read_options(rt.alloc(), words) {
+        Parsed::Options(options) => Ok(test_files(rt, &options)),
+        Parsed::Shown(error) => print_text(rt, &error, Status::Passed),
+        Parsed::Refused(error) => print_text(rt, &error, Status::Usage),
         Parsed::Memory => Ok(Status::SystemError),
     }
+}
+
+// What clap has to say, and the exit status after it.
+fn print_text(rt: &HostRuntime, error: &Error, status: Status) -> io::Result<Status> {
+    error.print(rt)?;
+    Ok(status)
 }

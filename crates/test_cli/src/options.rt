@@ -32,15 +32,21 @@ pub enum Parsed<'a> {
 
 /// Reads the words of a command line, the program's name first.
 pub fn read_options<'a>(alloc: Global, words: &'a [String]) -> Parsed<'a> {
-    let command = match command(alloc) {
-        Ok(command) => command,
-        Err(AllocError) => return Parsed::Memory,
-    };
-    let matches = match command.try_get_matches_from(words) {
-        Ok(matches) => matches,
-        Err(error) => return refused(error),
-    };
-    match files(alloc, &matches) {
+    match command(alloc) {
+        Ok(command) => parsed_by(alloc, command, words),
+        Err(AllocError) => Parsed::Memory,
+    }
+}
+
+fn parsed_by<'a>(alloc: Global, command: Command<'a>, words: &'a [String]) -> Parsed<'a> {
+    match command.try_get_matches_from(words) {
+        Ok(matches) => parsed_of(alloc, &matches),
+        Err(error) => refused(error),
+    }
+}
+
+fn parsed_of<'a>(alloc: Global, matches: &ArgMatches<'a>) -> Parsed<'a> {
+    match files(alloc, matches) {
         Ok(files) => Parsed::Options(Options {
             format: format_of(matches.get_str("format")),
             files,
@@ -72,20 +78,26 @@ fn refused<'a>(error: Error) -> Parsed<'a> {
 }
 
 fn command<'a>(alloc: Global) -> Result<Command<'a>, AllocError> {
-    let format = Arg::new(alloc, "format")
+    Command::new(alloc, "procmail-test")
+        .version(VERSION)
+        .about("Runs tests of rcfiles: where does each mail go?")
+        .arg(format_option(alloc))?
+        .arg(file_argument(alloc))
+}
+
+fn format_option<'a>(alloc: Global) -> Arg<'a> {
+    Arg::new(alloc, "format")
         .long("format")
         .value_name("FORMAT")
         .value_parser(["tap", "junit"].as_slice())
-        .help("How the report is written");
-    let file = Arg::new(alloc, "file")
+        .help("How the report is written")
+}
+
+fn file_argument<'a>(alloc: Global) -> Arg<'a> {
+    Arg::new(alloc, "file")
         .value_name("FILE")
         .action(ArgAction::Append)
         .required(true)
         .num_args(1..)
-        .help("Files of tests");
-    Command::new(alloc, "procmail-test")
-        .version(VERSION)
-        .about("Runs tests of rcfiles: where does each mail go?")
-        .arg(format)?
-        .arg(file)
+        .help("Files of tests")
 }

@@ -5,20 +5,21 @@ use bstr::ByteSlice;
 use explain_host::Machine;
 use explain_programs::{OwnCode, lines_of};
 use explain_text::{Destination, destinations_of, last_program, value_in};
-use pm_bytes::Blob;
+use pm_bytes::{Blob, Memory, Pair};
 use pm_journal::{Entry, Journal};
-use pm_overlay::{Overlay, Void};
+use pm_overlay::{Given, Overlay, Void};
 use pm_top::{MessageSource, procmail};
 use std::alloc::Global;
 use test_file::Test;
 use test_text::{Places, Report, is_same, mailbox_name, name_of, shown_name, told_text};
 
-/// Where a run delivered the mail to, as the names that tests have for it, and what names mean in it.
+/// Where a run delivered the mail to, as the names that tests have for it, what names mean in it, and its exit status.
 #[derive(Drop)]
 struct Delivered {
     names: Vec<Blob>,
     home: Blob,
     default: Blob,
+    status: u8,
 }
 
 /// Runs procmail with this rcfile on the mail of a test.
@@ -29,68 +30,124 @@ pub fn run_test(
     rcfile: &str,
     test: &Test,
 ) -> Result<Report, Stopped> {
-    let mail = bytes_of(rt, place, test.mail())?;
-    let given = given_of(rt, place, test.answers())?;
-    let mut source = MessageSource::new(mail);
-    let mut journal = Journal::new(rt.alloc());
     let words = words(rt.alloc(), place.home, rcfile)?;
+    let delivered = delivered_by(rt, machine, place, words.as_slice(), test)?;
+    Ok(report(rt.alloc(), place, test, &delivered)?)
+}
+
+// The log and the last program tell where the mail went. MAILDIR is the home directory, as for an rcfile there,
+// whatever the rcfile's name is.
+fn words(alloc: Global, home: &str, rcfile: &str) -> Result<Vec<String>, Memory> {
+    let folder = format!(in alloc; "MAILDIR={home}")?;
+    copies(
+        alloc,
+        &[
+            folder.as_str(),
+            "LOGFILE=procmail-test.log",
+            "LOGABSTRACT=all",
+            "TRAP=procmail-test",
+            rcfile,
+        ],
+    )
+}
+
+fn copies(alloc: Global, words: &[&str]) -> Result<Vec<String>, Memory> {
+    let mut copies = Vec::new(alloc);
+    for word in words {
+        copies.push(String::from_str(alloc, word)?)?;
+    }
+    Ok(copies)
+}
+
+fn delivered_by(
+    rt: &HostRuntime,
+    machine: &Machine,
+    place: Place<'_>,
+    words: &[String],
+    test: &Test,
+) -> Result<Delivered, Stopped> {
+    let mut source = MessageSource::new(bytes_of(rt, place, test.mail())?);
+    let given = given_of(rt, place, test.answers())?;
+    Ok(run(rt, machine, words, given, &mut source)?)
+}
+
+fn run(
+    rt: &HostRuntime,
+    machine: &Machine,
+    words: &[String],
+    given: Vec<Given>,
+    source: &mut MessageSource,
+) -> Result<Delivered, Memory> {
     let answered = lines_of(rt.alloc(), given.as_slice())?;
     let overlay = Overlay::new(rt.alloc(), machine.base(rt)?, given);
     let mut host = OwnCode::new(rt.alloc(), overlay, answered)?;
+    let mut journal = Journal::new(rt.alloc());
     let status = procmail(
         rt.alloc(),
-        words.as_slice(),
+        words,
         machine.env(),
-        &mut source,
+        source,
         &mut host,
         &mut Void::new(),
         &mut Void::new(),
         &mut journal,
     );
-    let delivered = where_delivered(rt.alloc(), journal.entries())?;
-    report(rt.alloc(), place, test, &delivered, status)
-}
-
-// The log and the last program tell where the mail went. MAILDIR is the home directory, as for an rcfile there,
-// whatever the rcfile's name is.
-fn words(alloc: Global, home: &str, rcfile: &str) -> Result<Vec<String>, Stopped> {
-    let folder = format!(in alloc; "MAILDIR={home}")?;
-    let mut words = Vec::new(alloc);
-    for word in [
-        folder.as_str(),
-        "LOGFILE=procmail-test.log",
-        "LOGABSTRACT=all",
-        "TRAP=procmail-test",
-        rcfile,
-    ] {
-        words.push(String::from_str(alloc, word)?)?;
-    }
-    Ok(words)
+    where_delivered(rt.alloc(), journal.entries(), status)
 }
 
 // TRAP's program is the last one, and its environment is that of the run at its end.
-fn where_delivered(alloc: Global, entries: &[Entry]) -> Result<Delivered, Stopped> {
-    let mut names = Vec::new(alloc);
-    for destination in destinations_of(alloc, entries)?.as_slice() {
-        names.push(name_in(alloc, destination)?)?;
-    }
-    let Some(program) = last_program(entries) else {
-        return Ok(Delivered {
+fn where_delivered(alloc: Global, entries: &[Entry], status: u8) -> Result<Delivered, Memory> {
+    let names = names_in(alloc, entries)?;
+    match last_program(entries) {
+        Some(program) => {
+            let env = program.env.as_slice();
+            let folder = program.folder.as_str().as_bytes();
+            delivered_in(alloc, names, env, folder, status)
+        }
+        None => Ok(Delivered {
             names,
             home: Blob::empty(alloc),
             default: Blob::empty(alloc),
-        });
-    };
-    let env = program.env.as_slice();
-    let folder = program.folder.as_str().as_bytes();
-    let first = mailbox_name(alloc, value_in(env, b"DEFAULT"), folder)?;
-    let second = mailbox_name(alloc, value_in(env, b"ORGMAIL"), folder)?;
-    let is_second = !is_among(&first, names.as_slice()) && is_among(&second, names.as_slice());
+            status,
+        }),
+    }
+}
+
+fn names_in(alloc: Global, entries: &[Entry]) -> Result<Vec<Blob>, Memory> {
+    let destinations = destinations_of(alloc, entries)?;
+    names_for(alloc, destinations.as_slice())
+}
+
+fn names_for(alloc: Global, destinations: &[Destination]) -> Result<Vec<Blob>, Memory> {
+    let mut names = Vec::new(alloc);
+    for destination in destinations {
+        names.push(name_in(alloc, destination)?)?;
+    }
+    Ok(names)
+}
+
+fn delivered_in(
+    alloc: Global,
+    names: Vec<Blob>,
+    env: &[Pair],
+    folder: &[u8],
+    status: u8,
+) -> Result<Delivered, Memory> {
+    let home = Blob::from_slice(alloc, value_in(env, b"HOME"))?;
+    let default = default_in(alloc, names.as_slice(), env, folder)?;
     Ok(Delivered {
         names,
-        home: Blob::from_slice(alloc, value_in(env, b"HOME"))?,
-        default: if is_second { second } else { first },
+        home,
+        default,
+        status,
     })
+}
+
+fn default_in(alloc: Global, names: &[Blob], env: &[Pair], folder: &[u8]) -> Result<Blob, Memory> {
+    let first = mailbox_name(alloc, value_in(env, b"DEFAULT"), folder)?;
+    let second = mailbox_name(alloc, value_in(env, b"ORGMAIL"), folder)?;
+    let is_second = !is_among(&first, names) && is_among(&second, names);
+    Ok(if is_second { second } else { first })
 }
 
 fn is_among(name: &Blob, names: &[Blob]) -> bool {
@@ -99,16 +156,16 @@ fn is_among(name: &Blob, names: &[Blob]) -> bool {
         .any(|other| other.as_slice() == name.as_slice())
 }
 
-fn name_in(alloc: Global, destination: &Destination) -> Result<Blob, Stopped> {
+fn name_in(alloc: Global, destination: &Destination) -> Result<Blob, Memory> {
     match destination {
-        Destination::File(name) | Destination::Folder(name) => Ok(name.copy(alloc)?),
+        Destination::File(name) | Destination::Folder(name) => name.copy(alloc),
         Destination::Program(line) => behind(alloc, b"| ", line),
         Destination::Forward(addresses) => behind(alloc, b"forward ", addresses),
-        Destination::Output => Ok(Blob::from_slice(alloc, b"standard output")?),
+        Destination::Output => Blob::from_slice(alloc, b"standard output"),
     }
 }
 
-fn behind(alloc: Global, front: &[u8], name: &Blob) -> Result<Blob, Stopped> {
+fn behind(alloc: Global, front: &[u8], name: &Blob) -> Result<Blob, Memory> {
     let mut text = Blob::from_slice(alloc, front)?;
     text.push_slice(name.as_slice())?;
     Ok(text)
@@ -119,40 +176,67 @@ fn report(
     place: Place<'_>,
     test: &Test,
     delivered: &Delivered,
-    status: u8,
-) -> Result<Report, Stopped> {
-    let home = delivered.home.as_slice();
-    let default = delivered.default.as_slice();
-    let mut wanted = Vec::new(alloc);
-    for text in test.wanted() {
-        wanted.push(name_of(alloc, text.as_slice(), Places { home, default })?)?;
-    }
-    let mut got = Vec::new(alloc);
-    for name in delivered.names.as_slice() {
-        got.push(shown_name(alloc, name.as_slice(), home)?)?;
-    }
-    let status = test.status().map(|_| status);
-    let is_same = is_same(alloc, wanted.as_slice(), delivered.names.as_slice())?;
+) -> Result<Report, Memory> {
+    let status = test.status().map(|_| delivered.status);
+    let passed = goes_right(alloc, test, delivered)? && status == test.status();
+    let file = Blob::from_slice(alloc, place.file.as_bytes())?;
+    let mail = readable(alloc, test.mail())?;
+    let wanted = told(alloc, test.wanted(), test.status())?;
+    let got = got_text(alloc, delivered, status)?;
     Ok(Report {
-        file: Blob::from_slice(alloc, place.file.as_bytes())?,
+        file,
         line: place.line,
-        mail: readable(alloc, test.mail())?,
-        wanted: readable(
-            alloc,
-            told_text(alloc, test.wanted(), test.status())?.as_slice(),
-        )?,
-        got: readable(alloc, told_text(alloc, got.as_slice(), status)?.as_slice())?,
-        passed: is_same && status == test.status(),
+        mail,
+        wanted,
+        got,
+        passed,
     })
 }
 
+// Whether the mail went to where it was to go.
+fn goes_right(alloc: Global, test: &Test, delivered: &Delivered) -> Result<bool, Memory> {
+    let places = Places {
+        home: delivered.home.as_slice(),
+        default: delivered.default.as_slice(),
+    };
+    let wanted = wanted_names(alloc, test.wanted(), places)?;
+    is_same(alloc, wanted.as_slice(), delivered.names.as_slice())
+}
+
+fn wanted_names(alloc: Global, texts: &[Blob], places: Places<'_>) -> Result<Vec<Blob>, Memory> {
+    let mut wanted = Vec::new(alloc);
+    for text in texts {
+        wanted.push(name_of(alloc, text.as_slice(), places)?)?;
+    }
+    Ok(wanted)
+}
+
+fn got_text(alloc: Global, delivered: &Delivered, status: Option<u8>) -> Result<Blob, Memory> {
+    let names = shown_names(alloc, delivered.names.as_slice(), delivered.home.as_slice())?;
+    told(alloc, names.as_slice(), status)
+}
+
+fn shown_names(alloc: Global, names: &[Blob], home: &[u8]) -> Result<Vec<Blob>, Memory> {
+    let mut shown = Vec::new(alloc);
+    for name in names {
+        shown.push(shown_name(alloc, name.as_slice(), home)?)?;
+    }
+    Ok(shown)
+}
+
+fn told(alloc: Global, names: &[Blob], status: Option<u8>) -> Result<Blob, Memory> {
+    let text = told_text(alloc, names, status)?;
+    readable(alloc, text.as_slice())
+}
+
 // Text, with U+FFFD for what is none, and for U+FFFE and U+FFFF, which XML can't have.
-fn readable(alloc: Global, bytes: &[u8]) -> Result<Blob, Stopped> {
+fn readable(alloc: Global, bytes: &[u8]) -> Result<Blob, Memory> {
     let text = bytes.to_str_lossy(alloc)?;
-    let text = text
-        .as_str()
-        .as_bytes()
-        .replace(alloc, "\u{fffe}".as_bytes(), "\u{fffd}".as_bytes())?;
+    without_both(alloc, text.as_str().as_bytes())
+}
+
+fn without_both(alloc: Global, text: &[u8]) -> Result<Blob, Memory> {
+    let text = text.replace(alloc, "\u{fffe}".as_bytes(), "\u{fffd}".as_bytes())?;
     let text = text
         .as_slice()
         .replace(alloc, "\u{ffff}".as_bytes(), "\u{fffd}".as_bytes())?;

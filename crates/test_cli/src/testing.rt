@@ -6,33 +6,49 @@ use crate::status::{Status, Stopped};
 use explain_host::Machine;
 use explain_text::value_in;
 use std::io::{self, Write};
-use test_file::Tests;
+use test_file::{Test, Tests};
 use test_text::{Report, junit_report, tap_report};
 
 /// Runs the tests and prints their report. Where a file can't be read nothing is printed but that.
-pub fn test_files(rt: &HostRuntime, options: &Options<'_>) -> io::Result<Status> {
+pub fn test_files(rt: &HostRuntime, options: &Options<'_>) -> Status {
     match run_files(rt, options) {
-        Ok(status) => Ok(status),
-        Err(Stopped(status)) => Ok(status),
+        Ok(status) => status,
+        Err(Stopped(status)) => status,
     }
 }
 
 fn run_files(rt: &HostRuntime, options: &Options<'_>) -> Result<Status, Stopped> {
     let machine = Machine::new(rt)?;
+    run_on(rt, &machine, options)
+}
+
+fn run_on(rt: &HostRuntime, machine: &Machine, options: &Options<'_>) -> Result<Status, Stopped> {
+    let files = options.files.as_slice();
+    let suites = suites_of(rt, files)?;
+    let mut reports = Vec::new(rt.alloc());
+    run_suites(rt, machine, files, suites.as_slice(), &mut reports)?;
+    print(rt, options.format, reports.as_slice())
+}
+
+fn suites_of(rt: &HostRuntime, files: &[&str]) -> Result<Vec<Tests>, Stopped> {
     let mut suites = Vec::new(rt.alloc());
-    for file in options.files.as_slice() {
+    for file in files {
         suites.push(tests_of(rt, file)?)?;
     }
-    let mut reports = Vec::new(rt.alloc());
-    for (file, tests) in options
-        .files
-        .as_slice()
-        .iter()
-        .zip(suites.as_slice().iter())
-    {
-        run_file(rt, &machine, file, tests, &mut reports)?;
+    Ok(suites)
+}
+
+fn run_suites(
+    rt: &HostRuntime,
+    machine: &Machine,
+    files: &[&str],
+    suites: &[Tests],
+    reports: &mut Vec<Report>,
+) -> Result<(), Stopped> {
+    for (file, tests) in files.iter().zip(suites.iter()) {
+        run_file(rt, machine, file, tests, reports)?;
     }
-    print(rt, options.format, reports.as_slice())
+    Ok(())
 }
 
 fn run_file(
@@ -51,19 +67,33 @@ fn run_file(
         line: tests.rcfile().line,
         home,
     };
-    let rcfile = tests.rcfile().name.as_slice();
-    let _ = bytes_of(rt, place, rcfile)?;
-    let Ok(name) = std::str::from_utf8(rcfile) else {
-        return Err(unread(rt, place, rcfile)?);
-    };
-    let rcfile = path_of(rt.alloc(), place, name)?;
-    for test in tests.tests() {
+    let rcfile = rcfile_of(rt, place, tests.rcfile().name.as_slice())?;
+    run_tests(rt, machine, place, rcfile.as_str(), tests.tests(), reports)
+}
+
+// The rcfile's name, if it can be read.
+fn rcfile_of(rt: &HostRuntime, place: Place<'_>, name: &[u8]) -> Result<String, Stopped> {
+    let _ = bytes_of(rt, place, name)?;
+    match std::str::from_utf8(name) {
+        Ok(name) => Ok(path_of(rt.alloc(), place, name)?),
+        Err(_) => Err(unread(rt, place, name)?),
+    }
+}
+
+fn run_tests(
+    rt: &HostRuntime,
+    machine: &Machine,
+    place: Place<'_>,
+    rcfile: &str,
+    tests: &[Test],
+    reports: &mut Vec<Report>,
+) -> Result<(), Stopped> {
+    for test in tests {
         let place = Place {
-            file,
             line: test.line(),
-            home,
+            ..place
         };
-        reports.push(run_test(rt, machine, place, rcfile.as_str(), test)?)?;
+        reports.push(run_test(rt, machine, place, rcfile, test)?)?;
     }
     Ok(())
 }
