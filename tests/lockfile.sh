@@ -56,6 +56,13 @@ if strace -qq -o /dev/null -e inject="$sleeps:retval=0" true 2> /dev/null; then
     touch -d '10 minutes ago' a
     strace -qq -o calls -e trace="$sleeps" -e inject="$sleeps:retval=0" "$program" -l 60 a 2> /dev/null || status=$?
     [ "$(grep -o 'tv_sec=[0-9]*' calls)" = tv_sec=16 ] || fail "the sleep after a removal: $(cat calls)"
+    # With -r -1 it gives up after 1,000,000 tries.
+    if strace -f --seccomp-bpf -qq -o /dev/null true 2> /dev/null; then
+        strace -f --seccomp-bpf -qq -c -o calls -e trace="$sleeps" -e inject="$sleeps:retval=0" "$program" -r -1 a \
+            2> /dev/null || status=$?
+        [ "$status" -eq 73 ] && [ "$(awk '/nanosleep$/ { print $4 }' calls)" = 999999 ] ||
+            fail "the sleeps of -r -1: status $status: $(cat calls)"
+    fi
     rm calls
 else
     echo "$name: no strace here, or it may not trace: the sleeps: skipped"
