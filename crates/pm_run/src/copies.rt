@@ -13,6 +13,8 @@ use crate::queue::Copy;
 use pm_bytes::{Memory, Name};
 use pm_journal::HeldLocks;
 use pm_meaning::{Chain, Process, Stored, new_chain};
+use pm_message::Mail;
+use pm_vars::Vars;
 use std::alloc::Global;
 use std::collections::VecDeque;
 
@@ -104,30 +106,77 @@ fn copy_process(alloc: Global, process: &Process) -> Result<Process, Memory>
     ensures mind { IfOk result (λ copy. mind_of copy ≡ begun_block (copied (mind_of process.now))) }
     ensures free { IfOk result (λ copy. copy.locks.names ≡ []) }
 {
-    let message = process.message.copy(alloc)?;
-    let vars = process.vars.copy(alloc)?;
+    let places = copy_places(alloc, process)?;
+    match copy_contents(alloc, process) {
+        Ok((message, vars)) => Ok(Process {
+            filter: process.filter,
+            fails_softly: process.fails_softly,
+            message,
+            vars,
+            base: places.base,
+            host_name: places.host_name,
+            locks: HeldLocks::new(alloc),
+            global: None,
+            chain: new_chain(),
+            placed: process.placed,
+            rcfile: places.rcfile,
+            openings: process.openings,
+            is_clone: true,
+            later: places.later,
+            stored: places.stored,
+        }),
+        // A call drops it, whose proof is kept: at the end of a block each field's drop is proved anew.
+        Err(Memory) => {
+            drop(places);
+            Err(Memory)
+        }
+    }
+}
+
+// The names in a process, and where its mail was last delivered to.
+#[derive(Drop)]
+struct Places {
+    base: Name,
+    host_name: Name,
+    rcfile: Name,
+    later: VecDeque<Name>,
+    stored: Stored,
+}
+
+fn copy_places(alloc: Global, process: &Process) -> Result<Places, Memory>
+    ensures base { IfOk result (λ copy. copy.base ≡ process.now.base) }
+    ensures host { IfOk result (λ copy. copy.host_name ≡ process.now.host_name) }
+    ensures rcfile { IfOk result (λ copy. copy.rcfile ≡ process.now.rcfile) }
+    ensures later { IfOk result (λ copy. copy.later.items ≡ process.now.later.items) }
+    ensures stored { IfOk result (λ copy. copy.stored ≡ process.now.stored) }
+{
     let base = process.base.copy(alloc)?;
     let host_name = process.host_name.copy(alloc)?;
     let rcfile = process.rcfile.copy(alloc)?;
     let later = copy_names(alloc, &process.later)?;
     let stored = copy_stored(alloc, &process.stored)?;
-    Ok(Process {
-        filter: process.filter,
-        fails_softly: process.fails_softly,
-        message,
-        vars,
+    Ok(Places {
         base,
         host_name,
-        locks: HeldLocks::new(alloc),
-        global: None,
-        chain: new_chain(),
-        placed: process.placed,
         rcfile,
-        openings: process.openings,
-        is_clone: true,
         later,
         stored,
     })
+}
+
+// The mail and the variables.
+fn copy_contents(alloc: Global, process: &Process) -> Result<(Mail, Vars), Memory>
+    ensures mail { IfOk result (λ copy. copy.0 ≡ process.now.message) }
+    ensures vars { IfOk result (λ copy. copy.1 ≡ process.now.vars) }
+{
+    let vars = process.vars.copy(alloc)?;
+    match process.message.copy(alloc) {
+        Ok(message) => Ok((message, vars)),
+        Err(Memory) => {
+            drop(vars);
+            Err(Memory)
+        }
+    }
 }
 
 // The names, in order.

@@ -1,5 +1,5 @@
 //! The variables with which a process begins (procmailrc(5), "Environment variables assignments").
-ghost use Rattle.std.specs.Prelude.{◌≡◌, ◌++◌, [], false, nat_le, IfOk, option_copied};
+ghost use Rattle.std.specs.Prelude.{◌≡◌, ◌++◌, [], false, nat_le, pos, IfOk, option_copied};
 ghost use Rattle.std.specs.List.{list_all};
 ghost use Rattle.pm_bytes.specs.Name.{has_zero};
 ghost use Rattle.pm_vars.specs.Variables.{with_value};
@@ -28,29 +28,55 @@ pub fn begin(
         ≡ first_process line.now.filter line.now.fails_softly line.now.arguments env.now message) }
     ensures locks { IfOk result (λ process. process.locks.names ≡ []) }
 {
-    let filter = line.filter;
-    let vars = first_vars(alloc, line, env)?;
-    let base = start_base(alloc, filter, env)?;
+    match first_of(alloc, line, env) {
+        Ok(first) => Ok(Process {
+            filter: line.filter,
+            fails_softly: line.fails_softly,
+            message,
+            vars: first.vars,
+            base: first.base,
+            host_name: first.host_name,
+            locks: HeldLocks::new(alloc),
+            global: None,
+            chain: new_chain(),
+            placed: 0,
+            rcfile: Name::from_text(String::new(alloc)),
+            openings: 0,
+            is_clone: false,
+            later: VecDeque::new(alloc),
+            stored: Stored {
+                folder: Blob::empty(alloc),
+                size: 0,
+            },
+        }),
+        Err(Memory) => {
+            drop(message);
+            Err(Memory)
+        }
+    }
+}
+
+// What a process begins with besides its mail.
+#[derive(Drop)]
+struct First {
+    vars: Vars,
+    base: Name,
+    host_name: Name,
+}
+
+fn first_of(alloc: Global, line: &CommandLine, env: &Environ) -> Result<First, Memory>
+    ensures vars { IfOk result (λ first. first.vars
+        ≡ first_table line.now.filter line.now.arguments env.now) }
+    ensures base { IfOk result (λ first. first.base ≡ first_folder line.now.filter env.now) }
+    ensures host { IfOk result (λ first. first.host_name ≡ env.now.host_name) }
+{
+    let base = start_base(alloc, line.filter, env)?;
     let host_name = env.host_name.copy(alloc)?;
-    Ok(Process {
-        filter,
-        fails_softly: line.fails_softly,
-        message,
+    let vars = first_vars(alloc, line, env)?;
+    Ok(First {
         vars,
         base,
         host_name,
-        locks: HeldLocks::new(alloc),
-        global: None,
-        chain: new_chain(),
-        placed: 0,
-        rcfile: Name::from_text(String::new(alloc)),
-        openings: 0,
-        is_clone: false,
-        later: VecDeque::new(alloc),
-        stored: Stored {
-            folder: Blob::empty(alloc),
-            size: 0,
-        },
     })
 }
 
@@ -58,16 +84,32 @@ pub fn begin(
 fn first_vars(alloc: Global, line: &CommandLine, env: &Environ) -> Result<Vars, Memory>
     ensures { IfOk result (λ vars. vars ≡ first_table line.now.filter line.now.arguments env.now) }
 {
-    let filter = line.filter;
     let mut vars = Vars::new(alloc, env.pid);
-    add_arguments(alloc, &mut vars, &line.arguments)?;
-    set_user(alloc, &mut vars, env)?;
-    set_time_zone(alloc, &mut vars, env)?;
-    set_place(alloc, &mut vars, filter, env)?;
-    set_mailbox(alloc, &mut vars, filter, env)?;
-    set_programs(alloc, &mut vars)?;
-    set_files(alloc, &mut vars)?;
-    Ok(vars)
+    match fill(alloc, &mut vars, line, env) {
+        Ok(()) => Ok(vars),
+        Err(Memory) => {
+            drop(vars);
+            Err(Memory)
+        }
+    }
+}
+
+// The arguments and the variables go into the table of a process that begins.
+fn fill(alloc: Global, vars: &mut Vars, line: &CommandLine, env: &Environ) -> Result<(), Memory>
+    requires empty { vars.old ≡ record {
+      variables = [];
+      arguments = [];
+      marks = record { pid = env.now.pid; code = 0; score = pos 0; rcfile = [] };
+    } }
+    ensures { IfOk result (λ _. vars.new ≡ first_table line.now.filter line.now.arguments env.now) }
+{
+    add_arguments(alloc, vars, &line.arguments)?;
+    set_user(alloc, vars, env)?;
+    set_time_zone(alloc, vars, env)?;
+    set_place(alloc, vars, line.filter, env)?;
+    set_mailbox(alloc, vars, line.filter, env)?;
+    set_programs(alloc, vars)?;
+    set_files(alloc, vars)
 }
 
 fn add_arguments(alloc: Global, vars: &mut Vars, arguments: &Names) -> Result<(), Memory>

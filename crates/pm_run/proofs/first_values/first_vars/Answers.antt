@@ -1,7 +1,0 @@
-use Rattle.pm_run.proofs.FirstValueLemmas.{table_filled}
-use Rattle.pm_run.proofs.first_values.first_vars.Goals as goal
-
-pub returns : goal.returns
-returns c =
-    table_filled c.args.line.now.filter c.args.line.now.arguments c.args.env.now _ _ _ _ _ _ _ _ c.new-vars.ensures c.in_ok-add_arguments.ensures c.in_ok-set_user.ensures
-    c.in_ok-set_time_zone.ensures c.in_ok-set_place.ensures c.in_ok-set_mailbox.ensures c.in_ok-set_programs.ensures c.in_ok-set_files.ensures
