@@ -15,12 +15,22 @@ use pm_bytes::{Blob, Memory};
 use pm_journal::Effects;
 use pm_meaning::{Process, Run, log_name, tell_in};
 use std::alloc::Global;
+use std::mem;
 
 /// How many bytes a draft has room for after the mail's part: twice the longest name of a file, and the other words.
 const ROOM: usize = 8_300;
 
-/// The draft for the next delivery, where its abstract will be logged.
-pub fn draft_for(alloc: Global, process: &Process) -> Result<Option<Draft>, Memory>
+/// The draft for the next delivery takes the place of the last one, which is dropped.
+pub fn renew(alloc: Global, process: &Process, draft: &mut Option<Draft>) -> Result<(), Memory>
+    ensures { IfOk result (λ _. IsDrafted draft.new (mind_of process.now)) }
+{
+    let next = draft_for(alloc, process)?;
+    drop(mem::replace(draft, next));
+    Ok(())
+}
+
+// The draft for the next delivery, where its abstract will be logged.
+fn draft_for(alloc: Global, process: &Process) -> Result<Option<Draft>, Memory>
     ensures { IfOk result (λ draft. IsDrafted draft (mind_of process.now)) }
 {
     if !logs_last(process) {
@@ -37,11 +47,11 @@ fn draft_of(alloc: Global, process: &Process) -> Result<Draft, Memory>
     ensures room { IfOk result (λ draft. 8300 ≤ vec_capacity draft.text - vec_len draft.text) }
 {
     let parts = process.message.parts();
-    let head = parts.head.copy(alloc)?;
     let text = mail_part(alloc, parts, ROOM)?;
-    let logfile = Blob::from_slice(alloc, value(&process.vars, b"LOGFILE"))?;
     let base = process.base.copy(alloc)?;
     let file = log_name(alloc, process)?;
+    let logfile = Blob::from_slice(alloc, value(&process.vars, b"LOGFILE"))?;
+    let head = parts.head.copy(alloc)?;
     Ok(Draft {
         head,
         text,
@@ -67,7 +77,15 @@ pub fn tell_draft<D: Effects>(run: &mut Run<D>, draft: Draft) -> Result<(), Memo
         run.old.journal run.new.journal (D.told run.old.outside) (D.told run.new.outside) }
     ensures same { run.new.process ≡ run.old.process }
 {
-    let Draft { mut text, file, .. } = draft;
+    let Draft {
+        head,
+        mut text,
+        value,
+        file,
+        ..
+    } = draft;
+    drop(head);
+    drop(value);
     push_folder(&run.process.stored, &mut text)?;
     tell_in(run, file, Blob::from_vec(text))
 }

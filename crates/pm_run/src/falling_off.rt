@@ -15,7 +15,7 @@ ghost use Rattle.pm_run.specs.Drafts.{IsDrafted};
 ghost use Rattle.pm_run.specs.Stretches.{Walks};
 
 use crate::draft::Draft;
-use crate::drafting::draft_for;
+use crate::drafting::renew;
 use pm_actions::deliver_default;
 use pm_bytes::{Blob, Memory};
 use pm_journal::{Effects, no_delivery};
@@ -87,7 +87,7 @@ fn try_each<D: Effects>(
         run.old.journal run.new.journal (D.told run.old.outside) (D.told run.new.outside) }
 {
     while let Some(mailbox) = mailboxes.pop_front() {
-        let acted = try_mailbox(alloc, run, &mailbox, draft)?;
+        let acted = try_mailbox(alloc, run, mailbox, draft)?;
         if is_delivered(acted) {
             return Ok(End::Delivered);
         }
@@ -99,17 +99,17 @@ fn try_each<D: Effects>(
 fn try_mailbox<D: Effects>(
     alloc: Global,
     run: &mut Run<D>,
-    mailbox: &Blob,
+    mailbox: Blob,
     draft: &mut Option<Draft>,
 ) -> Result<Acted, Memory>
-    ensures carries { Carries (Delivering.deliver_default mailbox.now (mind_of run.old.process))
+    ensures carries { Carries (Delivering.deliver_default mailbox (mind_of run.old.process))
         (λ acted. acted_with acted (mind_of run.new.process)) result
         run.old.journal run.new.journal (D.told run.old.outside) (D.told run.new.outside) }
     ensures sure { OnErr result (Undelivered no_flags run.old.journal run.new.journal) }
     ensures drafted { IfOk result (λ _. IsDrafted draft.new (mind_of run.old.process)) }
 {
-    *draft = draft_for(alloc, &run.process)?;
-    deliver_default(alloc, run, mailbox)
+    renew(alloc, &run.process, draft)?;
+    deliver_default(alloc, run, &mailbox)
 }
 
 // Whether the mail was delivered.

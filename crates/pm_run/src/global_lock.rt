@@ -90,10 +90,11 @@ fn give_held<D: Effects>(alloc: Global, run: &mut Run<D>, name: &Name) -> Result
         &mut run.journal,
     );
     run.process.global = None;
-    if is_stuck(removed) {
-        let line = couldnt_unlock(alloc, name)?;
-        tell(alloc, run, line)?;
+    if !is_stuck(removed) {
+        return Ok(());
     }
+    let line = couldnt_unlock(alloc, name)?;
+    tell(alloc, run, line)?;
     Ok(())
 }
 
@@ -158,10 +159,11 @@ fn tell_forced<D: Effects>(
         run.old.journal run.new.journal (D.told run.old.outside) (D.told run.new.outside) }
     ensures same { run.new.process ≡ run.old.process }
 {
-    if forced > 0 {
-        let line = forcing_lock(alloc, name)?;
-        tell(alloc, run, line)?;
+    if forced == 0 {
+        return Ok(None);
     }
+    let line = forcing_lock(alloc, name)?;
+    tell(alloc, run, line)?;
     Ok(None)
 }
 

@@ -17,7 +17,7 @@ ghost use Rattle.pm_run.specs.Drafts.{IsDrafted};
 ghost use Rattle.pm_run.specs.RunningOut.{LeavesUndelivered, OfNew};
 
 use crate::draft::Draft;
-use crate::drafting::draft_for;
+use crate::drafting::renew;
 use pm_actions::perform;
 use pm_bytes::Memory;
 use pm_conds::{Observer, conditions_hold};
@@ -119,7 +119,7 @@ fn act<D: Effects>(
     ensures sure { OnErr result (Undelivered recipe.now.flags run.old.journal run.new.journal) }
     ensures drafted { IfOk result (λ _. IsDrafted draft.new (mind_of run.old.process)) }
 {
-    *draft = draft_for(alloc, &run.process)?;
+    renew(alloc, &run.process, draft)?;
     let acted = perform(alloc, run, recipe)?;
     Ok(end_after(acted))
 }

@@ -135,9 +135,10 @@ fn give_held<D: Effects>(alloc: Global, run: &mut Run<D>, name: &Name) -> Result
         &mut run.outside,
         &mut run.journal,
     );
-    if is_stuck(removed) {
-        let line = couldnt_unlock(alloc, name)?;
-        tell(alloc, run, line)?;
+    if !is_stuck(removed) {
+        return Ok(());
     }
+    let line = couldnt_unlock(alloc, name)?;
+    tell(alloc, run, line)?;
     Ok(())
 }

@@ -26,16 +26,8 @@ returns-then-is_delivered g c = record {
       (mailbox_ends start c.loop-mailbox.mailboxes.items c.pop_front.new.self.items c.in-Some.mailbox (mind_of c.loop-mailbox.run.process) (mind_of c.try_mailbox.new.run.process) c.in_ok-acted.acted c.args.run.now.journal c.loop-mailbox.run.journal c.try_mailbox.new.run.journal _ _ _ c.in-Some.ensures.items c.loop-mailbox.invariant.reaches (sym c.is_delivered.ensures ∙ c.if-is_delivered.true) c.in_ok-acted.ensures.carries.0, tt));
 }
 
--- twice, since a mailbox that is dropped may have other owners
 pub loop-mailbox-preserved : goal.loop-mailbox-preserved
 loop-mailbox-preserved g c =
-    let start = FallingOff c.args.mailboxes.items (mind_of c.args.run.now.process) in
-    record {
-      reaches = mailbox_on start c.loop-mailbox.mailboxes.items c.pop_front.new.self.items c.in-Some.mailbox (mind_of c.loop-mailbox.run.process) (mind_of c.try_mailbox.new.run.process) c.in_ok-acted.acted c.args.run.now.journal c.loop-mailbox.run.journal c.try_mailbox.new.run.journal _ _ _ c.in-Some.ensures.items c.loop-mailbox.invariant.reaches (sym c.is_delivered.ensures ∙ c.if-is_delivered.false) c.in_ok-acted.ensures.carries.0;
-    }
-
-pub loop-mailbox-preserved-else-is_delivered : goal.loop-mailbox-preserved-else-is_delivered
-loop-mailbox-preserved-else-is_delivered g c =
     let start = FallingOff c.args.mailboxes.items (mind_of c.args.run.now.process) in
     record {
       reaches = mailbox_on start c.loop-mailbox.mailboxes.items c.pop_front.new.self.items c.in-Some.mailbox (mind_of c.loop-mailbox.run.process) (mind_of c.try_mailbox.new.run.process) c.in_ok-acted.acted c.args.run.now.journal c.loop-mailbox.run.journal c.try_mailbox.new.run.journal _ _ _ c.in-Some.ensures.items c.loop-mailbox.invariant.reaches (sym c.is_delivered.ensures ∙ c.if-is_delivered.false) c.in_ok-acted.ensures.carries.0;

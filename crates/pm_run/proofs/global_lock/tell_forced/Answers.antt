@@ -17,14 +17,14 @@ returns-in_err-tell-clause-carries g c =
     let e : nat_lt 0 c.args.forced ≡ true = search rules in
     (search rules, on_err _ _ (then_out (nat_lt 0 c.args.forced) (say_then p (forcing_lock_line c.args.name.now) (GoesOn p)) (Ends (GoesOn p)) _ _ _ _ e (line_out p (forcing_lock_line c.args.name.now) _ (GoesOn p) _ _ _ _ c.in_ok-line.ensures c.in_err-tell.ensures.carries.1)))
 
-pub returns-else-forced-gt0-clause-carries : goal.returns-else-forced-gt0-clause-carries
-returns-else-forced-gt0-clause-carries g c =
+pub returns-then-forced-eq0-clause-carries : goal.returns-then-forced-eq0-clause-carries
+returns-then-forced-eq0-clause-carries g c =
     let p = mind_of c.args.run.now.process in
     let e : nat_lt 0 c.args.forced ≡ false = search rules in
     (choose_else (nat_lt 0 c.args.forced) (say_then p (forcing_lock_line c.args.name.now) (GoesOn p)) (Ends (GoesOn p)) (GoesOn p) _ _ _ _ e (executes_nothing (GoesOn p) _ _ _ refl), tt)
 
-pub returns-in_ok-tell-clause-carries : goal.returns-in_ok-tell-clause-carries
-returns-in_ok-tell-clause-carries g c =
+pub returns-clause-carries : goal.returns-clause-carries
+returns-clause-carries g c =
     let p = mind_of c.args.run.now.process in
     let e : nat_lt 0 c.args.forced ≡ true = search rules in
     rw c.tell.ensures.same (choose_then (nat_lt 0 c.args.forced) (say_then p (forcing_lock_line c.args.name.now) (GoesOn p)) (Ends (GoesOn p)) (GoesOn p) _ _ _ _ e (line_told p (forcing_lock_line c.args.name.now) _ (GoesOn p) _ _ _ _ c.in_ok-line.ensures c.in_ok-tell.ensures.carries.0), tt)

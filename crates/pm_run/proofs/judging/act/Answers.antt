@@ -5,11 +5,11 @@ use Rattle.pm_run.proofs.JudgeLemmas.{acted_executes, acted_out}
 use Rattle.pm_run.proofs.MayLemmas.{none_delivered}
 use Rattle.pm_run.proofs.judging.act.Goals as goal
 
-pub returns-in_err-draft-clause-carries : goal.returns-in_err-draft-clause-carries
-returns-in_err-draft-clause-carries g c = (search rules, on_err _ _ (out_anywhere _ _ _ _ refl))
+pub returns-in_err-renew-clause-carries : goal.returns-in_err-renew-clause-carries
+returns-in_err-renew-clause-carries g c = (search rules, on_err _ _ (out_anywhere _ _ _ _ refl))
 
-pub returns-in_err-draft-clause-sure : goal.returns-in_err-draft-clause-sure
-returns-in_err-draft-clause-sure g c = on_err _ _ (none_delivered c.args.recipe.now.flags _)
+pub returns-in_err-renew-clause-sure : goal.returns-in_err-renew-clause-sure
+returns-in_err-renew-clause-sure g c = on_err _ _ (none_delivered c.args.recipe.now.flags _)
 
 pub returns-in_err-acted-clause-carries : goal.returns-in_err-acted-clause-carries
 returns-in_err-acted-clause-carries g c = (search rules, on_err _ _ (acted_out _ _ _ _ _ c.in_err-acted.ensures.carries.1))
