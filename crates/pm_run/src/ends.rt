@@ -68,6 +68,7 @@ fn tell_delivery<D: Effects>(
     ensures same { run.new.process ≡ run.old.process }
 {
     if !is_told(end, &run.process) {
+        drop(draft);
         return Ok(());
     }
     tell_abstract(alloc, run, draft)
@@ -87,6 +88,7 @@ fn tell_abstract<D: Effects>(
         if is_for(&draft, &run.process) {
             return tell_draft(run, draft);
         }
+        drop(draft);
     }
     let text = abstract_of(alloc, &run.process)?;
     tell(alloc, run, text)

@@ -148,12 +148,10 @@ fn run_all<D: Effects, N: Observer>(mut outside: D, start: Start<'_, N>) -> (D, 
         mut outside,
     } = run;
     give_all(&mut process.locks, &mut outside, &mut journal);
+    let counts = counts_of(&process);
+    drop(process);
     match ended {
-        Ok(first) => {
-            let counts = counts_of(&process);
-            drop(process);
-            run_copies(alloc, first, counts, queue, outside, journal, observer)
-        }
+        Ok(first) => run_copies(alloc, first, counts, queue, outside, journal, observer),
         Err(Memory) => (
             outside,
             Ran {
@@ -192,7 +190,9 @@ fn run_first<D: Effects, N: Observer>(
     match begin_rcfiles(alloc, run, line, env)? {
         Opened::Read(code) => {
             let mut frame = begin_frame(alloc, code);
-            run_to_end(alloc, run, &mut frame, queue, observer)
+            let ended = run_to_end(alloc, run, &mut frame, queue, observer);
+            drop(frame);
+            ended
         }
         Opened::Ended(end) => close(alloc, run, end, None),
         Opened::Nothing => close_without(alloc, run),
@@ -206,8 +206,13 @@ fn close_without<D: Effects>(alloc: Global, run: &mut Run<D>) -> Result<Ending, 
         run.old.journal run.new.journal (D.told run.old.outside) (D.told run.new.outside) }
 {
     let mut draft = None;
-    let end = fall_off(alloc, run, &mut draft)?;
-    close(alloc, run, end, draft)
+    match fall_off(alloc, run, &mut draft) {
+        Ok(end) => close(alloc, run, end, draft),
+        Err(Memory) => {
+            drop(draft);
+            Err(Memory)
+        }
+    }
 }
 
 // A process, from what is left of its rcfiles to its end.
@@ -224,9 +229,18 @@ fn run_to_end<D: Effects, N: Observer>(
     ensures few { copies_left queue.new ≤ copies_left queue.old }
 {
     let mut draft = None;
-    match run_frame(alloc, run, frame, queue, &mut draft, observer)? {
-        Some(end) => close(alloc, run, end, draft),
-        None => close_without(alloc, run),
+    match run_frame(alloc, run, frame, queue, &mut draft, observer) {
+        Ok(ended) => match ended {
+            Some(end) => close(alloc, run, end, draft),
+            None => {
+                drop(draft);
+                close_without(alloc, run)
+            }
+        },
+        Err(Memory) => {
+            drop(draft);
+            Err(Memory)
+        }
     }
 }
 
@@ -269,6 +283,9 @@ fn run_copies<D: Effects, N: Observer>(
         journal = noted;
         outside = lent;
         give_all(&mut over.locks, &mut outside, &mut journal);
+        counted = counts_of(&over);
+        drop(over);
+        drop(frame);
         match ended {
             Ok(_) => {}
             Err(Memory) => {
@@ -281,7 +298,6 @@ fn run_copies<D: Effects, N: Observer>(
                 );
             }
         }
-        counted = counts_of(&over);
     }
     (
         outside,

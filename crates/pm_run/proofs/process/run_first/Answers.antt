@@ -24,7 +24,7 @@ returns-in-Read-clause-proceeds g c =
     let line = c.args.line.now in
     let start = Setting line.values line (home_by line.values (home_folder c.args.env.now)) (mind_of c.args.run.now.process) in
     let queue = c.args.queue.now in
-    let later = c.run_to_end.new.queue in
+    let later = c.run_to_end-ended.new.queue in
     let opens = rw c.in-Read.is at c.in_ok-code.ensures.opens in
     let p = mind_of c.begin_rcfiles.new.run.process in
     let left = Running (items_of c.begin_frame-frame.result) p in
@@ -33,8 +33,8 @@ returns-in-Read-clause-proceeds g c =
     subst (λ l. Reaches {X = Event} step start (Running l p) c.args.run.now.journal c.begin_rcfiles.new.run.journal (g.D.Asks.told c.args.run.now.outside) (g.D.Asks.told c.begin_rcfiles.new.run.outside)) (sym items) opens.reaches in
     let runs = lifted queue start left c.args.run.now.journal c.begin_rcfiles.new.run.journal (g.D.Asks.told c.args.run.now.outside) (g.D.Asks.told c.begin_rcfiles.new.run.outside) reaches in
     λ first. (
-      ok_map c.run_to_end.result _ _ (λ ending h. reaches_on advance (now_at (others_of queue first) start) (now_at (others_of queue first) left) (now_at (others_of later first) (Closing ending (mind_of c.run_to_end.new.run.process))) c.args.run.now.journal c.begin_rcfiles.new.run.journal c.run_to_end.new.run.journal _ _ _ (runs first) h) (c.run_to_end.ensures.proceeds first).0,
-      err_map c.run_to_end.result _ _ (λ h. ran_out_reached advance RunMayRunOut (now_at (others_of queue first) start) (now_at (others_of queue first) left) c.args.run.now.journal c.begin_rcfiles.new.run.journal c.run_to_end.new.run.journal _ _ _ (runs first) h) (c.run_to_end.ensures.proceeds first).1,
+      ok_map c.run_to_end-ended.result _ _ (λ ending h. reaches_on advance (now_at (others_of queue first) start) (now_at (others_of queue first) left) (now_at (others_of later first) (Closing ending (mind_of c.run_to_end-ended.new.run.process))) c.args.run.now.journal c.begin_rcfiles.new.run.journal c.run_to_end-ended.new.run.journal _ _ _ (runs first) h) (c.run_to_end-ended.ensures.proceeds first).0,
+      err_map c.run_to_end-ended.result _ _ (λ h. ran_out_reached advance RunMayRunOut (now_at (others_of queue first) start) (now_at (others_of queue first) left) c.args.run.now.journal c.begin_rcfiles.new.run.journal c.run_to_end-ended.new.run.journal _ _ _ (runs first) h) (c.run_to_end-ended.ensures.proceeds first).1,
     )
 
 pub returns-in-Ended-clause-proceeds : goal.returns-in-Ended-clause-proceeds
