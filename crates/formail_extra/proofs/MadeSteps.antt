@@ -1,5 +1,5 @@
 -- A step that was made doesn't end with want of memory.
-use Rattle.std.proofs.Common.{◌≡◌, ℕ, Bool, List, [], Option, sym, subst}
+use Rattle.std.proofs.Common.{ℕ, Bool, List, [], Option, sym, subst}
 use Rattle.std.specs.Prelude.{IfSome}
 use Rattle.pm_host.specs.Told.{HostView}
 use Rattle.pm_host.specs.declared.answers.Removed.{Removed}

@@ -9,7 +9,7 @@ space_for (Some id) = length id + 2
 
 -- the room is empty, and large enough for a cache of so many bytes with these identifiers, and for a mark of each mail
 pub record HasRoom (bytes : ℕ) (ids : List (Option (List ℕ))) (room : Room) : Type 0 where
-  pub no_cache : room.cache.items ≡ []
+  pub no_cache : room.known.bytes.items ≡ []
   pub no_marks : room.kept.items ≡ []
-  pub cache : bytes + sum_by space_for ids ≤ vec_capacity room.cache
+  pub cache : bytes + sum_by space_for ids ≤ vec_capacity room.known.bytes
   pub kept : length ids ≤ vec_capacity room.kept

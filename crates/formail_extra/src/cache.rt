@@ -2,12 +2,11 @@
 ghost use Rattle.std.specs.Prelude.{◌≡◌, ◌≤◌, ◌++◌, ◌+◌, length, take, vec_capacity};
 ghost use Rattle.std.specs.List.{list_any};
 ghost use Rattle.bstr.specs.Text.{lines_of};
-ghost use Rattle.formail_extra.specs.Cache.{is_line_of, is_seen, line_end_of, addition_to, is_kept};
+ghost use Rattle.formail_extra.specs.Cache.{is_line_of, is_seen, line_end_of, addition_to};
 
 use crate::reading::MOST;
 use crate::seen::unended;
 use bstr::ByteSlice;
-use pm_bytes::Blob;
 use std::marker::Model;
 
 /// Of some mails in their order, whether each is kept.
@@ -52,14 +51,15 @@ fn has_line(bytes: &[u8], id: &[u8]) -> bool
     bytes.lines_with_terminator().any(|line| is_entry(line, id))
 }
 
-// At most so many bytes of a text.
-fn front(text: &[u8], most: usize) -> &[u8]
+/// At most so many bytes of a text.
+pub fn front(text: &[u8], most: usize) -> &[u8]
     ensures { result.now ≡ take most text.now }
 {
     &text[..text.len().min(most)]
 }
 
-fn was_seen(bytes: &[u8], id: &[u8]) -> bool
+/// Whether an identifier is a whole line of what is looked through of a cache.
+pub fn was_seen(bytes: &[u8], id: &[u8]) -> bool
     ensures { result ≡ is_seen bytes.now id.now }
 {
     has_line(front(bytes, MOST), id)
@@ -74,8 +74,8 @@ fn put(bytes: &mut Vec<u8>, more: &[u8])
     let _ = bytes.extend_from_slice(more);
 }
 
-// What ends the last line of a cache.
-fn line_end(cache: &[u8]) -> &'static [u8]
+/// What ends the last line of a cache.
+pub fn line_end(cache: &[u8]) -> &'static [u8]
     ensures is { result.now ≡ line_end_of cache.now }
     ensures few { length result.now ≤ 1 }
 {
@@ -96,14 +96,4 @@ pub fn put_line(cache: &mut Vec<u8>, id: &[u8])
     put(cache, end);
     put(cache, id);
     put(cache, b"\n");
-}
-
-/// Whether a mail is kept whose identifier is held against the bytes of a cache (formail(1), option -D).
-pub fn keeps(cache: &[u8], id: &Option<Blob>) -> bool
-    ensures { result ≡ is_kept cache.now id.now }
-{
-    match id {
-        None => true,
-        Some(id) => !was_seen(cache, id.as_slice()),
-    }
 }

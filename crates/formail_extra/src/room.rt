@@ -2,13 +2,15 @@
 ghost use Rattle.std.specs.Prelude.{◌≡◌, ◌≤◌, ◌+◌, IfOk, IfSome, sum_by};
 ghost use Rattle.formail_extra.specs.Room.{space_for, HasRoom};
 
+use crate::known::Known;
+use crate::marks::Marks;
 use pm_bytes::{Blob, Memory};
 use std::alloc::Global;
 
-/// Room for the bytes of a cache, and for the marks of some mails.
+/// Room for the bytes of a cache with marks on identifiers, and for what is found of some mails.
 #[derive(Drop)]
 pub struct Room {
-    pub cache: Vec<u8>,
+    pub known: Known,
     pub kept: Vec<bool>,
 }
 
@@ -38,6 +40,8 @@ pub fn make_room(alloc: Global, bytes: usize, ids: &[Option<Blob>]) -> Result<Ro
 {
     let size = space_of(bytes, ids).ok_or(Memory)?;
     let cache = Vec::with_capacity(alloc, size)?;
+    let marks = Marks::of(alloc, ids)?;
     let kept = Vec::with_capacity(alloc, ids.len())?;
-    Ok(Room { cache, kept })
+    let known = Known::new(cache, marks);
+    Ok(Room { known, kept })
 }

@@ -82,11 +82,11 @@ fn remember<H: Host>(
     ensures child { (H.told host.new).child ≡ (H.told host.old).child }
 {
     let Room {
-        cache: mut bytes,
+        mut known,
         mut kept,
     } = room;
-    let _ = bytes.extend_from_slice(old);
-    let written = hold_all(host, cache, &mut bytes, &mut kept, ids);
+    known.fill(old);
+    let written = hold_all(host, cache, &mut known, &mut kept, ids);
     ended(written, Kept::from_vec(kept))
 }
 

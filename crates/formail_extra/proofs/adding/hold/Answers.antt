@@ -19,4 +19,4 @@ returns-clause-holds g c =
 pub returns-clause-bytes : goal.returns-clause-bytes
 returns-clause-bytes g c = λ done.
     rw c.in-Some.is ((rw c.as_slice.ensures at c.add_id.ensures.bytes done)
-    ∙ new_comes c.args.cache.now.most c.args.bytes.now.items c.in-Some.id (unseen_kept _ _ (rw c.in-Some.is at c.requires.keep) c.if-not-keep.false))
+    ∙ new_comes c.args.cache.now.most c.args.known.now.bytes.items c.in-Some.id (unseen_kept _ _ (rw c.in-Some.is at c.requires.keep) c.if-not-keep.false))

@@ -23,7 +23,7 @@ loop-id-preserved g c =
     ap (sum_by space_for) ids ∙ sum_by-cons space_for c.id-item.result (drop (c.loop-id.id-index + 1) c.args.ids.now) in
     record {
       holds = λ written after all. c.loop-id.invariant.holds written after (first_held _ _ _ _ _ _ _ _ _ _ _ _ ids c.hold.ensures.holds c.in-Done.is behind all);
-      kept = kept_more _ _ _ _ _ _ _ _ _ c.push_reserved.ensures.items (rw c.as_slice.ensures.value at c.keeps-keep.ensures) behind ids ∙ c.loop-id.invariant.kept;
+      kept = kept_more _ _ _ _ _ _ _ _ _ c.push_reserved.ensures.items c.keeps-keep.ensures behind ids ∙ c.loop-id.invariant.kept;
       space = omega (arith, sum, c.hold.ensures.few, c.hold.ensures.space, c.loop-id.invariant.space);
       places = omega (arith, c.push_reserved.ensures.len, c.push_reserved.ensures.capacity, c.loop-id-test.true, length-drop c.loop-id.id-index c.args.ids.now, length-drop (c.loop-id.id-index + 1) c.args.ids.now, c.loop-id.invariant.places);
       child = c.hold.ensures.child ∙ c.loop-id.invariant.child;
