@@ -35,8 +35,6 @@ bound() {
         held_locks) echo 2.1 ;;
         # The names in a folder are sorted.
         mh_folder) echo 1.3 ;;
-        # Each mail searches the whole cache of identifiers, which all mails before it are in.
-        formail_cache) echo 2.1 ;;
         *) echo 1.1 ;;
     esac
 }
