@@ -1,17 +1,16 @@
 //! Conditions of a recipe over a mail (pm_conds).
-ghost use Rattle.std.specs.Prelude.{◌≡◌, [], IfOk};
+ghost use Rattle.std.specs.Prelude.{◌≡◌, []};
 
 use crate::failed::Failed;
+use crate::minds::mind_with;
 use crate::report::Report;
 use crate::world::{NOTHING, make_host};
-use pm_bytes::{Blob, Name};
+use pm_bytes::Blob;
 use pm_conds::holds;
-use pm_journal::{HeldLocks, Journal};
-use pm_meaning::{Mind, new_chain};
+use pm_journal::Journal;
+use pm_meaning::Mind;
 use pm_memory::{MemoryHost, MemorySink};
-use pm_message::{Message, split};
 use pm_recipe::{Recipe, Statement, read_rc};
-use pm_vars::Vars;
 use std::alloc::Global;
 
 const LINES: &[u8] = b":0\n* -2^0\n* 1^1 B ?? ^.*$\nm\n";
@@ -103,28 +102,4 @@ fn judge_by(
     report.file("  MATCH", mind.vars.get(b"MATCH").map(Blob::as_slice));
     report.answer("  entries", journal.entries().len());
     report.bytes("  err", err.written());
-}
-
-// A process that has this mail, and no variables and no locks.
-fn mind_with(alloc: Global, mail: &[u8]) -> Result<Mind, Failed>
-    ensures { IfOk result (λ mind. mind.locks.names ≡ []) }
-{
-    let base = Name::read(alloc, b"/home/joe")?;
-    let message = split(alloc, mail)?;
-    Ok(mind_of(alloc, message, base))
-}
-
-fn mind_of(alloc: Global, message: Message, base: Name) -> Mind
-    ensures { result.locks.names ≡ [] }
-{
-    Mind {
-        vars: Vars::new(alloc, 4242),
-        message,
-        base,
-        chain: new_chain(),
-        locks: HeldLocks::new(alloc),
-        global: None,
-        rcfiles: Vec::new(alloc),
-        last: None,
-    }
 }

@@ -3,6 +3,7 @@
 //! prints is not stated.
 #![tactic(auto)]
 
+mod actions;
 mod appends;
 mod caches;
 mod conditions;
@@ -11,6 +12,7 @@ mod failed;
 mod locks;
 mod mailboxes;
 mod mails;
+mod minds;
 mod rcfiles;
 mod report;
 mod scores;
@@ -43,6 +45,7 @@ fn make_report(alloc: Global) -> Report {
     scores::show(&mut report);
     edits::show(alloc, &mut report);
     conditions::show(alloc, &mut report);
+    actions::show(alloc, &mut report);
     locks::show(alloc, &mut report);
     appends::show(alloc, &mut report);
     mailboxes::show(alloc, &mut report);

@@ -66,7 +66,7 @@ fn do_ready<H: Host, E: Sink>(ready: Ready, host: &mut H, err: &mut E) -> Ending
 // The same, after which the objects are the same ones.
 fn do_objects<'a, H: Host, E: Sink>(
     ready: Ready,
-    objects: &mut Objects<'a, H, Nowhere, E>,
+    objects: &mut Objects<'a, H, &'a mut Nowhere, E>,
 ) -> Ending
     requires { IsReadyFor (tasks_of ready.jobs.items) ready }
     ensures did { Did (tasks_of ready.jobs.items) result

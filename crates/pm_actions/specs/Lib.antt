@@ -1,9 +1,2 @@
-pub mod Names
-pub mod Copies
-pub mod Programs
-pub mod Placing
-pub mod Filing
-pub mod Errands
-pub mod AbstractParts
-pub mod Undelivered
-pub mod Examples
+pub mod Performing
+pub mod Works

@@ -4,6 +4,5 @@ pub mod SearchLemmas
 pub mod WeighLemmas
 pub mod ConditionLemmas
 mod NoteLemmas
-mod Beside
 mod QuietConditions
 mod HoldLemmas

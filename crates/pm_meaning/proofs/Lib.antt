@@ -31,3 +31,5 @@ mod TellLemmas
 pub mod SkipLemmas
 pub mod OutputLemmas
 mod ProgramLemmas
+pub mod Beside
+pub mod QuietLines

@@ -2,5 +2,7 @@
 #![tactic(auto)]
 
 pub mod objects;
+pub mod output;
 
 pub use objects::{Objects, lend};
+pub use output::{Output, Untouched};

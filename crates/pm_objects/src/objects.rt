@@ -9,6 +9,7 @@ ghost use Rattle.pm_journal.specs.Outcomes.{folder_end};
 ghost use Rattle.pm_folders.specs.Filing.{place_reply};
 ghost use Rattle.pm_pipe.specs.Replied.{AreReply};
 
+use crate::output::Output;
 use pm_append::{AppendEnd, ReadEnd, WriteEnd, append_by, append_whole, read_file, write_text};
 use pm_bytes::{Blob, Memory, Name};
 use pm_folders::{PlaceEnd, place};
@@ -20,11 +21,11 @@ use pm_locks::take_lock;
 use pm_pipe::{SinkFaults, run_noted};
 use std::alloc::Global;
 
-/// A host and the two sinks of a run.
+/// A host, what a run has for its standard output, and the sink for errors.
 #[derive(Drop)]
-pub struct Objects<'a, H: Host, O: Sink, E: Sink> {
+pub struct Objects<'a, H: Host, O: Output, E: Sink> {
     pub host: &'a mut H,
-    pub out: &'a mut O,
+    pub out: O,
     pub err: &'a mut E,
 }
 
@@ -33,7 +34,7 @@ pub fn lend<'a, H: Host, O: Sink, E: Sink>(
     host: &'a mut H,
     out: &'a mut O,
     err: &'a mut E,
-) -> Objects<'a, H, O, E>
+) -> Objects<'a, H, &'a mut O, E>
     ensures host { (result.host.ghost_name ≡ host.entry.ghost_name) × (result.host.now ≡ host.old) }
     ensures out { (result.out.ghost_name ≡ out.entry.ghost_name) × (result.out.now ≡ out.old) }
     ensures err { (result.err.ghost_name ≡ err.entry.ghost_name) × (result.err.now ≡ err.old) }
@@ -41,11 +42,11 @@ pub fn lend<'a, H: Host, O: Sink, E: Sink>(
     Objects { host, out, err }
 }
 
-impl<'a, H: Host, O: Sink, E: Sink> Objects<'a, H, O, E> {
+impl<'a, H: Host, O: Output, E: Sink> Objects<'a, H, O, E> {
     // The counts of faults at this moment.
     fn counts(&self) -> Counts
         ensures { result ≡ counts_of (view_of
-            (H.told self.now.host.now) (O.told self.now.out.now) (E.told self.now.err.now)) }
+            (H.told self.now.host.now) (O.told self.now.out) (E.told self.now.err.now)) }
     {
         Counts {
             host: self.host.faults(),
@@ -55,12 +56,12 @@ impl<'a, H: Host, O: Sink, E: Sink> Objects<'a, H, O, E> {
     }
 }
 
-impl<'a, H: Host, O: Sink, E: Sink> Asks for Objects<'a, H, O, E> {
+impl<'a, H: Host, O: Output, E: Sink> Asks for Objects<'a, H, O, E> {
     ghost use Rattle.std.specs.Prelude.{[], ◌∷◌};
     ghost use Rattle.pm_journal.specs.Entries.{seen_by};
 
-    ghost told = { λ o. seen_by (o.host.ghost_name ∷ o.out.ghost_name ∷ o.err.ghost_name ∷ [])
-        (H.told o.host.now) (O.told o.out.now) (E.told o.err.now) };
+    ghost told = { λ o. seen_by (o.host.ghost_name ∷ O.held o.out ∷ o.err.ghost_name ∷ [])
+        (H.told o.host.now) (O.told o.out) (E.told o.err.now) };
 
     fn say(&mut self, journal: &mut Journal, to: Option<Name>, text: Blob) {
         let before = self.counts();
@@ -104,7 +105,7 @@ impl<'a, H: Host, O: Sink, E: Sink> Asks for Objects<'a, H, O, E> {
     }
 }
 
-impl<'a, H: Host, O: Sink, E: Sink> Effects for Objects<'a, H, O, E> {
+impl<'a, H: Host, O: Output, E: Sink> Effects for Objects<'a, H, O, E> {
     fn append(&mut self, journal: &mut Journal, name: Name, piece: Blob) -> AppendEnd {
         let before = self.counts();
         let end = append_whole(&mut *self.host, &name, piece.as_slice());
@@ -161,7 +162,7 @@ impl<'a, H: Host, O: Sink, E: Sink> Effects for Objects<'a, H, O, E> {
 
     fn write_out(&mut self, journal: &mut Journal, piece: Blob) -> WriteEnd {
         let before = self.counts();
-        let end = write_text(&mut *self.out, piece.as_slice());
+        let end = self.out.write_text(piece.as_slice());
         let after = self.counts();
         journal.note(Entry {
             act: Act::WriteOut { piece },

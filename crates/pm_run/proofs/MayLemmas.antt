@@ -20,7 +20,7 @@ use Rattle.pm_meaning.specs.Locks.{is_fault}
 use Rattle.pm_meaning.specs.Minds.{Mind}
 use Rattle.pm_meaning.specs.Running.{Running, Item, Do, BlockEnd, FileEnd}
 use Rattle.pm_meaning.specs.Turns.{Turn, GoesOn}
-use Rattle.pm_actions.specs.Undelivered.{hinders, any_hinders, Undelivered}
+use Rattle.pm_perform.specs.Undelivered.{hinders, any_hinders, Undelivered}
 use Rattle.pm_run.specs.RunningOut.{NoDelivery, conditions_of, AreJudged, LeavesUndelivered, MayRunOut, OfNew, HinderedSince}
 use Rattle.pm_run.specs.Walk.{StatementMay}
 

@@ -7,7 +7,7 @@ use Rattle.pm_journal.specs.declared.acts.Entry.{Entry}
 use Rattle.pm_meaning.specs.Courses.{Course}
 use Rattle.pm_meaning.specs.Minds.{Mind}
 use Rattle.pm_meaning.specs.Running.{State, Running, FallingOff, Leaving, Over, Trapping, Unlocking, Closing, Item, Do, BlockEnd, FileEnd}
-use Rattle.pm_actions.specs.Undelivered.{any_hinders, hinders}
+use Rattle.pm_perform.specs.Undelivered.{any_hinders, hinders}
 use Rattle.pm_run.specs.NotDelivered.{asks_copy, has_ended, is_told, ActsWithout, StepsWithout, HasNotDelivered}
 use Rattle.pm_run.specs.RunningOut.{LeavesUndelivered, MayRunOut, RunMayRunOut}
 

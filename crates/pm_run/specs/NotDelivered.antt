@@ -8,7 +8,7 @@ use Rattle.pm_meaning.specs.Delivering.{no_flags}
 use Rattle.pm_meaning.specs.Ends.{is_delivered, is_trapped}
 use Rattle.pm_meaning.specs.Minds.{Mind}
 use Rattle.pm_meaning.specs.Running.{State, Running, FallingOff, Leaving, Over, Trapping, Unlocking, Closing, Do}
-use Rattle.pm_actions.specs.Undelivered.{any_delivers, any_hinders}
+use Rattle.pm_perform.specs.Undelivered.{any_delivers, any_hinders}
 use Rattle.pm_run.specs.RunningOut.{AreJudged}
 
 -- the process stands at a recipe that asks for a copy

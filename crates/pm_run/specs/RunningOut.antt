@@ -19,7 +19,7 @@ use Rattle.pm_meaning.specs.Minds.{Mind}
 use Rattle.pm_meaning.specs.Running.{State, Running, FallingOff, Leaving, Over, Trapping, Unlocking, Closing, Do}
 use Rattle.pm_meaning.specs.Turns.{Turn, GoesOn}
 use Rattle.pm_meaning.specs.declared.ending.Ending.{Ending}
-use Rattle.pm_actions.specs.Undelivered.{any_delivers, any_hinders}
+use Rattle.pm_perform.specs.Undelivered.{any_delivers, any_hinders}
 
 -- where the flags ask for no copy these entries delivered nothing, unless one of them is a hindrance
 abbrev pub NoDelivery : Flags → List Entry → Type 0

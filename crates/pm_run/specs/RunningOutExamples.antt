@@ -11,7 +11,7 @@ use Rattle.pm_meaning.specs.Examples.{process, process_with, variable}
 use Rattle.pm_meaning.specs.Running.{State, Running, FallingOff, Leaving, Over, Trapping, Unlocking, Closing, Do}
 use Rattle.pm_meaning.specs.declared.ending.Ending.{Ending}
 use Rattle.pm_meaning.specs.declared.process.End.TheVariants.{Delivered, FellOff}
-use Rattle.pm_actions.specs.Examples.{append, command}
+use Rattle.pm_perform.specs.Examples.{append, command}
 use Rattle.pm_run.specs.RunningOut.{MayRunOut}
 
 -- an act with its reply, where no count of faults rose

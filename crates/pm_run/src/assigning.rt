@@ -15,13 +15,13 @@ ghost use Rattle.pm_run.specs.Turned.{turn_in};
 
 use crate::global_lock::{change_lock, drop_lock};
 use crate::turned::{Turned, turned_by};
-use pm_actions::refuse;
 use pm_bytes::{Blob, Memory, Name, full, read_count};
 use pm_host::Looked;
 use pm_journal::{Effects, couldnt_chdir, host_mismatched, probe, unusable_name};
 use pm_meaning::{
     End, Expansion, Process, Run, expand_text, file_name, first_word, outputs_of, skip_value, tell,
 };
+use pm_perform::refuse;
 use pm_subst::Mode;
 use std::alloc::Global;
 

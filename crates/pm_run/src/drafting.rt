@@ -3,17 +3,16 @@
 ghost use Rattle.std.specs.Prelude.{◌≡◌, ◌≤◌, ◌-◌, true, [], codes, IfOk, vec_capacity, vec_len};
 ghost use Rattle.pm_journal.specs.Executed.{Carries};
 ghost use Rattle.pm_meaning.specs.Abstracts.{abstract_of};
-ghost use Rattle.pm_meaning.specs.Locks.{value_or};
+ghost use Rattle.pm_meaning.specs.Locks;
 ghost use Rattle.pm_meaning.specs.Logging.{log, logged};
 ghost use Rattle.pm_meaning.specs.Minds.{mind_of};
 ghost use Rattle.pm_run.specs.Drafts.{IsDrafted, is_draft_for};
 
 use crate::draft::Draft;
-use crate::falling_off::value;
-use pm_actions::{logs_last, mail_part, push_folder};
 use pm_bytes::{Blob, Memory};
 use pm_journal::Effects;
-use pm_meaning::{Process, Run, log_name, tell_in};
+use pm_meaning::{Process, Run, log_name, tell_in, value_or};
+use pm_perform::{logs_last, mail_part, push_folder};
 use std::alloc::Global;
 use std::mem;
 
@@ -42,7 +41,7 @@ fn draft_for(alloc: Global, process: &Process) -> Result<Option<Draft>, Memory>
 
 fn draft_of(alloc: Global, process: &Process) -> Result<Draft, Memory>
     ensures head { IfOk result (λ draft. draft.head ≡ process.now.message.head) }
-    ensures value { IfOk result (λ draft. draft.value ≡ value_or [] (codes "LOGFILE") process.now.vars) }
+    ensures value { IfOk result (λ draft. draft.value ≡ Locks.value_or [] (codes "LOGFILE") process.now.vars) }
     ensures base { IfOk result (λ draft. draft.base ≡ process.now.base) }
     ensures room { IfOk result (λ draft. 8300 ≤ vec_capacity draft.text - vec_len draft.text) }
 {
@@ -50,7 +49,7 @@ fn draft_of(alloc: Global, process: &Process) -> Result<Draft, Memory>
     let text = mail_part(alloc, parts, ROOM)?;
     let base = process.base.copy(alloc)?;
     let file = log_name(alloc, process)?;
-    let logfile = Blob::from_slice(alloc, value(&process.vars, b"LOGFILE"))?;
+    let logfile = Blob::from_slice(alloc, value_or(b"", b"LOGFILE", &process.vars))?;
     let head = parts.head.copy(alloc)?;
     Ok(Draft {
         head,
@@ -66,7 +65,7 @@ pub fn is_for(draft: &Draft, process: &Process) -> bool
     ensures { result ≡ is_draft_for draft.now (mind_of process.now) }
 {
     draft.head.as_slice() == process.message.parts().head.as_slice()
-        && draft.value.as_slice() == value(&process.vars, b"LOGFILE")
+        && draft.value.as_slice() == value_or(b"", b"LOGFILE", &process.vars)
         && draft.base.as_str().as_bytes() == process.base.as_str().as_bytes()
 }
 

@@ -7,7 +7,7 @@ ghost use Rattle.pm_journal.specs.LogText.{unusable_name_line, value_too_long_li
 ghost use Rattle.pm_meaning.specs.Abstracts;
 ghost use Rattle.pm_meaning.specs.Changes.{overflowed};
 ghost use Rattle.pm_meaning.specs.Changes;
-ghost use Rattle.pm_meaning.specs.Locks.{value_or};
+ghost use Rattle.pm_meaning.specs.Locks;
 ghost use Rattle.pm_meaning.specs.Logging.{log, logged};
 ghost use Rattle.pm_meaning.specs.Minds.{mind_of};
 ghost use Rattle.pm_meaning.specs.Turns.{say_then};
@@ -23,17 +23,16 @@ ghost use Rattle.pm_run.specs.Stretches.{Walks};
 
 use crate::draft::Draft;
 use crate::drafting::{is_for, tell_draft};
-use crate::falling_off::value;
 use crate::global_lock::give_lock;
 use itoa::Buffer;
-use pm_actions::{abstract_of, logs_last};
 use pm_bytes::{Blob, Memory, read_count};
 use pm_host::Command;
 use pm_journal::{Effects, unusable_name, value_too_long};
 use pm_meaning::{
     End, Ending, Process, ProgramLine, Run, Status, code_of, note_code, read_line, status_of, tell,
-    tell_run,
+    tell_run, value_or,
 };
+use pm_perform::{abstract_of, logs_last};
 use std::alloc::Global;
 
 /// The process is over: the abstract of its delivery, of which there may be a draft, is logged, TRAP's program runs,
@@ -141,9 +140,9 @@ fn is_given(name: &[u8], process: &Process) -> bool
 
 // TRAP's value.
 fn value_copy(alloc: Global, process: &Process) -> Result<Blob, Memory>
-    ensures { IfOk result (λ text. text ≡ value_or [] (codes "TRAP") process.now.vars) }
+    ensures { IfOk result (λ text. text ≡ Locks.value_or [] (codes "TRAP") process.now.vars) }
 {
-    Blob::from_slice(alloc, value(&process.vars, b"TRAP"))
+    Blob::from_slice(alloc, value_or(b"", b"TRAP", &process.vars))
 }
 
 // An EXITCODE that isn't set gets the status so far, which TRAP's program finds there.
@@ -266,7 +265,7 @@ fn base_status(end: End, process: &Process) -> u8
 fn is_said_delivered(process: &Process) -> bool
     ensures { result ≡ says_delivered process.now.vars }
 {
-    value(&process.vars, b"DELIVERED") == b"yes".as_slice()
+    value_or(b"", b"DELIVERED", &process.vars) == b"yes".as_slice()
 }
 
 /// The exit status of a process, by the exit code of TRAP's program.
@@ -295,9 +294,9 @@ fn chosen_status(end: End, trapped: u8, process: &Process) -> u8
 
 // The number that EXITCODE writes, if it is one of 1 to 255.
 fn exit_code(process: &Process) -> Option<u8>
-    ensures { result ≡ code_written (value_or [] (codes "EXITCODE") process.now.vars) }
+    ensures { result ≡ code_written (Locks.value_or [] (codes "EXITCODE") process.now.vars) }
 {
-    code_by(value(&process.vars, b"EXITCODE"))
+    code_by(value_or(b"", b"EXITCODE", &process.vars))
 }
 
 fn code_by(text: &[u8]) -> Option<u8>

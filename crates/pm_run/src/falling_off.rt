@@ -1,26 +1,22 @@
 //! A process that no statement ended delivers to its default mailbox (procmail(1), "DESCRIPTION").
-ghost use Rattle.std.specs.Prelude.{◌≡◌, ◌++◌, IfOk, OnOk, OnErr, []};
+ghost use Rattle.std.specs.Prelude.{◌≡◌, IfOk, OnErr, []};
 ghost use Rattle.pm_journal.specs.Executed.{Carries};
 ghost use Rattle.pm_journal.specs.Walking.{Go};
-ghost use Rattle.pm_actions.specs.Undelivered.{Undelivered};
+ghost use Rattle.pm_perform.specs.Undelivered.{Undelivered};
 ghost use Rattle.pm_meaning.specs.Apart.{acted_with};
 ghost use Rattle.pm_meaning.specs.Delivering.{no_flags};
 ghost use Rattle.pm_meaning.specs.Delivering;
-ghost use Rattle.pm_meaning.specs.Locks.{value_or};
 ghost use Rattle.pm_meaning.specs.Minds.{mind_of};
-ghost use Rattle.pm_meaning.specs.Running.{Running, FallingOff, Over, step, unless_same};
-ghost use Rattle.pm_meaning.specs.Running.{default_mailboxes as mailboxes_by_default};
-ghost use Rattle.pm_meaning.specs.Turns.{is_for_good};
+ghost use Rattle.pm_meaning.specs.Running.{Running, FallingOff, Over, step};
 ghost use Rattle.pm_run.specs.Drafts.{IsDrafted};
 ghost use Rattle.pm_run.specs.Stretches.{Walks};
 
 use crate::draft::Draft;
 use crate::drafting::renew;
-use pm_actions::deliver_default;
 use pm_bytes::{Blob, Memory};
 use pm_journal::{Effects, no_delivery};
 use pm_meaning::{Acted, End, Run, tell};
-use pm_vars::Vars;
+use pm_perform::{default_mailboxes, deliver_default, is_delivered};
 use std::alloc::Global;
 use std::collections::VecDeque;
 
@@ -35,44 +31,6 @@ pub fn fall_off<D: Effects>(
 {
     let mailboxes = default_mailboxes(alloc, &run.process.vars)?;
     try_each(alloc, run, mailboxes, draft)
-}
-
-// DEFAULT and ORGMAIL, unless they are unset, empty or the same.
-fn default_mailboxes(alloc: Global, vars: &Vars) -> Result<VecDeque<Blob>, Memory>
-    ensures { IfOk result (λ mailboxes. mailboxes.items ≡ mailboxes_by_default vars.now) }
-{
-    let mut mailboxes = VecDeque::new(alloc);
-    let first = value(vars, b"DEFAULT");
-    push_other(alloc, first, b"", &mut mailboxes)?;
-    let second = value(vars, b"ORGMAIL");
-    push_other(alloc, second, first, &mut mailboxes)?;
-    Ok(mailboxes)
-}
-
-/// The variable's value, empty where it is unset.
-pub fn value<'a>(vars: &'a Vars, name: &[u8]) -> &'a [u8]
-    ensures { result.now ≡ value_or [] name.now vars.now }
-{
-    match vars.get(name) {
-        Some(value) => value.as_slice(),
-        None => b"",
-    }
-}
-
-// A text that is neither empty nor the other one.
-fn push_other(
-    alloc: Global,
-    text: &[u8],
-    other: &[u8],
-    mailboxes: &mut VecDeque<Blob>,
-) -> Result<(), Memory>
-    ensures { OnOk result (mailboxes.new.items ≡
-        mailboxes.old.items ++ unless_same other.now text.now) }
-{
-    if !text.is_empty() && text != other {
-        mailboxes.push_back(Blob::from_slice(alloc, text)?)?;
-    }
-    Ok(())
 }
 
 // Delivers to the first of these mailboxes that takes the mail.
@@ -110,13 +68,6 @@ fn try_mailbox<D: Effects>(
 {
     renew(alloc, &run.process, draft)?;
     deliver_default(alloc, run, &mailbox)
-}
-
-// Whether the mail was delivered.
-fn is_delivered(acted: Acted) -> bool
-    ensures { result ≡ is_for_good acted }
-{
-    matches!(acted, Acted::Delivered)
 }
 
 // No mailbox took the mail.

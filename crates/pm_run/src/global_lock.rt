@@ -15,12 +15,12 @@ ghost use Rattle.pm_meaning.specs.Turns.{GoesOn, say_then};
 ghost use Rattle.pm_meaning.specs.Turning.{turn_of};
 ghost use Rattle.pm_run.specs.RunningOut.{HinderedSince};
 
-use pm_actions::{is_stuck, lock_rule, refuse};
 use pm_bytes::{Memory, Name, full};
 use pm_journal::{
     Effects, Journal, LockEnd, couldnt_lock, couldnt_unlock, forcing_lock, give, take,
 };
 use pm_meaning::{End, Run, file_name, tell};
+use pm_perform::{is_stuck, lock_rule, refuse};
 use std::alloc::Global;
 
 /// LOCKFILE got this value.

@@ -9,8 +9,8 @@ ghost use Rattle.pm_meaning.specs.Chains.{passed, executed};
 ghost use Rattle.pm_meaning.specs.Judging.{judge_first};
 ghost use Rattle.pm_meaning.specs.Minds.{Mind, mind_of};
 ghost use Rattle.pm_meaning.specs.Turns.{Turn};
-ghost use Rattle.pm_actions.specs.Names.{top_of};
-ghost use Rattle.pm_actions.specs.Undelivered.{Undelivered};
+ghost use Rattle.pm_perform.specs.Names.{top_of};
+ghost use Rattle.pm_perform.specs.Undelivered.{Undelivered};
 ghost use Rattle.pm_meaning.specs.Turning.{turn_of};
 ghost use Rattle.pm_run.specs.Coming.{ComesTo, HearsCome};
 ghost use Rattle.pm_run.specs.Drafts.{IsDrafted};
@@ -18,11 +18,11 @@ ghost use Rattle.pm_run.specs.RunningOut.{LeavesUndelivered, OfNew};
 
 use crate::draft::Draft;
 use crate::drafting::renew;
-use pm_actions::perform;
 use pm_bytes::Memory;
 use pm_conds::{Observer, conditions_hold};
 use pm_journal::Effects;
 use pm_meaning::{Acted, End, Process, Run, admits, after};
+use pm_perform::perform;
 use pm_recipe::{Flags, Recipe};
 use std::alloc::Global;
 

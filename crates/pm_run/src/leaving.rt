@@ -13,10 +13,10 @@ ghost use Rattle.pm_run.specs.RunningOut.{HinderedSince};
 ghost use Rattle.pm_run.specs.Stretches.{Walks};
 
 use crate::frames::{Open, RcFrame, Waiting};
-use pm_actions::is_stuck;
 use pm_bytes::{Memory, Name};
 use pm_journal::{Effects, couldnt_unlock, give};
 use pm_meaning::{End, Run, tell};
+use pm_perform::is_stuck;
 use std::alloc::Global;
 use std::collections::VecDeque;
 

@@ -95,7 +95,7 @@ fn run_words<'a, S: Source, H: Host, O: Sink, E: Sink, N: Observer>(
     words: &[String],
     env: &Environ,
     source: &mut S,
-    objects: &mut Objects<'a, H, O, E>,
+    objects: &mut Objects<'a, H, &'a mut O, E>,
     journal: &mut Journal,
     observer: &mut N,
 ) -> u8
@@ -129,7 +129,7 @@ fn run_line<'a, S: Source, H: Host, O: Sink, E: Sink, N: Observer>(
     line: CommandLine,
     env: &Environ,
     source: &mut S,
-    objects: &mut Objects<'a, H, O, E>,
+    objects: &mut Objects<'a, H, &'a mut O, E>,
     journal: &mut Journal,
     observer: &mut N,
 ) -> u8
@@ -164,7 +164,7 @@ fn run_mail<'a, H: Host, O: Sink, E: Sink, N: Observer>(
     line: CommandLine,
     env: &Environ,
     bytes: Blob,
-    objects: &mut Objects<'a, H, O, E>,
+    objects: &mut Objects<'a, H, &'a mut O, E>,
     journal: &mut Journal,
     observer: &mut N,
 ) -> u8
@@ -198,7 +198,7 @@ fn run_objects<'a, H: Host, O: Sink, E: Sink, N: Observer>(
     line: CommandLine,
     env: &Environ,
     bytes: Blob,
-    objects: &mut Objects<'a, H, O, E>,
+    objects: &mut Objects<'a, H, &'a mut O, E>,
     journal: &mut Journal,
     observer: &mut N,
 ) -> Result<Ending, Memory>

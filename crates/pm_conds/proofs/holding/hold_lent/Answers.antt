@@ -1,7 +1,7 @@
 use Rattle.std.proofs.Common.{sym, ◌∙◌}
 use Rattle.pm_meaning.specs.Apart.{judged_of}
 use Rattle.pm_conds.specs.Holding.{holding_alone}
-use Rattle.pm_conds.proofs.Beside.{carries_beside, carries_back, first_same, second_same, third_same}
+use Rattle.pm_meaning.proofs.Beside.{carries_beside, carries_back, first_same, second_same, third_same}
 use Rattle.pm_conds.proofs.HoldLemmas.{verdict_holds}
 use Rattle.pm_conds.proofs.QuietConditions.{quiet_alone}
 use Rattle.pm_conds.proofs.holding.hold_lent.Goals as goal

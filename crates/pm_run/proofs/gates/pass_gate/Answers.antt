@@ -5,7 +5,7 @@ use Rattle.pm_meaning.specs.Blocks.{enter_block}
 use Rattle.pm_meaning.specs.Judging.{judge_first}
 use Rattle.pm_meaning.specs.Minds.{Mind, mind_of}
 use Rattle.pm_meaning.specs.Turns.{Turn}
-use Rattle.pm_actions.specs.Names.{top_of}
+use Rattle.pm_perform.specs.Names.{top_of}
 use Rattle.std.proofs.Common.{refl}
 use Rattle.pm_run.proofs.GateLemmas.{gate_of_end}
 use Rattle.pm_run.proofs.JudgeLemmas.{acts_on}

@@ -5,7 +5,7 @@ use Rattle.pm_meaning.specs.Acting.{acting}
 use Rattle.pm_meaning.specs.Judging.{judge_first}
 use Rattle.pm_meaning.specs.Minds.{Mind, mind_of}
 use Rattle.pm_meaning.specs.Turns.{Turn, GoesOn}
-use Rattle.pm_actions.specs.Names.{top_of}
+use Rattle.pm_perform.specs.Names.{top_of}
 use Rattle.pm_meaning.proofs.Choices.{err_map}
 use Rattle.pm_journal.specs.Plan.{Plan, Ends}
 use Rattle.pm_run.proofs.MayLemmas.{judging_may, acting_may}

@@ -5,8 +5,8 @@ use Rattle.pm_journal.specs.declared.acts.Act.TheVariants.{Run}
 use Rattle.pm_journal.specs.declared.acts.Entry.{Entry}
 use Rattle.pm_journal.specs.declared.acts.Reply.TheVariants.{Done, Torn, Ended}
 use Rattle.pm_meaning.specs.Examples.{process}
-use Rattle.pm_actions.specs.Examples.{append, command}
-use Rattle.pm_actions.specs.Undelivered.{any_delivers, any_hinders}
+use Rattle.pm_perform.specs.Examples.{append, command}
+use Rattle.pm_perform.specs.Undelivered.{any_delivers, any_hinders}
 use Rattle.pm_run.specs.RunningOut.{AreJudged, LeavesUndelivered}
 use Rattle.pm_run.specs.RunningOutExamples.{noted, top}
 use Rattle.pm_run.proofs.laws.running_out_examples.Goals as goal

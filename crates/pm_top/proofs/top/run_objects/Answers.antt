@@ -1,4 +1,5 @@
-use Rattle.pm_top.proofs.Lent.{ends_plain, starves_plain, lent_back, first_same, second_same, third_same}
+use Rattle.pm_meaning.proofs.Beside.{first_same, second_same, third_same}
+use Rattle.pm_top.proofs.Lent.{ends_plain, starves_plain, lent_back}
 use Rattle.pm_top.proofs.top.run_objects.Goals as goal
 
 pub returns-clause-ok : goal.returns-clause-ok

@@ -1,0 +1,17 @@
+pub mod FileLemmas
+mod FoundLemmas
+pub mod CalmLemmas
+mod SureLemmas
+mod PlaceLemmas
+mod NameLemmas
+pub mod DeliverLemmas
+mod AttemptLemmas
+mod SayingLemmas
+mod FallbackLemmas
+mod FailedLemmas
+mod ErrandLemmas
+mod FilterLemmas
+mod TryLemmas
+mod TaskLemmas
+mod PipeLemmas
+mod ForwardLemmas

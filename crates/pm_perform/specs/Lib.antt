@@ -1,0 +1,9 @@
+pub mod Names
+pub mod Copies
+pub mod Programs
+pub mod Placing
+pub mod Filing
+pub mod Errands
+pub mod AbstractParts
+pub mod Undelivered
+pub mod Examples

@@ -1,0 +1,394 @@
+//! Recipes that deliver to mailboxes (procmailrc(5), "Recipe action line"), and default mailboxes.
+ghost use Rattle.std.specs.Prelude.{◌≡◌, [], length, OnErr};
+ghost use Rattle.pm_journal.specs.Executed.{Carries};
+ghost use Rattle.pm_subst.specs.Commands.{commands_in};
+ghost use Rattle.pm_subst.specs.declared.kinds.Mode.TheVariants.{One, Many};
+ghost use Rattle.pm_recipe.specs.View.{act_of};
+ghost use Rattle.pm_meaning.specs.Acting.{act_on};
+ghost use Rattle.pm_meaning.specs.Locks.{text_or};
+ghost use Rattle.pm_meaning.specs.Locks;
+ghost use Rattle.pm_meaning.specs.Delivering.{attempt_acted, settled};
+ghost use Rattle.pm_meaning.specs.Delivering;
+ghost use Rattle.pm_meaning.specs.Turns.{refuse_name};
+ghost use Rattle.pm_meaning.specs.Delivering.{deliver_with, deliver, deliver_to};
+ghost use Rattle.pm_meaning.specs.Minds.{mind_of};
+ghost use Rattle.pm_perform.specs.Copies.{IsFreeLock};
+ghost use Rattle.pm_perform.specs.Names.{top_of};
+ghost use Rattle.pm_meaning.specs.Ready.{ready_of};
+ghost use Rattle.pm_meaning.specs.Apart.{acted_with};
+ghost use Rattle.pm_meaning.specs.Turning.{turn_of};
+ghost use Rattle.pm_perform.specs.Undelivered.{Undelivered};
+
+use crate::abstracts::push_copy;
+use crate::attempting::attempt;
+use crate::filing::is_stored;
+use crate::locks::{
+    any_held, blamed_text, full_lock, full_names, is_taken, lock_name, lock_text, lock_word,
+};
+use crate::names::destinations;
+use crate::pipes::{capture, forward, pipe, write_out};
+use crate::refusing::{overflow, refuse_act};
+use crate::saying::{attempt_lines, say_each};
+use pm_bytes::{Blob, Memory, Name, NameRefused};
+use pm_journal::{Effects, unusable_name};
+use pm_meaning::{
+    Acted, Attempt, Cause, Destination, End, Expansion, Filed, Process, Ready, Run, expand_text,
+    first_word, make_ready, succeed, tell,
+};
+use pm_recipe::{Action, Flags, Recipe};
+use pm_subst::{Mode, commands};
+use std::alloc::Global;
+
+/// What an action asks for: its flags, the text of its lock file, and its own text.
+#[derive(Drop)]
+pub struct Order<'a> {
+    pub flags: Flags,
+    pub lock: &'a Option<Blob>,
+    pub text: &'a [u8],
+}
+
+/// Does the action of a recipe that is executed. One with a block isn't done here.
+pub fn perform<D: Effects>(
+    alloc: Global,
+    run: &mut Run<D>,
+    recipe: &Recipe,
+) -> Result<Acted, Memory>
+    ensures carries { Carries
+        (act_on (top_of recipe.now) (act_of recipe.now.action) (mind_of run.old.process))
+        (λ acted. acted_with acted (mind_of run.new.process)) result
+        run.old.journal run.new.journal (D.told run.old.outside) (D.told run.new.outside) }
+    ensures sure { OnErr result (Undelivered recipe.now.flags run.old.journal run.new.journal) }
+{
+    match &recipe.action {
+        Action::Mailbox(text) => {
+            let order = order_of(recipe, text);
+            deliver_mail(alloc, run, &order)
+        }
+        Action::Pipe(line) => {
+            let order = order_of(recipe, line);
+            pipe(alloc, run, &order)
+        }
+        Action::Capture { name, line } => {
+            let order = order_of(recipe, line);
+            capture(alloc, run, &order, name)
+        }
+        Action::Forward(text) => {
+            let order = order_of(recipe, text);
+            forward(alloc, run, &order)
+        }
+        Action::WriteOut => write_out(alloc, run, recipe.flags, &recipe.lock),
+        Action::Block(_) => Ok(Acted::Went),
+    }
+}
+
+fn order_of<'a>(recipe: &'a Recipe, text: &'a Blob) -> Order<'a>
+    ensures flags { result.flags ≡ recipe.now.flags }
+    ensures lock { result.lock.now ≡ recipe.now.lock }
+    ensures text { result.text.now ≡ text.now }
+{
+    Order {
+        flags: recipe.flags,
+        lock: &recipe.lock,
+        text: text.as_slice(),
+    }
+}
+
+/// Delivers to a default mailbox, under its automatic lock file.
+pub fn deliver_default<D: Effects>(
+    alloc: Global,
+    run: &mut Run<D>,
+    mailbox: &Blob,
+) -> Result<Acted, Memory>
+    ensures carries { Carries (Delivering.deliver_default mailbox.now (mind_of run.old.process))
+        (λ acted. acted_with acted (mind_of run.new.process)) result
+        run.old.journal run.new.journal (D.told run.old.outside) (D.told run.new.outside) }
+    ensures sure { OnErr result (Undelivered Delivering.no_flags run.old.journal run.new.journal) }
+{
+    let lock = Some(Blob::empty(alloc));
+    let word = mailbox.copy(alloc)?;
+    let order = Order {
+        flags: no_flags(),
+        lock: &lock,
+        text: mailbox.as_slice(),
+    };
+    deliver_to_words(alloc, run, &order, Blob::empty(alloc), &[word])
+}
+
+// The flags of a recipe that has no letters.
+fn no_flags() -> Flags
+    ensures { result ≡ Delivering.no_flags }
+{
+    Flags {
+        search_head: false,
+        search_body: false,
+        distinguish: false,
+        feed_head: false,
+        feed_body: false,
+        filter: false,
+        copy: false,
+        wait: false,
+        wait_quiet: false,
+        ignore: false,
+        raw: false,
+        and_chain: false,
+        and_ok: false,
+        or_else: false,
+        on_error: false,
+    }
+}
+
+// Runs the commands of the lock file's text and of the action's, and then delivers.
+fn deliver_mail<D: Effects>(
+    alloc: Global,
+    run: &mut Run<D>,
+    order: &Order<'_>,
+) -> Result<Acted, Memory>
+    ensures carries { let o = order.now in
+        Carries (deliver o.flags o.lock.now o.text.now (mind_of run.old.process))
+        (λ acted. acted_with acted (mind_of run.new.process)) result
+        run.old.journal run.new.journal (D.told run.old.outside) (D.told run.new.outside) }
+    ensures sure { OnErr result (Undelivered order.now.flags run.old.journal run.new.journal) }
+{
+    let lock_commands = commands(alloc, lock_text(order.lock), Mode::One)?;
+    let text_commands = commands(alloc, order.text, Mode::Many)?;
+    let ready = make_ready(
+        alloc,
+        run,
+        lock_commands.as_slice(),
+        text_commands.as_slice(),
+    )?;
+    deliver_ready(alloc, run, order, &ready)
+}
+
+// Expands the text of the lock file, and then delivers.
+fn deliver_ready<D: Effects>(
+    alloc: Global,
+    run: &mut Run<D>,
+    order: &Order<'_>,
+    ready: &Ready,
+) -> Result<Acted, Memory>
+    requires locks { length ready.now.lock_outputs.items ≡ length (commands_in One (text_or [] order.now.lock.now)) }
+    requires each { length ready.now.outputs.items ≡ length (commands_in Many order.now.text.now) }
+    ensures carries { let o = order.now in
+        Carries (deliver_with o.flags o.lock.now o.text.now (ready_of ready.now (mind_of run.old.process)))
+        (λ acted. acted_with acted (mind_of run.new.process)) result
+        run.old.journal run.new.journal (D.told run.old.outside) (D.told run.new.outside) }
+    ensures sure { OnErr result (Undelivered order.now.flags run.old.journal run.new.journal) }
+{
+    let lock = lock_text(order.lock);
+    match expand_text(
+        alloc,
+        lock,
+        Mode::One,
+        &run.process.vars,
+        ready.lock_outputs.as_slice(),
+    )? {
+        Expansion::Words(words) => {
+            let value = first_word(alloc, words);
+            let outputs = ready.outputs.as_slice();
+            deliver_text(alloc, run, order, value, outputs)
+        }
+        Expansion::TooLong(length) => overflow(alloc, run, length),
+    }
+}
+
+// Expands the text of the action into destinations, and delivers to them.
+fn deliver_text<D: Effects>(
+    alloc: Global,
+    run: &mut Run<D>,
+    order: &Order<'_>,
+    value: Blob,
+    outputs: &[Blob],
+) -> Result<Acted, Memory>
+    requires each { length outputs.now ≡ length (commands_in Many order.now.text.now) }
+    ensures carries { let o = order.now in
+        Carries (Delivering.deliver_text o.flags o.lock.now value o.text.now outputs.now (mind_of run.old.process))
+        (λ acted. acted_with acted (mind_of run.new.process)) result
+        run.old.journal run.new.journal (D.told run.old.outside) (D.told run.new.outside) }
+    ensures sure { OnErr result (Undelivered order.now.flags run.old.journal run.new.journal) }
+{
+    match expand_text(alloc, order.text, Mode::Many, &run.process.vars, outputs)? {
+        Expansion::Words(words) => { deliver_to_words(alloc, run, order, value, words.as_slice()) }
+        Expansion::TooLong(length) => overflow(alloc, run, length),
+    }
+}
+
+// Delivers to these destinations, if there is one and the lock file's name can be used.
+fn deliver_to_words<D: Effects>(
+    alloc: Global,
+    run: &mut Run<D>,
+    order: &Order<'_>,
+    value: Blob,
+    words: &[Blob],
+) -> Result<Acted, Memory>
+    ensures carries { let o = order.now in
+        Carries (deliver_to o.flags o.lock.now value o.text.now words.now (mind_of run.old.process))
+        (λ acted. acted_with acted (mind_of run.new.process)) result
+        run.old.journal run.new.journal (D.told run.old.outside) (D.told run.new.outside) }
+    ensures sure { OnErr result (Undelivered order.now.flags run.old.journal run.new.journal) }
+{
+    if words.len() == 0 {
+        return refuse_act(alloc, run, Cause::NoWords, order.text);
+    }
+    let word = lock_word(alloc, order.lock, value, words, &run.process)?;
+    match lock_name(alloc, word) {
+        Ok(lock) => deliver_named(alloc, run, order, lock, words),
+        Err(NameRefused::Unusable) => {
+            let text = blamed_text(order.lock, order.text);
+            refuse_act(alloc, run, Cause::BadName, text)
+        }
+        Err(NameRefused::Memory) => Err(Memory),
+    }
+}
+
+// Delivers to these destinations, if each can be the name of a file or a folder.
+fn deliver_named<D: Effects>(
+    alloc: Global,
+    run: &mut Run<D>,
+    order: &Order<'_>,
+    lock: Option<Name>,
+    words: &[Blob],
+) -> Result<Acted, Memory>
+    ensures carries { let o = order.now in
+        Carries (Delivering.deliver_named o.flags lock (Locks.blamed_text o.lock.now o.text.now) o.text.now words.now
+        (mind_of run.old.process))
+        (λ acted. acted_with acted (mind_of run.new.process)) result
+        run.old.journal run.new.journal (D.told run.old.outside) (D.told run.new.outside) }
+    ensures sure { OnErr result (Undelivered order.now.flags run.old.journal run.new.journal) }
+{
+    match destinations(alloc, words)? {
+        None => refuse_act(alloc, run, Cause::BadName, order.text),
+        Some(all) => {
+            let lock = full_lock(alloc, &run.process.base, lock)?;
+            deliver_at(alloc, run, order, lock, all.as_slice())
+        }
+    }
+}
+
+// Delivers to these destinations, if the lock file is none of them and nothing of it is held.
+fn deliver_at<D: Effects>(
+    alloc: Global,
+    run: &mut Run<D>,
+    order: &Order<'_>,
+    lock: Option<Name>,
+    destinations: &[Destination],
+) -> Result<Acted, Memory>
+    ensures carries { let o = order.now in
+        Carries (Delivering.deliver_at o.flags lock
+        (Locks.blamed_text o.lock.now o.text.now) o.text.now destinations.now
+        (mind_of run.old.process))
+        (λ acted. acted_with acted (mind_of run.new.process)) result
+        run.old.journal run.new.journal (D.told run.old.outside) (D.told run.new.outside) }
+    ensures sure { OnErr result (Undelivered order.now.flags run.old.journal run.new.journal) }
+{
+    let files = full_names(alloc, &run.process.base, destinations)?;
+    if is_taken(&lock, files.as_slice(), &run.process.locks) {
+        let text = blamed_text(order.lock, order.text);
+        return refuse_act(alloc, run, Cause::NameIsLock, text);
+    }
+    if any_held(files.as_slice(), &run.process.locks) {
+        return refuse_act(alloc, run, Cause::NameIsLock, order.text);
+    }
+    file_and_say(alloc, run, lock, order, destinations)
+}
+
+// Delivers, and says what came of it.
+fn file_and_say<D: Effects>(
+    alloc: Global,
+    run: &mut Run<D>,
+    lock: Option<Name>,
+    order: &Order<'_>,
+    destinations: &[Destination],
+) -> Result<Acted, Memory>
+    requires free { IsFreeLock lock run.old.process.locks.names }
+    ensures carries { let o = order.now in
+        Carries (Delivering.file_and_say o.flags lock o.text.now destinations.now (mind_of run.old.process))
+        (λ acted. acted_with acted (mind_of run.new.process)) result
+        run.old.journal run.new.journal (D.told run.old.outside) (D.told run.new.outside) }
+    ensures sure { OnErr result (Undelivered order.now.flags run.old.journal run.new.journal) }
+{
+    let attempt = attempt(alloc, run, lock, order.flags, destinations)?;
+    settle(&attempt, &mut run.process);
+    let acted = acted_by(order.flags, &attempt);
+    let mut lines = attempt_lines(alloc, order.text, &attempt)?;
+    push_copy(
+        alloc,
+        is_done(&attempt),
+        order.flags,
+        &run.process,
+        &mut lines,
+    )?;
+    say_each(alloc, run, lines, acted)
+}
+
+/// The name of a file can't be used: this is told of the text.
+pub fn refuse<D: Effects>(
+    alloc: Global,
+    run: &mut Run<D>,
+    text: &[u8],
+) -> Result<Option<End>, Memory>
+    ensures carries { Carries (refuse_name text.now (mind_of run.old.process))
+        (λ end. turn_of end (mind_of run.new.process)) result
+        run.old.journal run.new.journal (D.told run.old.outside) (D.told run.new.outside) }
+    ensures same { run.new.process ≡ run.old.process }
+{
+    let line = unusable_name(alloc, text)?;
+    tell(alloc, run, line)?;
+    Ok(None)
+}
+
+// A recipe that got the mail to each destination succeeded.
+fn settle(attempt: &Attempt, process: &mut Process)
+    ensures mind { mind_of process.new ≡ settled attempt.now (mind_of process.old) }
+    ensures locks { process.new.locks ≡ process.old.locks }
+{
+    if is_done(attempt) {
+        process.chain = succeed(&process.chain);
+    }
+}
+
+fn is_done(attempt: &Attempt) -> bool
+    ensures { result ≡ Delivering.is_done attempt.now }
+{
+    match attempt {
+        Attempt::Unlocked(filed) => is_stored(filed),
+        Attempt::NotLocked { .. } => false,
+        Attempt::Locked { filed, .. } => is_stored(filed),
+    }
+}
+
+// What came of an attempt.
+fn acted_by(flags: Flags, attempt: &Attempt) -> Acted
+    ensures { result ≡ attempt_acted flags attempt.now }
+{
+    match attempt {
+        Attempt::Unlocked(filed) => filed_acted(flags, filed),
+        Attempt::NotLocked { cause, .. } => Acted::Failed(*cause),
+        Attempt::Locked { filed, .. } => filed_acted(flags, filed),
+    }
+}
+
+// What came of the destinations.
+fn filed_acted(flags: Flags, filed: &Filed) -> Acted
+    ensures { result ≡ Delivering.filed_acted flags filed.now }
+{
+    match filed {
+        Filed::Stored => all_stored(flags),
+        Filed::Unwritten(_) => Acted::Failed(Cause::Undone),
+        Filed::Raced(_) => Acted::Failed(Cause::Raced),
+        Filed::Left { .. } => Acted::Failed(Cause::Torn),
+        Filed::Crowded(_) => Acted::Failed(Cause::NamesOut),
+        Filed::Unnamed => Acted::Failed(Cause::BadName),
+    }
+}
+
+/// The mail, or under the flag c a copy, was delivered.
+pub fn all_stored(flags: Flags) -> Acted
+    ensures { result ≡ Delivering.all_stored flags }
+{
+    if flags.copy {
+        Acted::CopyDone
+    } else {
+        Acted::Delivered
+    }
+}
