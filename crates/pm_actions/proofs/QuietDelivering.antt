@@ -1,16 +1,16 @@
 -- Deliveries to default mailboxes write nothing to the standard output.
-use Rattle.std.proofs.Common.{ℕ, Bool, List, [], ◌∷◌, ◌++◌, Option, Some, None, if◌then◌else◌}
+use Rattle.std.proofs.Common.{ℕ, List, [], ◌∷◌, ◌++◌, Option, Some, None}
 use Rattle.std.specs.Prelude.{map, not}
 use Rattle.pm_bytes.specs.Name.{is_usable}
 use Rattle.pm_bytes.specs.Path.{full_name}
 use Rattle.pm_recipe.specs.declared.tree.Flags.{Flags}
-use Rattle.pm_journal.specs.Plan.{Plan, Ends}
+use Rattle.pm_journal.specs.Plan.{Ends}
 use Rattle.pm_journal.specs.declared.acts.Reply.{Reply}
 use Rattle.pm_journal.specs.declared.acts.Reply.TheVariants.{IsFolder, Held, Now}
 use Rattle.pm_journal.specs.declared.placing.FolderKind.{FolderKind}
 use Rattle.pm_journal.specs.declared.placing.FolderKind.TheVariants.{Plain}
 use Rattle.pm_meaning.specs.Abstracts.{copy_lines}
-use Rattle.pm_meaning.specs.Delivering.{Filing, Attempted, folder_piece, mailbox_piece, placed_at, in_folder, plain_prefix, in_plain, appended_by, to_file, file_size, file_as, file_one, is_stored, file_all, give_back, under_lock, attempt, attempt_lines, attempt_acted, is_done, settled, say_each, after_attempt, file_and_say, deliver_at, deliver_named, is_without, deliver_to, no_flags, deliver_default, try_each}
+use Rattle.pm_meaning.specs.Delivering.{Attempted, folder_piece, mailbox_piece, placed_at, in_folder, plain_prefix, in_plain, appended_by, to_file, file_size, file_as, file_one, is_stored, file_all, give_back, under_lock, attempt, attempt_lines, attempt_acted, is_done, settled, say_each, after_attempt, file_and_say, deliver_at, deliver_named, is_without, deliver_to, no_flags, deliver_default, try_each}
 use Rattle.pm_meaning.specs.Changes.{stored_in}
 use Rattle.pm_meaning.specs.Destinations.{full_of, destination_of, are_file_texts}
 use Rattle.pm_meaning.specs.Locks.{is_nothing, is_lock_word, lock_word, full_lock, is_taken, any_held, blamed_text, with_lock}
