@@ -13,6 +13,7 @@ mod locks;
 mod mailboxes;
 mod mails;
 mod minds;
+mod processes;
 mod rcfiles;
 mod report;
 mod scores;
@@ -46,6 +47,7 @@ fn make_report(alloc: Global) -> Report {
     edits::show(alloc, &mut report);
     conditions::show(alloc, &mut report);
     actions::show(alloc, &mut report);
+    processes::show(alloc, &mut report);
     locks::show(alloc, &mut report);
     appends::show(alloc, &mut report);
     mailboxes::show(alloc, &mut report);

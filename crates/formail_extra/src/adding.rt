@@ -118,9 +118,9 @@ fn hold<H: Host>(
     add_id(host, cache, known, id.as_slice())
 }
 
-/// Holds the identifiers of some mails against what is known of a cache, each against those before it too, and adds those
-/// that are new, each by an append with its sync. What it finds of the mails is added to `kept`. It takes no memory but
-/// what is reserved.
+/// Holds the identifiers of some mails against what is known of a cache, each against those before it too, and adds
+/// those that are new, each by an append with its sync. What it finds of the mails is added to `kept`. It takes no
+/// memory but what is reserved.
 pub fn hold_all<H: Host>(
     host: &mut H,
     cache: &Cache,

@@ -26,7 +26,8 @@ pub struct Marks {
 // Marks an identifier, if it is one of the table's.
 fn mark(table: &mut Table, id: &[u8], round: u64)
     ensures { (other : List ℕ) → mark_at table.new other
-        ≡ (if bytes_eq id.now other then option_map (λ _. round) (mark_at table.old other) else mark_at table.old other) }
+        ≡ (if bytes_eq id.now other then option_map (λ _. round) (mark_at table.old other)
+        else mark_at table.old other) }
 {
     if let Some(last) = table.get_mut(id) {
         *last = round;

@@ -1,5 +1,5 @@
 -- A process as the meaning sees it.
-use Rattle.std.specs.Prelude.{ℕ, Bool, List, Option}
+use Rattle.std.specs.Prelude.{ℕ, Bool, List, Option, reverse}
 use Rattle.pm_message.specs.declared.head.Message.{Message}
 use Rattle.pm_vars.specs.Table.{Table}
 use Rattle.pm_meaning.specs.declared.chain.Chain.{Chain}
@@ -28,7 +28,7 @@ pub record Mind : Type 0 where
   pub later : List (List ℕ)
   pub stored : Stored
 
--- how much room there is for more locks isn't spoken of
+-- how much room there is for more locks isn't spoken of; the rcfiles that are left stand in the process with the last one first
 abbrev pub mind_of : Process → Mind
 mind_of p = record {
   filter = p.filter;
@@ -44,6 +44,6 @@ mind_of p = record {
   rcfile = p.rcfile;
   openings = p.openings;
   is_clone = p.is_clone;
-  later = p.later.items;
+  later = reverse p.later.items;
   stored = p.stored;
 }

@@ -27,7 +27,7 @@ pub use chain::{Chain, admits, after, new_chain, succeed};
 pub use command_line::CommandLine;
 pub use ending::Ending;
 pub use expanding::{Expansion, expand_text, first_word};
-pub use mind::{Last, Mind, Shared};
+pub use mind::{Last, Mind, Opening, Shared};
 pub use names::{file_name, is_nothing};
 pub use outputs::{Ready, make_ready, outputs_of, read_line, tell_run};
 pub use process::{Attempt, Destination, End, Filed, Outcome, Process, ProgramLine, Stored, Trial};

@@ -1,5 +1,5 @@
 //! The state of a process in the parts that a caller has of it.
-ghost use Rattle.std.specs.Prelude.{◌≡◌, IfOk, OnErr};
+ghost use Rattle.std.specs.Prelude.{◌≡◌, reverse, IfOk, OnErr};
 ghost use Rattle.pm_meaning.specs.Apart.{bare, last_of, state_of};
 ghost use Rattle.pm_meaning.specs.Minds.{mind_of};
 
@@ -9,7 +9,6 @@ use pm_journal::HeldLocks;
 use pm_message::{Mail, Message};
 use pm_vars::Vars;
 use std::alloc::Global;
-use std::collections::VecDeque;
 use std::mem;
 
 /// Where the mail was last delivered to: the text of the destination, or the name of the file in a folder, and how many
@@ -45,7 +44,47 @@ pub struct Shared {
     pub host_name: Name,
 }
 
+/// How the first rcfile of a process is opened: whether the program is a mail filter (`-m`, procmail(1)), whether the one
+/// name is that of the user's own rcfile, which may be missing, and whether MAILDIR stays as a word of the command line
+/// set it.
+#[derive(Clone, Copy, Debug, PartialEq, Eq)]
+pub struct Opening {
+    pub under_m: bool,
+    pub implied: bool,
+    pub keep_base: bool,
+}
+
 impl Mind {
+    /// The state of this process. It takes no memory.
+    pub fn of(process: Process) -> Mind
+        ensures state { state_of result process.host_name process.placed ≡ bare (mind_of process) }
+        ensures locks { result.locks ≡ process.locks }
+        ensures rcfiles { result.rcfiles.items ≡ reverse process.later.items }
+    {
+        let Process {
+            message,
+            vars,
+            base,
+            locks,
+            global,
+            chain,
+            later: mut rcfiles,
+            stored,
+            ..
+        } = process;
+        rcfiles.reverse();
+        Mind {
+            vars,
+            message: message.into_parts(),
+            base,
+            chain,
+            locks,
+            global,
+            rcfiles,
+            last: remembered(stored),
+        }
+    }
+
     /// Takes the process of this state out for a recipe; `restore` puts it back. `Memory` is the only error.
     pub fn take(&mut self, alloc: Global, host_name: Name, placed: u64) -> Result<Process, Memory>
         ensures state { IfOk result (λ process. mind_of process ≡ state_of self.old host_name placed) }
@@ -69,7 +108,7 @@ impl Mind {
             rcfile: Name::from_text(String::new(alloc)),
             openings: 0,
             is_clone: false,
-            later: VecDeque::new(alloc),
+            later: Vec::new(alloc),
             stored: stored_as(alloc, last),
         })
     }

@@ -8,7 +8,6 @@ use pm_journal::{FolderKind, HeldLocks};
 use pm_message::Mail;
 use pm_vars::Vars;
 use std::alloc::Global;
-use std::collections::VecDeque;
 
 /// The state of a process: the message that it delivers, its variables, the folder `base` from which names are seen
 /// (MAILDIR, procmailrc(5)), the host's name, whether the program is a mail filter (`-m`, procmail(1)), whether a mail
@@ -16,7 +15,7 @@ use std::collections::VecDeque;
 /// it holds, which of them LOCKFILE names, what came of the recipes before, how many times the run has filed mail in a
 /// folder, or tried to, the name of the rcfile that is being read, empty before the first one, how many rcfiles the run
 /// has opened, or tried to, whether this is a copy of a process that was made for a block, which rcfiles of the command
-/// line are left, and where the mail was last delivered to.
+/// line are left, the last one first, and where the mail was last delivered to.
 #[derive(Drop)]
 pub struct Process {
     pub filter: bool,
@@ -30,9 +29,9 @@ pub struct Process {
     pub chain: Chain,
     pub placed: u64,
     pub rcfile: Name,
-    pub openings: u64,
+    pub openings: u32,
     pub is_clone: bool,
-    pub later: VecDeque<Name>,
+    pub later: Vec<Name>,
     pub stored: Stored,
 }
 
@@ -56,7 +55,7 @@ impl Process {
             rcfile: Name::from_text(String::new(alloc)),
             openings: 0,
             is_clone: false,
-            later: VecDeque::new(alloc),
+            later: Vec::new(alloc),
             stored: Stored {
                 folder: Blob::empty(alloc),
                 size: 0,

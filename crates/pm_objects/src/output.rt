@@ -37,8 +37,8 @@ impl<'a, O: Sink> Output for &'a mut O {
     }
 }
 
-/// A sink that a run doesn't touch: of its standard output it knows this count of faults. What it were to write there
-/// would be lost.
+/// A sink that a run doesn't touch: of its standard output it knows this count of faults. What is written to it is
+/// lost.
 #[derive(Clone, Copy)]
 pub struct Untouched {
     pub faults: u64,

@@ -1,7 +1,6 @@
 -- How a run begins: the mail's From line, the words that set variables, and the rcfiles that are tried.
-use Rattle.std.proofs.Common.{◌≡◌, ◌∙◌, ◌+◌, ℕ, Bool, List, [], ◌∷◌, ◌++◌, true, false, map, drop, length, refl, sym, ap, subst, append_assoc, append-nil}
-use Rattle.std.specs.Prelude.{ℤ, codes, bytes_eq, not, ◌||◌, ◌&&◌, if◌then◌else◌}
-use Rattle.pm_bytes.specs.Name.{has_zero}
+use Rattle.std.proofs.Common.{◌≡◌, ◌∙◌, ◌+◌, ℕ, Bool, List, [], ◌∷◌, ◌++◌, true, false, map, drop, refl, sym, ap, subst, append_assoc, append-nil}
+use Rattle.std.specs.Prelude.{ℤ, codes, bytes_eq, ◌||◌, if◌then◌else◌}
 use Rattle.pm_bytes.specs.declared.environment.Environ.{Environ}
 use Rattle.pm_bytes.specs.declared.environment.Pair.{Pair}
 use Rattle.pm_message.specs.FromLine.{makes_line, prepared_of}
@@ -27,7 +26,7 @@ use Rattle.pm_meaning.specs.Delivering.{is_without}
 use Rattle.pm_meaning.specs.FirstValues.{login_name, home_folder, first_process}
 use Rattle.pm_meaning.specs.Minds.{Mind}
 use Rattle.pm_meaning.specs.Turns.{Turn, GoesOn}
-use Rattle.pm_meaning.specs.Running.{State, Event, Arrived, Setting, Opening, OpeningRule, begun, dated, home_by, set_by_word, mind_in, named_rcfile, in_home, rcfiles_of, sets_folder, opening_of, step}
+use Rattle.pm_meaning.specs.Running.{State, Event, Arrived, Setting, Opening, begun, dated, home_by, set_by_word, mind_in, named_rcfile, in_home, rcfiles_of, sets_folder, opening_of, step}
 use Rattle.pm_meaning.specs.declared.command_line.CommandLine.{CommandLine}
 use Rattle.pm_meaning.proofs.Choices.{choose_then, choose_else, then_out, else_out}
 use Rattle.pm_run.specs.Ends.{rule_of_opening}

@@ -9,14 +9,13 @@ use Rattle.pm_journal.specs.Entries.{View}
 use Rattle.pm_journal.specs.LogText.{couldnt_chdir_line, unusable_name_line, host_mismatched_line}
 use Rattle.pm_journal.specs.declared.acts.Act.TheVariants.{Probe}
 use Rattle.pm_journal.specs.declared.acts.Reply.TheVariants.{Found}
-use Rattle.pm_subst.specs.Commands.{commands_in}
 use Rattle.pm_subst.specs.declared.kinds.Mode.TheVariants.{One}
 use Rattle.pm_journal.specs.Plan.{Plan, Ends, and_then, ask}
 use Rattle.pm_journal.specs.Executed.{Executes, OutOfMemory}
 use Rattle.pm_meaning.specs.Changes.{with_variable, without_variable, with_base}
-use Rattle.pm_meaning.specs.Outputs.{Outputs, outputs_of}
+use Rattle.pm_meaning.specs.Outputs.{Outputs}
 use Rattle.pm_meaning.specs.Turns.{Turn, GoesOn, Halts, EndsFile, say_then, refuse_name, is_too_long, skip_value}
-use Rattle.pm_meaning.specs.Assigning.{value_in, probed, change_folder, include_rcfile, switch_rcfile, change_host, shift_arguments, change_rcfile, change_other, assigned, assign_with, assign, unset}
+use Rattle.pm_meaning.specs.Assigning.{value_in, probed, change_folder, include_rcfile, switch_rcfile, change_host, shift_arguments, change_rcfile, change_other, assigned, assign_with, unset}
 use Rattle.pm_meaning.specs.GlobalLock.{drop_lock, change_lock}
 use Rattle.pm_meaning.specs.Texts.{is_empty, is_file_text}
 use Rattle.pm_meaning.specs.Logging.{log, logged}

@@ -1,6 +1,6 @@
 -- Copies of a process that are made for blocks.
-use Rattle.std.proofs.Common.{◌≡◌, ◌≤◌, ◌<◌, ◌+◌, ℕ, true, false, List, [], ◌∷◌, ◌++◌, Option, ◌∙◌, map, length, refl, sym, ap, subst, arith}
-use Rattle.std.specs.Prelude.{◌-◌, nat_le, if◌then◌else◌}
+use Rattle.std.proofs.Common.{◌≡◌, ◌≤◌, ◌<◌, ◌+◌, ℕ, true, false, List, [], ◌∷◌, ◌++◌, ◌∙◌, map, refl, sym, ap, subst, arith}
+use Rattle.std.specs.Prelude.{nat_le, if◌then◌else◌}
 use Rattle.std.proofs.lemmas.Bool.Decides.{nat_tests}
 use Rattle.pm_recipe.specs.Tree.{Trees}
 use Rattle.pm_journal.specs.JournalState.{JournalState}
@@ -12,11 +12,11 @@ use Rattle.pm_journal.proofs.WalkJoin.{reaches_once}
 use Rattle.pm_journal.proofs.WantsMemory.{executes_nothing, out_anywhere}
 use Rattle.pm_meaning.specs.Chains.{succeeded}
 use Rattle.pm_meaning.specs.Minds.{Mind}
-use Rattle.pm_meaning.specs.Courses.{Others, Course, now_at, with_copy, make_clone, advance}
-use Rattle.pm_meaning.specs.Running.{State, Item, Event, Running, Cloning, Refusing, Task, clone_of, step}
+use Rattle.pm_meaning.specs.Courses.{Others, Course, now_at, with_copy, advance}
+use Rattle.pm_meaning.specs.Running.{State, Item, Event, Running, Cloning, Refusing, clone_of, step}
 use Rattle.pm_meaning.specs.declared.ending.Ending.{Ending}
 use Rattle.pm_run.specs.Copies.{task_of, others_of}
-use Rattle.pm_run.specs.declared.queue.Copy.{Copy}
+use Rattle.pm_run.specs.declared.task.Copy.{Copy}
 use Rattle.pm_run.specs.declared.queue.Queue.{Queue}
 use Rattle.pm_run.specs.RunningOut.{MayRunOut}
 use Rattle.pm_run.proofs.RunOutLemmas.{ran_out_at_once}

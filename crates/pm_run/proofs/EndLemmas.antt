@@ -8,9 +8,8 @@ use Rattle.pm_vars.specs.Variables.{value_of, with_value}
 use Rattle.pm_vars.specs.Table.{Table}
 use Rattle.pm_journal.specs.JournalState.{JournalState}
 use Rattle.pm_journal.specs.Entries.{View}
-use Rattle.pm_journal.specs.LogText.{unusable_name_line, value_too_long_line}
 use Rattle.pm_journal.specs.Outcomes.{run_end}
-use Rattle.pm_journal.specs.Plan.{Plan, Ends, and_then, ask}
+use Rattle.pm_journal.specs.Plan.{Plan, Ends, ask}
 use Rattle.pm_journal.specs.Executed.{Executes, OutOfMemory}
 use Rattle.pm_journal.specs.Walking.{Next, Go, Reaches}
 use Rattle.pm_journal.specs.declared.acts.Act.TheVariants.{Run}
@@ -22,7 +21,7 @@ use Rattle.pm_meaning.specs.GlobalLock.{give_named}
 use Rattle.pm_meaning.specs.Locks.{value_or}
 use Rattle.pm_meaning.specs.Logging.{log, logged}
 use Rattle.pm_meaning.specs.Minds.{Mind}
-use Rattle.pm_meaning.specs.Outputs.{tell_run, run_fault, Read, read_line}
+use Rattle.pm_meaning.specs.Outputs.{tell_run, run_fault, Read}
 use Rattle.pm_meaning.specs.Programs.{code_of, with_code, with_exit_code}
 use Rattle.pm_meaning.specs.Turns.{say_then}
 use Rattle.pm_meaning.specs.declared.process.End.{End}

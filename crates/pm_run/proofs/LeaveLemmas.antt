@@ -1,5 +1,5 @@
 -- Blocks that are left.
-use Rattle.std.proofs.Common.{◌≡◌, ◌<◌, ◌≤◌, ◌+◌, ◌∙◌, true, false, List, ℕ, [], ◌∷◌, ◌++◌, length, Option, Some, None, refl, sym, ap, subst, arith}
+use Rattle.std.proofs.Common.{◌≡◌, ◌<◌, ◌≤◌, ◌∙◌, true, false, List, ℕ, [], ◌∷◌, ◌++◌, length, Option, Some, None, refl, sym, ap, subst, arith}
 use Rattle.pm_journal.specs.JournalState.{JournalState}
 use Rattle.pm_journal.specs.Entries.{View}
 use Rattle.pm_journal.specs.Held.{holds_name}
@@ -29,7 +29,7 @@ use Rattle.pm_run.specs.RunningOut.{MayRunOut, RunsOut, HinderedSince}
 use Rattle.pm_run.proofs.RunOutLemmas.{ran_out_then}
 use Rattle.pm_run.specs.Frames.{block_locks, outer_locks, left_outside, left_in, left_over}
 use Rattle.pm_run.specs.declared.frames.Open.{Open}
-use Rattle.pm_run.specs.declared.frames.RcFrame.{RcFrame}
+use Rattle.pm_run.specs.declared.frames.Frames.{Frames}
 use Rattle.pm_run.specs.declared.frames.Waiting.{Waiting}
 
 abbrev Onward : Type 0
@@ -88,16 +88,16 @@ module _ (s : State) (locks : List (Option (List ℕ))) (items : List Item) (p :
 pub frame_locks : (blocks rest : List Open) (block : Open) (outer : List (Option (List ℕ))) → blocks ≡ block ∷ rest → block_locks blocks ++ outer ≡ block.lock ∷ block_locks rest ++ outer
 frame_locks blocks rest block outer e = ap (λ l. block_locks l ++ outer) e
 
-pub blocks_fewer : (f g : RcFrame) (block : Open) → f.blocks.items ≡ block ∷ g.blocks.items → g.code ≡ f.code → g.place ≡ f.place → g.outer ≡ f.outer → left_in g < left_in f
+pub blocks_fewer : (f g : Frames) (block : Open) → f.blocks.items ≡ block ∷ g.blocks.items → g.code ≡ f.code → g.place ≡ f.place → g.outer ≡ f.outer → left_in g < left_in f
 blocks_fewer f g block b c k o = omega (arith, ap length b, ap (λ q. length q.steps.items) c, k, ap (λ q. left_outside q.items) o)
 
 -- no more is left than before
-pub blocks_left : (first f g : RcFrame) (block : Open) → f.blocks.items ≡ block ∷ g.blocks.items → g.code ≡ f.code → g.place ≡ f.place → g.outer ≡ f.outer → left_in f ≤ left_in first → left_in g ≤ left_in first
+pub blocks_left : (first f g : Frames) (block : Open) → f.blocks.items ≡ block ∷ g.blocks.items → g.code ≡ f.code → g.place ≡ f.place → g.outer ≡ f.outer → left_in f ≤ left_in first → left_in g ≤ left_in first
 blocks_left first f g block b c k o h =
     let fewer = blocks_fewer f g block b c k o in
     omega (arith, fewer, h)
 
-pub none_left : (first f g k : RcFrame) → f.blocks.items ≡ g.blocks.items → g.code ≡ f.code → g.place ≡ f.place → g.outer ≡ f.outer → left_in k ≤ left_in g → left_in f ≤ left_in first → left_in k ≤ left_in first
+pub none_left : (first f g k : Frames) → f.blocks.items ≡ g.blocks.items → g.code ≡ f.code → g.place ≡ f.place → g.outer ≡ f.outer → left_in k ≤ left_in g → left_in f ≤ left_in first → left_in k ≤ left_in first
 none_left first f g k b c e o less h = omega (arith, ap length b, ap (λ q. length q.steps.items) c, e, ap (λ q. left_outside q.items) o, less, h)
 
 -- the rcfile that waits first is left next
@@ -159,5 +159,5 @@ pub halts_off : (s : State) (end : End) (q : Mind) (x y : JournalState) (a b : V
 halts_off s end q x y a b is h = subst (λ e. Reaches {X = Event} step s (left_by e q) x y a b) is h
 
 -- what is left over, where no rcfile was opened
-pub same_left : (n m : ℕ) (f g : RcFrame) → m ≡ n → left_in g ≤ left_in f → left_over m g ≤ left_over n f
+pub same_left : (n m : ℕ) (f g : Frames) → m ≡ n → left_in g ≤ left_in f → left_over m g ≤ left_over n f
 same_left n m f g e h = subst (λ c. left_over c g ≤ left_over n f) (sym e) (omega (arith, h))

@@ -22,3 +22,15 @@ mod DraftLemmas
 pub mod FrameLemmas
 pub mod CopyLemmas
 mod CopyRows
+mod TaskLemmas
+mod Always
+mod NamesOnce
+mod Kept
+mod KeptOutputs
+mod KeptDeliveries
+mod KeptPrograms
+mod KeptConditions
+mod KeptStatements
+mod RightSteps
+mod RightRuns
+mod HeldLockRows

@@ -1,10 +1,10 @@
 -- Where memory may be wanting.
-use Rattle.std.proofs.Common.{◌≡◌, ◌⊎◌, ◌∙◌, Bool, true, false, List, ℕ, [], ◌∷◌, ◌++◌, Result, Ok, Err, OnErr, inl, inr, refl, sym, ap, subst, append-nil, append_assoc}
+use Rattle.std.proofs.Common.{◌≡◌, ◌⊎◌, ◌∙◌, true, List, ℕ, [], ◌∷◌, ◌++◌, inl, inr, refl, sym, ap, subst, append-nil, append_assoc}
 use Rattle.std.specs.Prelude.{◌||◌}
 use Rattle.std.proofs.lemmas.List.{append_cancel_left}
-use Rattle.pm_recipe.specs.Tree.{Top, Trees, Tree, Assign, Unset, Recipe, Defect, Act, Mailbox, Pipe, Capture, Forward, WriteOut, Block}
+use Rattle.pm_recipe.specs.Tree.{Top, Tree, Assign, Unset, Recipe, Defect, Act, Block}
 use Rattle.pm_recipe.specs.declared.tree.Flags.{Flags}
-use Rattle.pm_code.specs.Flat.{Flat, Does}
+use Rattle.pm_code.specs.Flat.{Does}
 use Rattle.pm_journal.specs.JournalState.{JournalState}
 use Rattle.pm_journal.specs.Entries.{View}
 use Rattle.pm_journal.specs.Noted.{NotesAct}
@@ -14,8 +14,6 @@ use Rattle.pm_journal.specs.declared.acts.Act.{Act as HostAct}
 use Rattle.pm_journal.specs.declared.acts.Act.TheVariants.{Unlock}
 use Rattle.pm_journal.specs.declared.acts.Entry.{Entry}
 use Rattle.pm_journal.specs.declared.acts.Reply.{Reply}
-use Rattle.pm_meaning.specs.Delivering.{no_flags}
-use Rattle.pm_meaning.specs.Judging.{judge_first}
 use Rattle.pm_meaning.specs.Locks.{is_fault}
 use Rattle.pm_meaning.specs.Minds.{Mind}
 use Rattle.pm_meaning.specs.Running.{Running, Item, Do, BlockEnd, FileEnd}

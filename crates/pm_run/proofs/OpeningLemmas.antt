@@ -1,6 +1,6 @@
 -- The rcfiles of the command line, one after the other.
-use Rattle.std.proofs.Common.{◌≡◌, ◌<◌, ◌≤◌, ◌+◌, ◌∙◌, ℕ, Bool, List, [], ◌∷◌, true, false, Option, Some, None, length, drop, refl, sym, ap, subst, arith}
-use Rattle.std.specs.Prelude.{◌-◌, ◌*◌, ◌^◌, nat_le, nat_eq, codes, not, ◌&&◌, if◌then◌else◌}
+use Rattle.std.proofs.Common.{◌≡◌, ◌<◌, ◌≤◌, ◌+◌, ◌∙◌, ℕ, Bool, List, [], ◌∷◌, ◌++◌, true, false, Option, Some, None, length, drop, reverse, refl, sym, ap, subst, arith}
+use Rattle.std.specs.Prelude.{◌^◌, nat_le, nat_eq, codes, not, ◌&&◌, if◌then◌else◌}
 use Rattle.std.specs.List.{starts_with}
 use Rattle.std.proofs.lemmas.Bool.Decides.{nat_tests}
 use Rattle.pm_journal.specs.Contents.{content_of}
@@ -30,17 +30,19 @@ use Rattle.pm_meaning.specs.Changes.{with_base, with_variable, with_rcfile, open
 use Rattle.pm_meaning.specs.Logging.{log, logged}
 use Rattle.pm_meaning.specs.Minds.{Mind}
 use Rattle.pm_meaning.specs.Turns.{say_then}
-use Rattle.pm_meaning.specs.declared.process.End.{End}
 use Rattle.pm_meaning.specs.declared.process.End.TheVariants.{NoRc, HostOff}
-use Rattle.pm_meaning.specs.Running.{State, Event, Running, Over, Opening, OpeningRule, ahead, entered, is_first, is_missing, with_later, left_by, without_rcfile, open_next, after_read, pass_over, step}
+use Rattle.pm_meaning.specs.Running.{State, Event, Running, Over, Opening, OpeningRule, ahead, entered, is_first, is_missing, with_later, left_by, open_next, after_read, pass_over, step}
 use Rattle.pm_run.specs.Frames.{weave, items_of, outer_items, left_outside, left_in, left_over}
 use Rattle.pm_run.specs.declared.frames.Open.{Open}
-use Rattle.pm_run.specs.declared.frames.RcFrame.{RcFrame}
+use Rattle.pm_run.specs.declared.frames.Frames.{Frames}
 use Rattle.pm_run.specs.declared.frames.Waiting.{Waiting}
 use Rattle.pm_journal.specs.Acts.{ReadsWhole}
 use Rattle.pm_meaning.proofs.Choices.{choose_then, choose_else, then_out, else_out, line_told, line_out}
-use Rattle.pm_run.specs.Ends.{IsCode}
-use Rattle.pm_run.specs.Opening.{OpensTo, OpensOne, OpensCode, ReadsContent, PassesOn, ReadsTo, ReadsOne, ReadsCode, PassesTo, PassesOver}
+use Rattle.pm_run.specs.Ends.{IsCode, opened_at}
+use Rattle.std.proofs.lemmas.List.{reverse-append}
+use Rattle.pm_run.specs.declared.opening.Opened.{Opened}
+use Rattle.pm_run.specs.declared.opening.Opened.TheVariants.{Read as OpenedRead, Ended as OpenedEnded, Nothing as OpenedNothing}
+use Rattle.pm_run.specs.Opening.{OpensTo, OpensOne, OpensFrom, OpensCode, ReadsTo, ReadsOne, ReadsCode, PassesTo, PassesOver}
 use Rattle.pm_run.specs.declared.opening.Tried.{Tried}
 use Rattle.pm_run.specs.declared.opening.Tried.TheVariants.{Content as TriedContent, Ends as TriedEnds, Passed}
 
@@ -205,6 +207,10 @@ openings_by false name p q e = ap (λ (m : Mind). m.openings) e
 pub openings_entered : (o : OpeningRule) (name : List ℕ) (p q : Mind) → q ≡ entered o name p → q.openings ≡ p.openings
 openings_entered o name p q e = openings_by (is_first p && starts_with nat_eq name (codes "./") && not o.keeps_folder) name p q e
 
+-- the last of these names comes first
+pub last_first : (names rest : List (List ℕ)) (name : List ℕ) → names ≡ rest ++ name ∷ [] → reverse names ≡ name ∷ reverse rest
+last_first names rest name e = ap reverse e ∙ reverse-append rest (name ∷ [])
+
 -- from these rcfiles on: one of them was tried
 module _ (s : State) (o : OpeningRule) (items rest : List (List ℕ)) (name : List ℕ) (p q : Mind) (x y z : JournalState) (a b c : View) (e : items ≡ name ∷ rest) (h : Reaches {X = Event} step s (Opening o items p) x y a b) where
   reached : Reaches {X = Event} step s (Opening o (name ∷ rest) p) x y a b
@@ -250,7 +256,7 @@ later_state p names none n e =
     let o : OpeningRule = record { is_implied = false; keeps_folder = true } in
     ap (λ l. Opening o l (with_later none p)) n ∙ ap (λ l. Opening o p.later (with_later l p)) e
 
-pub later_reads : (s t : State) (code : Code) (f : RcFrame) (q : Mind) (x y : JournalState) (a b : View) → s ≡ t → OpensCode s code q x y a b → ((trees : Trees) → IsCode code trees → items_of f ≡ ahead trees [])
+pub later_reads : (s t : State) (code : Code) (f : Frames) (q : Mind) (x y : JournalState) (a b : View) → s ≡ t → OpensCode s code q x y a b → ((trees : Trees) → IsCode code trees → items_of f ≡ ahead trees [])
     → Reaches {X = Event} step t (Running (items_of f) q) x y a b
 later_reads s t code f q x y a b e h k =
     subst (λ v. Reaches {X = Event} step v (Running (items_of f) q) x y a b) e
@@ -265,7 +271,7 @@ wants_from s t x y a b e h = subst (λ v. RunsOut {X = Event} step MayRunOut v x
 small_code : (code : Code) → length code.steps.items < 2 ^ 63
 small_code code = omega (arith, code.steps.ok, code.steps.small)
 
-pub later_falls : (n m : ℕ) (f g : RcFrame) → n < m → m ≤ 256 → g.place ≡ 0 → g.blocks.items ≡ [] → g.outer.items ≡ [] → left_over m g + 1 ≤ left_over n f
+pub later_falls : (n m : ℕ) (f g : Frames) → n < m → m ≤ 256 → g.place ≡ 0 → g.blocks.items ≡ [] → g.outer.items ≡ [] → left_over m g + 1 ≤ left_over n f
 later_falls n m f g h k place blocks outer =
     let left : left_in g + 1 ≤ 2 ^ 66 = omega (arith, small_code g.code, place, ap length blocks, ap left_outside outer) in
     omega (arith, h, k, left)
@@ -290,3 +296,17 @@ reading_wants_first o name p x s = λ names. out_anywhere (and_then (ask (ReadFi
 
 pub opening_wants_first : (o : OpeningRule) (name : List ℕ) (p : Mind) (x : JournalState) (s : View) → (names : List (List ℕ)) → OutOfMemory (open_next o (name ∷ names) p) x x s s
 opening_wants_first o name p x s = λ names. out_anywhere (open_next o (name ∷ names) p) x x s refl
+
+-- where the process stands once its first rcfile was read, or none was
+pub opened_reaches : (s : State) (opened : Opened) (p : Mind) (x y : JournalState) (a b : View) → OpensFrom s opened p x y a b → Reaches {X = Event} step s (opened_at opened p) x y a b
+opened_reaches s (OpenedRead code) p x y a b h =
+    subst (λ items. Reaches {X = Event} step s (Running items p) x y a b) (sym (ap (λ l. weave (lists_of l) [] []) h.is_code ∙ ap (λ l. weave l [] []) (lists-whole h.trees))) h.reaches
+opened_reaches s (OpenedEnded end) p x y a b h = h
+opened_reaches s OpenedNothing p x y a b h = h
+
+-- an rcfile that begins, by its code
+pub begun_frame : (f : Frames) (code : Code) → f.place ≡ 0 → f.code ≡ code → f.blocks.items ≡ [] → f.outer.items ≡ [] → items_of f ≡ weave (lists_of (flats_of code.steps.items)) [] []
+begun_frame f code k c b o =
+    ap (λ n. weave (lists_of (drop n (flats_of f.code.steps.items))) f.blocks.items (outer_items f.outer.items)) k
+    ∙ ap (λ q. weave (lists_of (flats_of q.steps.items)) f.blocks.items (outer_items f.outer.items)) c
+    ∙ ap (λ l. weave (lists_of (flats_of code.steps.items)) l (outer_items f.outer.items)) b ∙ ap (λ l. weave (lists_of (flats_of code.steps.items)) [] (outer_items l)) o

@@ -1,10 +1,10 @@
 -- One process after another.
-use Rattle.std.proofs.Common.{◌≡◌, ℕ, List, [], ◌∷◌, ◌++◌, Option, Some, None, ◌∙◌, map, length, refl, sym, ap, subst}
+use Rattle.std.proofs.Common.{◌≡◌, ℕ, List, [], ◌∷◌, Option, Some, None, ◌∙◌, map, refl, sym, ap, subst}
 use Rattle.pm_journal.specs.JournalState.{JournalState}
 use Rattle.pm_journal.specs.Entries.{View}
 use Rattle.pm_journal.specs.Held.{Keeping}
-use Rattle.pm_journal.specs.Plan.{Ends, and_then}
-use Rattle.pm_journal.specs.Executed.{Executes, OutOfMemory, GivesEach}
+use Rattle.pm_journal.specs.Plan.{Ends}
+use Rattle.pm_journal.specs.Executed.{Executes, GivesEach}
 use Rattle.pm_journal.specs.Walking.{Next, Stop, Go, Reaches, Completes}
 use Rattle.pm_journal.proofs.ActPlans.{executes_then}
 use Rattle.pm_journal.proofs.WalkJoin.{reaches_itself, reaches_once, reaches_then, completes_then, completes_reached}
@@ -14,9 +14,9 @@ use Rattle.pm_meaning.specs.Courses.{Others, Course, now_at, resumed, next_proce
 use Rattle.pm_meaning.specs.Running.{State, Event, Ended, Running, Closing, unlock_each, step}
 use Rattle.pm_meaning.specs.declared.ending.Ending.{Ending}
 use Rattle.pm_meaning.proofs.Unlocks.{unlocks_played}
-use Rattle.pm_run.specs.Frames.{items_of}
+use Rattle.pm_run.specs.Nested.{frame_of, items_in}
 use Rattle.pm_run.specs.Copies.{task_of, others_of}
-use Rattle.pm_run.specs.declared.queue.Copy.{Copy}
+use Rattle.pm_run.specs.declared.task.Copy.{Copy}
 use Rattle.pm_run.specs.declared.queue.Queue.{Queue}
 use Rattle.pm_run.specs.Others.{next_in, GoesOn, GivesUp}
 use Rattle.pm_run.specs.RunningOut.{RunMayRunOut, RunsOut, GaveUp}
@@ -81,10 +81,10 @@ goes_itself (Stop end) x a = (refl, refl, refl)
 
 -- the first of the copies comes next
 pub next_is : (queue popped : Queue) (copy : Copy) (first : Ending) (counts : Counts) → queue.copies.items ≡ copy ∷ popped.copies.items → popped.made ≡ queue.made
-    → next_in queue first counts ≡ Go (now_at (others_of popped (Some first)) (Running (items_of copy.frame) (resumed (mind_of copy.process) counts.placed counts.openings)))
+    → next_in queue first counts ≡ Go (now_at (others_of popped (Some first)) (Running (items_in (map frame_of copy.frames.items)) (resumed (mind_of copy.process) counts.placed counts.openings)))
 next_is queue popped copy first counts e same =
     ap (λ l. next_process (map task_of l) queue.made first counts.placed counts.openings) e
-    ∙ ap (λ n. Go (now_at (record { queue = map task_of popped.copies.items; made = n; first = Some first }) (Running (items_of copy.frame) (resumed (mind_of copy.process) counts.placed counts.openings)))) (sym same)
+    ∙ ap (λ n. Go (now_at (record { queue = map task_of popped.copies.items; made = n; first = Some first }) (Running (items_in (map frame_of copy.frames.items)) (resumed (mind_of copy.process) counts.placed counts.openings)))) (sym same)
 
 -- or the end, once none is left
 pub none_next : (queue : Queue) (first : Ending) (counts : Counts) → queue.copies.items ≡ [] → next_in queue first counts ≡ Stop first
@@ -106,7 +106,7 @@ closes_to queue was first ending counts p x y a b e c o k =
 module _ (n : After) (queue popped later : Queue) (copy : Copy) (first : Ending) (counts : Counts) (x y z : JournalState) (a b e : View) (items : queue.copies.items ≡ copy ∷ popped.copies.items) (same : popped.made ≡ queue.made)
     (before : GoesOn n (next_in queue first counts) x y a b) where
   abbrev begins : State
-  begins = Running (items_of copy.frame) (resumed (mind_of copy.process) counts.placed counts.openings)
+  begins = Running (items_in (map frame_of copy.frames.items)) (resumed (mind_of copy.process) counts.placed counts.openings)
 
   came : GoesOn n (Go (now_at (others_of popped (Some first)) begins)) x y a b
   came = subst (λ m. GoesOn n m x y a b) (next_is queue popped copy first counts items same) before

@@ -1,6 +1,6 @@
 -- Rcfiles that are opened by others.
 use Rattle.std.proofs.Common.{◌≡◌, ◌<◌, ◌≤◌, ◌+◌, ◌∙◌, ℕ, List, [], ◌∷◌, true, false, Option, Some, None, Result, Ok, Err, IfOk, OnErr, length, drop, refl, sym, ap, subst, arith}
-use Rattle.std.specs.Prelude.{◌-◌, ◌*◌, ◌^◌, nat_le, if◌then◌else◌}
+use Rattle.std.specs.Prelude.{◌-◌, ◌*◌, ◌^◌, nat_le}
 use Rattle.std.proofs.lemmas.Bool.Decides.{nat_tests}
 use Rattle.std.proofs.lemmas.List.{drop_all, length-map}
 use Rattle.pm_journal.specs.Contents.{content_of}
@@ -30,14 +30,13 @@ use Rattle.pm_meaning.specs.Chains.{new_chain, with_chain}
 use Rattle.pm_meaning.specs.Blocks.{begun_block}
 use Rattle.pm_meaning.specs.Changes.{with_rcfile, opened}
 use Rattle.pm_meaning.specs.Minds.{Mind}
-use Rattle.pm_meaning.specs.Running.{State, Item, FileEnd, Running, Including, Switching, LeavingFile, ahead, Reading, with_statements, open_rcfile, included, switched, locks_in_file, behind_file, step, Event}
+use Rattle.pm_meaning.specs.Running.{State, Item, FileEnd, Running, Including, Switching, LeavingFile, ahead, Reading, with_statements, open_rcfile, included, switched, behind_file, step, Event}
 use Rattle.pm_meaning.specs.Turns.{say_then}
 use Rattle.pm_journal.specs.Acts.{ReadsWhole}
 use Rattle.pm_meaning.proofs.Choices.{choose_then, choose_else, then_out, else_out}
 use Rattle.pm_run.specs.Frames.{weave, steps_of, items_of, outer_items, block_locks, left_outside, left_in, left_over}
-use Rattle.pm_run.specs.Rcfiles.{waiting, GoesInto, TakesPlace, HasCode, ReadsCode, OpensSome, OpensNone, Opens}
-use Rattle.pm_run.specs.declared.frames.Open.{Open}
-use Rattle.pm_run.specs.declared.frames.RcFrame.{RcFrame}
+use Rattle.pm_run.specs.Rcfiles.{GoesInto, TakesPlace, HasCode, ReadsCode, OpensSome, OpensNone, Opens}
+use Rattle.pm_run.specs.declared.frames.Frames.{Frames}
 use Rattle.pm_run.proofs.FrameLemmas.{in_file_woven, behind_woven, weave_over}
 use Rattle.pm_run.proofs.WalkLemmas.{whole_items}
 
@@ -167,11 +166,11 @@ none_included name rest p q x y a b h = reaches_once step (Including name rest p
 pub none_switched : (name : List ℕ) (rest : List Item) (p q : Mind) (x y : JournalState) (a b : View) → OpensNone name p q x y a b → Reaches {X = Event} step (Switching name rest p) (Running rest q) x y a b
 none_switched name rest p q x y a b h = reaches_once step (Switching name rest p) (Running rest q) x y a b (h.opens rest (switched name rest))
 
-pub none_falls : (n m : ℕ) (f : RcFrame) → n ≤ m → left_over m f ≤ left_over n f
+pub none_falls : (n m : ℕ) (f : Frames) → n ≤ m → left_over m f ≤ left_over n f
 none_falls n m f h = omega (arith, h)
 
 -- the statements of code that begins, with these rcfiles after it
-begun_items : (g : RcFrame) (code : Code) (trees : Trees) → g.code ≡ code → g.place ≡ 0 → g.blocks.items ≡ [] → flats_of code.steps.items ≡ written 0 trees → ahead trees (outer_items g.outer.items) ≡ items_of g
+begun_items : (g : Frames) (code : Code) (trees : Trees) → g.code ≡ code → g.place ≡ 0 → g.blocks.items ≡ [] → flats_of code.steps.items ≡ written 0 trees → ahead trees (outer_items g.outer.items) ≡ items_of g
 begun_items g code trees c k b w =
     let rest = outer_items g.outer.items in
     sym (whole_items (flats_of code.steps.items) trees [] rest w refl) ∙ ap (λ q. weave (lists_of (drop 0 (flats_of q.steps.items))) [] rest) (sym c)
@@ -181,7 +180,7 @@ small_code : (code : Code) → length code.steps.items < 2 ^ 63
 small_code code = omega (arith, code.steps.ok, code.steps.small)
 
 -- an rcfile was opened and included
-module _ (name : List ℕ) (code : Code) (f : RcFrame) (p q : Mind) (x y : JournalState) (a b : View) (h : OpensSome name code p q x y a b) where
+module _ (name : List ℕ) (code : Code) (f : Frames) (p q : Mind) (x y : JournalState) (a b : View) (h : OpensSome name code p q x y a b) where
   abbrev within : Onward
   within = included name (items_of f) h.trees q
 
@@ -189,14 +188,14 @@ module _ (name : List ℕ) (code : Code) (f : RcFrame) (p q : Mind) (x y : Journ
   some_wants = reached_wants (Including name (items_of f) p) (ahead h.trees (FileEnd q.rcfile ∷ items_of f)) (with_rcfile name q) x y a b
       (reaches_once step (Including name (items_of f) p) (Running (ahead h.trees (FileEnd q.rcfile ∷ items_of f)) (with_rcfile name q)) x y a b (h.opens (items_of f) (included name (items_of f))))
 
-  pub some_included : (g : RcFrame) (r : Mind) → GoesInto name code f g q r → Reaches {X = Event} step (Including name (items_of f) p) (Running (items_of g) r) x y a b
+  pub some_included : (g : Frames) (r : Mind) → GoesInto name code f g q r → Reaches {X = Event} step (Including name (items_of f) p) (Running (items_of g) r) x y a b
   some_included g r into =
       let same : ahead h.trees (FileEnd q.rcfile ∷ items_of f) ≡ items_of g =
       ap (λ ws. ahead h.trees (outer_items ws)) (sym into.outer) ∙ begun_items g code h.trees into.code_is into.place into.blocks h.has_code in
       let next : within ≡ Go (Running (items_of g) r) = ap (λ items. Go (Running items (with_rcfile name q))) same ∙ ap (λ m. Go (Running (items_of g) m)) (sym into.mind) in
       reaches_once step (Including name (items_of f) p) (Running (items_of g) r) x y a b (subst (λ n. Executes (open_rcfile name (items_of f) p (included name (items_of f))) n x y a b) next (h.opens (items_of f) (included name (items_of f))))
 
-  pub some_falls : (g : RcFrame) (r : Mind) → GoesInto name code f g q r → left_over r.openings g ≤ left_over p.openings f
+  pub some_falls : (g : Frames) (r : Mind) → GoesInto name code f g q r → left_over r.openings g ≤ left_over p.openings f
   some_falls g r into =
       let count : r.openings ≡ p.openings + 1 = ap (λ (m : Mind). m.openings) into.mind ∙ h.counted in
       let outside : left_outside g.outer.items ≡ 1 + 2 * (length f.code.steps.items - f.place) + length f.blocks.items + left_outside f.outer.items = ap left_outside into.outer in
@@ -214,10 +213,10 @@ module _ (name : List ℕ) (code : Code) (f : RcFrame) (p q : Mind) (x y : Journ
       ∙ ap (λ items. Go (LeavingFile (block_locks f.blocks.items) (ahead h.trees items) mind)) (behind_woven lists f.blocks.items f.outer.items) in
       reaches_once step (Switching name (items_of f) p) to x y a b (subst (λ n. Executes (open_rcfile name (items_of f) p (switched name (items_of f))) n x y a b) same (h.opens (items_of f) (switched name (items_of f))))
 
-  pub place_taken : (g : RcFrame) → TakesPlace code f g → ahead h.trees (outer_items f.outer.items) ≡ items_of g
+  pub place_taken : (g : Frames) → TakesPlace code f g → ahead h.trees (outer_items f.outer.items) ≡ items_of g
   place_taken g takes = ap (λ ws. ahead h.trees (outer_items ws.items)) (sym takes.outer) ∙ begun_items g code h.trees takes.code_is takes.place takes.blocks h.has_code
 
-  pub place_falls : (g : RcFrame) (count : ℕ) → count ≡ q.openings → TakesPlace code f g → left_over count g ≤ left_over p.openings f
+  pub place_falls : (g : Frames) (count : ℕ) → count ≡ q.openings → TakesPlace code f g → left_over count g ≤ left_over p.openings f
   place_falls g count is takes =
       let left : left_in g ≤ left_in f + 2 ^ 66 = omega (arith, small_code code, ap (λ c. length c.steps.items) takes.code_is, takes.place, ap length takes.blocks, ap (λ o. left_outside o.items) takes.outer) in
       omega (arith, h.few, is, h.counted, left)
@@ -231,13 +230,13 @@ pub taken : (name : List ℕ) (p : Mind) (vars : Table) (chain : Chain) (P : Min
 taken name p vars chain P v c h = subst P (taken_mind name p vars chain v c) h
 
 -- nothing is left of the current rcfile
-pub ended_items : (f g : RcFrame) → g.code ≡ f.code → length f.code.steps.items ≤ g.place → g.blocks.items ≡ [] → g.outer ≡ f.outer → outer_items f.outer.items ≡ items_of g
+pub ended_items : (f g : Frames) → g.code ≡ f.code → length f.code.steps.items ≤ g.place → g.blocks.items ≡ [] → g.outer ≡ f.outer → outer_items f.outer.items ≡ items_of g
 ended_items f g c k b o =
     let long : length (steps_of g) ≤ g.place = omega (arith, k, ap (λ q. length q.steps.items) c, length-map g.code.steps.items flat_of) in
     ap (λ q. outer_items q.items) (sym o) ∙ sym (weave_over (drop g.place (steps_of g)) (outer_items g.outer.items) (drop_all g.place (steps_of g) long))
     ∙ ap (λ l. weave (lists_of (drop g.place (steps_of g))) l (outer_items g.outer.items)) (sym b)
 
-pub ended_falls : (f g : RcFrame) (n m : ℕ) → m ≡ n → g.code ≡ f.code → length f.code.steps.items ≤ g.place → g.blocks.items ≡ [] → g.outer ≡ f.outer → left_over m g ≤ left_over n f
+pub ended_falls : (f g : Frames) (n m : ℕ) → m ≡ n → g.code ≡ f.code → length f.code.steps.items ≤ g.place → g.blocks.items ≡ [] → g.outer ≡ f.outer → left_over m g ≤ left_over n f
 ended_falls f g n m e c k b o =
     let left : left_in g ≤ left_in f = omega (arith, k, ap (λ q. length q.steps.items) c, ap length b, ap (λ q. left_outside q.items) o) in
     subst (λ i. left_over i g ≤ left_over n f) (sym e) (omega (arith, left))

@@ -1,11 +1,10 @@
 -- Stretches of a run, one after the other.
-use Rattle.std.proofs.Common.{◌≡◌, ℕ, List, [], ◌∷◌, ◌++◌, Option, ◌∙◌, refl, sym, ap, subst, append_assoc}
+use Rattle.std.proofs.Common.{[], ◌++◌, Option, ◌∙◌, sym, ap, subst, append_assoc}
 use Rattle.pm_journal.specs.JournalState.{JournalState}
 use Rattle.pm_journal.specs.Entries.{View}
 use Rattle.pm_journal.specs.Held.{Keeps, Keeping}
 use Rattle.pm_journal.specs.Plan.{Plan}
-use Rattle.pm_journal.specs.Executed.{Executes, OutOfMemory}
-use Rattle.pm_journal.specs.Walking.{Next, Go, Means, IsUnfinished, Reaches, Abandoned}
+use Rattle.pm_journal.specs.Walking.{Next, Means, IsUnfinished, Reaches, Abandoned}
 use Rattle.pm_journal.proofs.AccountsJoin.{accounts_join}
 use Rattle.pm_journal.proofs.KeepingActs.{keeps_rest}
 use Rattle.pm_journal.proofs.KeepsJoin.{keeps_join}
@@ -88,3 +87,14 @@ runs_walk queue middle s t u x y z a b c h k = runs_run queue middle middle s t 
 
 pub runs_out : (queue middle : Queue) (s t : State) (x y z : JournalState) (a b c : View) → RunsOn queue middle s t x y a b → RunsOut {X = Event} step MayRunOut t y z b c → Breaks queue s x z a c
 runs_out queue middle s t x y z a b c h k = runs_break queue middle s t x y z a b c h (lifted_out middle t y z b c k)
+
+-- after a stretch, whatever came of the first process, comes one of which that is known
+pub runs_here : (queue later : Queue) (s t u : State) (x y z : JournalState) (a b c : View) → RunsOn queue queue s t x y a b → (first : Option Ending)
+    → Reaches {X = Ending} advance (now_at (others_of queue first) t) (now_at (others_of later first) u) y z b c → Reaches {X = Ending} advance (now_at (others_of queue first) s) (now_at (others_of later first) u) x z a c
+runs_here queue later s t u x y z a b c h first k =
+    reaches_on advance (now_at (others_of queue first) s) (now_at (others_of queue first) t) (now_at (others_of later first) u) x y z a b c (h first) k
+
+pub breaks_here : (queue : Queue) (s t : State) (x y z : JournalState) (a b c : View) → RunsOn queue queue s t x y a b → (first : Option Ending)
+    → RunsOut {X = Ending} advance RunMayRunOut (now_at (others_of queue first) t) y z b c → RunsOut {X = Ending} advance RunMayRunOut (now_at (others_of queue first) s) x z a c
+breaks_here queue s t x y z a b c h first k =
+    ran_out_reached advance RunMayRunOut (now_at (others_of queue first) s) (now_at (others_of queue first) t) x y z a b c (h first) k

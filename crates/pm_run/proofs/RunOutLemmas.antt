@@ -1,10 +1,10 @@
 -- A process that was out of memory, and what came before.
-use Rattle.std.proofs.Common.{◌≡◌, ◌⊎◌, ◌∙◌, ℕ, zero, suc, List, [], ◌∷◌, ◌++◌, Option, Some, None, inl, inr, refl, sym, ap, subst, append_assoc, append-nil}
+use Rattle.std.proofs.Common.{◌≡◌, ◌⊎◌, ◌∙◌, ℕ, zero, suc, List, [], ◌∷◌, ◌++◌, Some, inl, inr, refl, sym, ap, subst, append_assoc, append-nil}
 use Rattle.pm_host.specs.declared.calls.Logged.{Logged}
 use Rattle.pm_journal.specs.JournalState.{JournalState}
 use Rattle.pm_journal.specs.Entries.{View}
 use Rattle.pm_journal.specs.Held.{Keeps, Keeping}
-use Rattle.pm_journal.specs.Plan.{Plan, Ends, and_then, Plays}
+use Rattle.pm_journal.specs.Plan.{Plan, Ends, Plays}
 use Rattle.pm_journal.specs.Executed.{Executes, OutOfMemory, WantsAct, HasEnded, GivesEach}
 use Rattle.pm_journal.specs.Walking.{Next, Stop, Go, reach, IsUnfinished, ArrivesAt, Reaches}
 use Rattle.pm_journal.specs.declared.acts.Entry.{Entry}

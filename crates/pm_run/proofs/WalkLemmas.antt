@@ -1,5 +1,5 @@
 -- One item of an rcfile.
-use Rattle.std.proofs.Common.{◌≡◌, ◌<◌, ◌≤◌, ◌+◌, ◌-◌, ◌*◌, ◌∙◌, ℕ, List, [], ◌∷◌, true, false, Option, Some, None, length, drop, get_or, refl, sym, ap, subst, arith}
+use Rattle.std.proofs.Common.{◌≡◌, ◌<◌, ◌≤◌, ◌+◌, ◌-◌, ◌*◌, ◌∙◌, ℕ, List, [], ◌∷◌, true, false, Option, length, drop, get_or, refl, sym, ap, subst, arith}
 use Rattle.std.proofs.lemmas.List.{drop_more, length-map, get_or-map}
 use Rattle.pm_recipe.specs.Tree.{Top, Trees, Tree, Assign, Unset, Recipe, Defect, Act, Mailbox, Pipe, Capture, Forward, WriteOut, Block}
 use Rattle.pm_recipe.specs.View.{act_of, top_of}
@@ -34,7 +34,7 @@ use Rattle.pm_run.proofs.RunOutLemmas.{ran_out_at_once}
 use Rattle.pm_run.specs.Turned.{turn_in}
 use Rattle.pm_run.specs.Walk.{single, plan_of, gate_turn, stands, stepped_of, IsStepAt, EndsAt, Entered, ComesBack, less_by, IsBehind, StatementMay}
 use Rattle.pm_run.specs.declared.frames.Open.{Open}
-use Rattle.pm_run.specs.declared.frames.RcFrame.{RcFrame}
+use Rattle.pm_run.specs.declared.frames.Frames.{Frames}
 use Rattle.pm_run.specs.declared.frames.Waiting.{Waiting}
 use Rattle.pm_run.specs.declared.gates.Gate.{Gate}
 use Rattle.pm_run.specs.declared.gates.Gate.TheVariants as gate
@@ -66,13 +66,13 @@ none_in items more place h e = subst (λ l. drop place (flats_of l) ≡ []) e h
 pub step_by : (s shown : Step) (steps : List Flat) (place : ℕ) → IsStepAt s steps place → s ≡ shown → drop place steps ≡ flat_of shown ∷ drop (place + 1) steps
 step_by s shown steps place h e = h.ahead ∙ ap (λ q. flat_of q ∷ drop (place + 1) steps) e
 
-pub enter_at : (f : RcFrame) (s : Step) (recipe : CodeRecipe) (end : ℕ) → IsStepAt s (steps_of f) f.place → s ≡ step_is.Enter recipe end → drop f.place (steps_of f) ≡ Enters (top_of recipe) end ∷ drop (f.place + 1) (steps_of f)
+pub enter_at : (f : Frames) (s : Step) (recipe : CodeRecipe) (end : ℕ) → IsStepAt s (steps_of f) f.place → s ≡ step_is.Enter recipe end → drop f.place (steps_of f) ≡ Enters (top_of recipe) end ∷ drop (f.place + 1) (steps_of f)
 enter_at f s recipe end at e = step_by s (step_is.Enter recipe end) (steps_of f) f.place at e
 
-pub jump_at : (f : RcFrame) (top : Top) (end : ℕ) → drop f.place (steps_of f) ≡ Enters top end ∷ drop (f.place + 1) (steps_of f) → Jumps (steps_of f) f.place end (drop (f.place + 1) (steps_of f))
+pub jump_at : (f : Frames) (top : Top) (end : ℕ) → drop f.place (steps_of f) ≡ Enters top end ∷ drop (f.place + 1) (steps_of f) → Jumps (steps_of f) f.place end (drop (f.place + 1) (steps_of f))
 jump_at f top end e = jumps (steps_of f) f.place top end (drop (f.place + 1) (steps_of f)) f.code.ends e
 
-pub jump_fits : (f : RcFrame) (end : ℕ) (more : List Flat) → Jumps (steps_of f) f.place end more → end < length f.code.steps.items
+pub jump_fits : (f : Frames) (end : ℕ) (more : List Flat) → Jumps (steps_of f) f.place end more → end < length f.code.steps.items
 jump_fits f end more j = subst (λ n. end < n) (length-map f.code.steps.items flat_of) j.within
 
 -- a statement that has no block
@@ -91,7 +91,7 @@ single_is (Defect line text) p h = refl
 single_is (Recipe top act) p h = single_act top act p h
 
 -- what comes of a statement, in an rcfile
-next_by : (tree : Tree) (count : ℕ) (g : RcFrame) (t : Turned) (q : Mind) → next_of tree count (items_of g) (turn_in t q) ≡ Go (stands (stepped_of t) g (with_openings count q))
+next_by : (tree : Tree) (count : ℕ) (g : Frames) (t : Turned) (q : Mind) → next_of tree count (items_of g) (turn_in t q) ≡ Go (stands (stepped_of t) g (with_openings count q))
 next_by tree count g turned.Goes q = refl
 next_by tree count g (turned.Halts end) q = ap (λ l. Go (Leaving l end (with_openings count q))) (locks_all (lists_of (drop g.place (steps_of g))) g.blocks.items g.outer.items)
 next_by tree count g (turned.Includes name) q = refl
@@ -114,12 +114,12 @@ does_one (step_is.Enter recipe end) e l = absurd (e recipe end refl)
 does_one (step_is.Leave enter) e l = absurd (l enter refl)
 
 -- what the step of the machine is at a statement
-statement_step : (f : RcFrame) (tree : Tree) (p : Mind) → drop f.place (steps_of f) ≡ Does tree ∷ drop (f.place + 1) (steps_of f)
+statement_step : (f : Frames) (tree : Tree) (p : Mind) → drop f.place (steps_of f) ≡ Does tree ∷ drop (f.place + 1) (steps_of f)
     → step (Running (items_of f) p) ≡ and_then (statement tree p) (λ turn. Ends (next_of tree p.openings (items_of (record f { place = f.place + 1 })) turn))
 statement_step f tree p e = ap (λ items. step (Running items p)) (weave_does (drop f.place (steps_of f)) tree (drop (f.place + 1) (steps_of f)) f.blocks.items (outer_items f.outer.items) e)
 
 -- the statement at a step, by what it does
-module _ (f : RcFrame) (s : Step) (p : Mind) (at : IsStepAt s (steps_of f) f.place) (d : DoesOne s) where
+module _ (f : Frames) (s : Step) (p : Mind) (at : IsStepAt s (steps_of f) f.place) (d : DoesOne s) where
   ahead_of : drop f.place (steps_of f) ≡ Does d.tree ∷ drop (f.place + 1) (steps_of f)
   ahead_of = at.ahead ∙ ap (λ q. q ∷ drop (f.place + 1) (steps_of f)) d.is
 
@@ -149,7 +149,7 @@ module _ (f : RcFrame) (s : Step) (p : Mind) (at : IsStepAt s (steps_of f) f.pla
       (λ more e. subst (λ i. MayRunOut (Running i p) more) (sym items) (may more e d.tree left d.is))
 
 -- a recipe with a block
-module _ (f : RcFrame) (top : Top) (end : ℕ) (p : Mind) (e : drop f.place (steps_of f) ≡ Enters top end ∷ drop (f.place + 1) (steps_of f)) where
+module _ (f : Frames) (top : Top) (end : ℕ) (p : Mind) (e : drop f.place (steps_of f) ≡ Enters top end ∷ drop (f.place + 1) (steps_of f)) where
   abbrev more : List Flat
   more = drop (f.place + 1) (steps_of f)
 
@@ -182,17 +182,17 @@ module _ (f : RcFrame) (top : Top) (end : ℕ) (p : Mind) (e : drop f.place (ste
       (subst (λ plan. OutOfMemory plan x y a b) (sym gate_step) (out_then gate_plan onto turn x y y a b b h (out_anywhere (onto turn) y y b refl))) (λ more e. gate_may more)
 
   -- the items of another frame
-  items_at : (g : RcFrame) (place : ℕ) → g ≡ record f { place = place } → weave (lists_of (drop place (steps_of f))) f.blocks.items (outer_items f.outer.items) ≡ items_of g
+  items_at : (g : Frames) (place : ℕ) → g ≡ record f { place = place } → weave (lists_of (drop place (steps_of f))) f.blocks.items (outer_items f.outer.items) ≡ items_of g
   items_at g place is = ap items_of (sym is)
 
-  items_in : (g : RcFrame) (saved : Open) → g.code ≡ f.code → g.place ≡ f.place + 1 → g.blocks.items ≡ saved ∷ f.blocks.items → g.outer ≡ f.outer
+  items_in : (g : Frames) (saved : Open) → g.code ≡ f.code → g.place ≡ f.place + 1 → g.blocks.items ≡ saved ∷ f.blocks.items → g.outer ≡ f.outer
       → weave (lists_of more) (saved ∷ f.blocks.items) (outer_items f.outer.items) ≡ items_of g
   items_in g saved c k b o =
       ap (λ l. weave (lists_of more) l (outer_items f.outer.items)) (sym b) ∙ ap (λ n. weave (lists_of (drop n (steps_of f))) g.blocks.items (outer_items f.outer.items)) (sym k)
       ∙ ap (λ q. weave (lists_of (drop g.place (flats_of q.steps.items))) g.blocks.items (outer_items f.outer.items)) (sym c)
       ∙ ap (λ q. weave (lists_of (drop g.place (steps_of g))) g.blocks.items (outer_items q.items)) (sym o)
 
-  next_is : (was : Gate) (s : Stepped) (g : RcFrame) (q r : Mind) → Jumps (steps_of f) f.place end more → Entered (end + 1) was s f g (with_openings p.openings q) r
+  next_is : (was : Gate) (s : Stepped) (g : Frames) (q r : Mind) → Jumps (steps_of f) f.place end more → Entered (end + 1) was s f g (with_openings p.openings q) r
       → next_of (Recipe top (Block (first (lists_of more)))) p.openings behind (gate_turn was q) ≡ Go (stands s g r)
   next_is gate.Passes s g q r j h =
       ap (λ l. Go (Running (weave l f.blocks.items (outer_items f.outer.items)) (with_openings p.openings q))) (sym j.behind)
@@ -200,26 +200,26 @@ module _ (f : RcFrame) (top : Top) (end : ℕ) (p : Mind) (e : drop f.place (ste
       ∙ ap (λ m. Go (Running (items_of g) m)) (sym h.2) ∙ ap (λ t. Go (stands t g r)) (sym h.0)
   next_is (gate.Halts end) s g q r j h =
       ap (λ l. Go (Leaving l end (with_openings p.openings q))) (locks_all (others (lists_of more)) f.blocks.items f.outer.items)
-      ∙ ap (λ (k : RcFrame). Go (Leaving (all_locks k) end (with_openings p.openings q))) (sym h.1)
+      ∙ ap (λ (k : Frames). Go (Leaving (all_locks k) end (with_openings p.openings q))) (sym h.1)
       ∙ ap (λ m. Go (Leaving (all_locks g) end m)) (sym h.2) ∙ ap (λ t. Go (stands t g r)) (sym h.0)
   next_is (gate.Enters lock) s g q r j h =
-      ap (λ items. Go (Running items (begun_block (with_openings p.openings q)))) (items_in g (record { saved = q.chain; lock = lock }) h.1 h.2 h.3 h.4)
+      ap (λ items. Go (Running items (begun_block (with_openings p.openings q)))) (items_in g (record { enter = f.place; saved = q.chain; lock = lock }) h.1 h.2 h.3 h.4)
       ∙ ap (λ m. Go (Running (items_of g) m)) (sym h.5) ∙ ap (λ t. Go (stands t g r)) (sym h.0)
   next_is gate.Clones s g q r j h =
       ap (λ items. Go (Cloning (first (lists_of more)) items (with_openings p.openings q))) (ap (λ l. weave l f.blocks.items (outer_items f.outer.items)) (sym j.behind) ∙ items_at g (end + 1) h.1)
-      ∙ ap (λ (k : RcFrame). Go (Cloning (first (lists_of (drop (f.place + 1) (steps_of k)))) (items_of g) (with_openings p.openings q))) (sym h.1)
+      ∙ ap (λ (k : Frames). Go (Cloning (first (lists_of (drop (f.place + 1) (steps_of k)))) (items_of g) (with_openings p.openings q))) (sym h.1)
       ∙ ap (λ m. Go (Cloning (block_at (f.place + 1) g) (items_of g) m)) (sym h.2) ∙ ap (λ t. Go (stands t g r)) (sym h.0)
 
   -- the block at the place is over after it
-  pub gate_behind : (was : Gate) (s : Stepped) (g : RcFrame) (m n : Mind) → Jumps (steps_of f) f.place end more → Entered (end + 1) was s f g m n → IsBehind s g
+  pub gate_behind : (was : Gate) (s : Stepped) (g : Frames) (m n : Mind) → Jumps (steps_of f) f.place end more → Entered (end + 1) was s f g m n → IsBehind s g
   gate_behind gate.Passes s g m n j h = subst (λ t. IsBehind t g) (sym h.0) tt
   gate_behind (gate.Halts end) s g m n j h = subst (λ t. IsBehind t g) (sym h.0) tt
   gate_behind (gate.Enters lock) s g m n j h = subst (λ t. IsBehind t g) (sym h.0) tt
   gate_behind gate.Clones s g m n j h =
       subst (λ t. IsBehind t g) (sym h.0)
-      (subst (λ (k : RcFrame). IsBehind (stepped.Clones (f.place + 1)) k) (sym h.1) (λ blocks rest. ap (λ l. weave l blocks rest) (sym j.behind)))
+      (subst (λ (k : Frames). IsBehind (stepped.Clones (f.place + 1)) k) (sym h.1) (omega arith, λ blocks rest. ap (λ l. weave l blocks rest) (sym j.behind)))
 
-  pub gate_reaches : (was : Gate) (s : Stepped) (g : RcFrame) (q r : Mind) (x y : JournalState) (a b : View) → Jumps (steps_of f) f.place end more → Entered (end + 1) was s f g (with_openings p.openings q) r
+  pub gate_reaches : (was : Gate) (s : Stepped) (g : Frames) (q r : Mind) (x y : JournalState) (a b : View) → Jumps (steps_of f) f.place end more → Entered (end + 1) was s f g (with_openings p.openings q) r
       → Executes gate_plan (gate_turn was q) x y a b → Reaches {X = Event} step (Running (items_of f) p) (stands s g r) x y a b
   gate_reaches was s g q r x y a b j h k =
       let next : Onward = Go (stands s g r) in
@@ -227,7 +227,7 @@ module _ (f : RcFrame) (top : Top) (end : ℕ) (p : Mind) (e : drop f.place (ste
       (subst (λ plan. Executes plan next x y a b) (sym gate_step)
       (executes_then gate_plan onto (gate_turn was q) next x y y a b b k (subst (λ n. Executes (Ends n) next y y b b) (sym (next_is was s g q r j h)) (executes_nothing next y y b refl))))
 
-pub entered_falls : (behind : ℕ) (was : Gate) (s : Stepped) (f g : RcFrame) (m n : Mind) → Entered behind was s f g m n → f.place < behind → behind ≤ length f.code.steps.items → left_in g + less_by s ≤ left_in f
+pub entered_falls : (behind : ℕ) (was : Gate) (s : Stepped) (f g : Frames) (m n : Mind) → Entered behind was s f g m n → f.place < behind → behind ≤ length f.code.steps.items → left_in g + less_by s ≤ left_in f
 entered_falls behind gate.Passes s f g m n h further within = subst (λ q. left_in g + less_by q ≤ left_in f) (sym h.0) (subst (λ q. left_in q + 1 ≤ left_in f) (sym h.1) (omega arith))
 entered_falls behind (gate.Halts end) s f g m n h further within = subst (λ q. left_in g + less_by q ≤ left_in f) (sym h.0) (subst (λ q. left_in q + 0 ≤ left_in f) (sym h.1) (omega arith))
 entered_falls behind gate.Clones s f g m n h further within = subst (λ q. left_in g + less_by q ≤ left_in f) (sym h.0) (subst (λ q. left_in q + 1 ≤ left_in f) (sym h.1) (omega arith))
@@ -236,7 +236,7 @@ entered_falls behind (gate.Enters lock) s f g m n h further within =
     subst (λ q. left_in g + less_by q ≤ left_in f) (sym h.0) fewer
 
 -- what is left over falls as what is left in the rcfiles does
-pub over_falls : (n m k : ℕ) (f g : RcFrame) → m ≡ n → left_in g + k ≤ left_in f → left_over m g + k ≤ left_over n f
+pub over_falls : (n m k : ℕ) (f g : Frames) → m ≡ n → left_in g + k ≤ left_in f → left_over m g + k ≤ left_over n f
 over_falls n m k f g e h = subst (λ c. left_over c g + k ≤ left_over n f) (sym e) (omega (arith, h))
 
 less_one : (t : Turned) → less_by (stepped_of t) ≤ 1
@@ -246,13 +246,13 @@ less_one (turned.Includes name) = omega arith
 less_one (turned.Switches name) = omega arith
 less_one turned.EndsFile = omega arith
 
-pub one_falls : (f : RcFrame) (t : Turned) (s : Stepped) → s ≡ stepped_of t → f.place < length (steps_of f) → left_in (record f { place = f.place + 1 }) + less_by s ≤ left_in f
+pub one_falls : (f : Frames) (t : Turned) (s : Stepped) → s ≡ stepped_of t → f.place < length (steps_of f) → left_in (record f { place = f.place + 1 }) + less_by s ≤ left_in f
 one_falls f t s e h =
     let fits : f.place < length f.code.steps.items = subst (λ n. f.place < n) (length-map f.code.steps.items flat_of) h in
     omega (arith, fits, less_one t, ap less_by e)
 
 -- no copy is wanted by a statement
-pub one_behind : (t : Turned) (s : Stepped) (f : RcFrame) → s ≡ stepped_of t → IsBehind s f
+pub one_behind : (t : Turned) (s : Stepped) (f : Frames) → s ≡ stepped_of t → IsBehind s f
 one_behind turned.Goes s f e = subst (λ q. IsBehind q f) (sym e) tt
 one_behind (turned.Halts end) s f e = subst (λ q. IsBehind q f) (sym e) tt
 one_behind (turned.Includes name) s f e = subst (λ q. IsBehind q f) (sym e) tt
@@ -260,13 +260,13 @@ one_behind (turned.Switches name) s f e = subst (λ q. IsBehind q f) (sym e) tt
 one_behind turned.EndsFile s f e = subst (λ q. IsBehind q f) (sym e) tt
 
 -- nor by one that comes back
-pub back_behind : (s : Stepped) (f g : RcFrame) (p q : Mind) → ComesBack s f g p q → IsBehind s g
+pub back_behind : (s : Stepped) (f g : Frames) (p q : Mind) → ComesBack s f g p q → IsBehind s g
 back_behind stepped.Over f g p q h = tt
 back_behind stepped.Went f g p q h = tt
 back_behind other f g p q h = absurd h
 
 -- a block that ends
-module _ (f : RcFrame) (block : Open) (blocks : List Open) (next : ℕ) (p : Mind) (ends : EndsAt (steps_of f) f.place next) (e : f.blocks.items ≡ block ∷ blocks) where
+module _ (f : Frames) (block : Open) (blocks : List Open) (next : ℕ) (p : Mind) (ends : EndsAt (steps_of f) f.place next) (e : f.blocks.items ≡ block ∷ blocks) where
   abbrev later : List Item
   later = weave (lists_of (drop next (steps_of f))) blocks (outer_items f.outer.items)
 
@@ -279,7 +279,7 @@ module _ (f : RcFrame) (block : Open) (blocks : List Open) (next : ℕ) (p : Min
   end_step : step (Running (items_of f) p) ≡ and_then (give_maybe block.lock p) close
   end_step = ap (λ items. step (Running items p)) end_items
 
-  pub block_reaches : (g : RcFrame) (q r : Mind) (x y : JournalState) (a b : View) → g.code ≡ f.code → g.place ≡ next → g.blocks.items ≡ blocks → g.outer ≡ f.outer → r ≡ closed block.saved q
+  pub block_reaches : (g : Frames) (q r : Mind) (x y : JournalState) (a b : View) → g.code ≡ f.code → g.place ≡ next → g.blocks.items ≡ blocks → g.outer ≡ f.outer → r ≡ closed block.saved q
       → Executes (give_maybe block.lock p) q x y a b → Reaches {X = Event} step (Running (items_of f) p) (Running (items_of g) r) x y a b
   block_reaches g q r x y a b c k bs o re h =
       let to : Onward = Go (Running (items_of g) r) in
@@ -299,18 +299,18 @@ module _ (f : RcFrame) (block : Open) (blocks : List Open) (next : ℕ) (p : Min
       (λ more e. subst (λ i. MayRunOut (Running i p) more) (sym end_items) tt)
 
 -- nothing is left of the rcfile but those that wait
-over_items : (f : RcFrame) (next : ℕ) → EndsAt (steps_of f) f.place next → f.blocks.items ≡ [] → items_of f ≡ outer_items f.outer.items
+over_items : (f : Frames) (next : ℕ) → EndsAt (steps_of f) f.place next → f.blocks.items ≡ [] → items_of f ≡ outer_items f.outer.items
 over_items f next ends e = ap (λ l. weave (lists_of (drop f.place (steps_of f))) l (outer_items f.outer.items)) e ∙ ends.file (outer_items f.outer.items)
 
 -- the one that waits first goes on
-back_items : (w : Waiting) (g : RcFrame) → g.code ≡ w.code → g.place ≡ w.place → g.blocks ≡ w.blocks
+back_items : (w : Waiting) (g : Frames) → g.code ≡ w.code → g.place ≡ w.place → g.blocks ≡ w.blocks
     → weave (lists_of (drop w.place (flats_of w.code.steps.items))) w.blocks.items (outer_items g.outer.items) ≡ items_of g
 back_items w g c k b =
     ap (λ q. weave (lists_of (drop w.place (flats_of q.steps.items))) w.blocks.items (outer_items g.outer.items)) (sym c)
     ∙ ap (λ n. weave (lists_of (drop n (steps_of g))) w.blocks.items (outer_items g.outer.items)) (sym k)
     ∙ ap (λ q. weave (lists_of (drop g.place (steps_of g))) q.items (outer_items g.outer.items)) (sym b)
 
-pub back_reaches : (s : Stepped) (f g : RcFrame) (next : ℕ) (p q : Mind) (x : JournalState) (a : View) → EndsAt (steps_of f) f.place next → f.blocks.items ≡ [] → ComesBack s f g p q
+pub back_reaches : (s : Stepped) (f g : Frames) (next : ℕ) (p q : Mind) (x : JournalState) (a : View) → EndsAt (steps_of f) f.place next → f.blocks.items ≡ [] → ComesBack s f g p q
     → Reaches {X = Event} step (Running (items_of f) p) (stands s g q) x x a a
 back_reaches stepped.Over f g next p q x a ends e h =
     let over : items_of f ≡ [] = over_items f next ends e ∙ ap outer_items h.0 in
@@ -326,10 +326,10 @@ back_reaches stepped.Went f g next p q x a ends e h =
     (subst (λ items. Executes (step (Running items p)) to x x a a) (sym left) (subst (λ n. Executes (Ends n) to x x a a) (sym same) (executes_nothing to x x a refl)))
 back_reaches other f g next p q x a ends e h = absurd h
 
-pub back_wants : (f : RcFrame) (p : Mind) (x : JournalState) (a : View) → RunsOut {X = Event} step MayRunOut (Running (items_of f) p) x x a a
+pub back_wants : (f : Frames) (p : Mind) (x : JournalState) (a : View) → RunsOut {X = Event} step MayRunOut (Running (items_of f) p) x x a a
 back_wants f p x a = ran_out_at_once step MayRunOut (Running (items_of f) p) x x a a (out_anywhere (step (Running (items_of f) p)) x x a refl) (may_at_once (items_of f) p x)
 
-pub back_falls : (s : Stepped) (f g : RcFrame) (p q : Mind) → f.blocks.items ≡ [] → ComesBack s f g p q → left_in g + less_by s ≤ left_in f
+pub back_falls : (s : Stepped) (f g : Frames) (p q : Mind) → f.blocks.items ≡ [] → ComesBack s f g p q → left_in g + less_by s ≤ left_in f
 back_falls stepped.Over f g p q e h = omega (arith, ap (λ q. length q.steps.items) h.1, h.2, ap (λ q. length q.items) h.3, ap left_outside h.4, ap left_outside h.0)
 back_falls stepped.Went f g p q e h =
     let w = h.0 in

@@ -1,5 +1,5 @@
 -- The number of an exit status that a text writes.
-use Rattle.std.specs.Prelude.{ℕ, ◌&&◌, List, Option, Some, None, nat_le, if◌then◌else◌}
+use Rattle.std.specs.Prelude.{ℕ, List, Option, None, if◌then◌else◌}
 use Rattle.pm_bytes.specs.Number.{count_of}
 use Rattle.pm_meaning.specs.Status.{is_code}
 

@@ -5,7 +5,7 @@ use Rattle.pm_code.specs.Flat.{Flat, flats_of}
 use Rattle.pm_code.specs.Ahead.{first, others, lists_of}
 use Rattle.pm_meaning.specs.Running.{Item, BlockEnd, FileEnd, ahead}
 use Rattle.pm_run.specs.declared.frames.Open.{Open}
-use Rattle.pm_run.specs.declared.frames.RcFrame.{RcFrame}
+use Rattle.pm_run.specs.declared.frames.Frames.{Frames}
 use Rattle.pm_run.specs.declared.frames.Waiting.{Waiting}
 
 -- the end of a block
@@ -18,7 +18,7 @@ weave lists [] rest = ahead (first lists) rest
 weave lists (block ∷ blocks) rest = ahead (first lists) (end_of block ∷ weave (others lists) blocks rest)
 
 -- the code's steps
-abbrev pub steps_of : RcFrame → List Flat
+abbrev pub steps_of : Frames → List Flat
 steps_of f = flats_of f.code.steps.items
 
 -- what is left of the rcfiles that wait, the first one's name before it
@@ -27,7 +27,7 @@ outer_items [] = []
 outer_items (w ∷ ws) = FileEnd w.name ∷ weave (lists_of (drop w.place (flats_of w.code.steps.items))) w.blocks.items (outer_items ws)
 
 -- what is left of the rcfile, and of those that wait
-abbrev pub items_of : RcFrame → List Item
+abbrev pub items_of : Frames → List Item
 items_of f = weave (lists_of (drop f.place (steps_of f))) f.blocks.items (outer_items f.outer.items)
 
 -- what the open blocks have for locks, the innermost first
@@ -41,7 +41,7 @@ outer_locks [] = []
 outer_locks (w ∷ ws) = block_locks w.blocks.items ++ outer_locks ws
 
 -- what all open blocks have for locks
-abbrev pub all_locks : RcFrame → List (Option (List ℕ))
+abbrev pub all_locks : Frames → List (Option (List ℕ))
 all_locks f = block_locks f.blocks.items ++ outer_locks f.outer.items
 
 -- how many items are left at the most: two for each step, and one for each open block and each rcfile that waits
@@ -50,9 +50,9 @@ left_outside [] = 0
 left_outside (w ∷ ws) = 1 + 2 * (length w.code.steps.items - w.place) + length w.blocks.items + left_outside ws
 
 -- the same of the rcfile that is read and those that wait
-abbrev pub left_in : RcFrame → ℕ
+abbrev pub left_in : Frames → ℕ
 left_in f = 2 * (length f.code.steps.items - f.place) + length f.blocks.items + left_outside f.outer.items
 
 -- the same once so many rcfiles were opened: each that may still be opened brings fewer than 2 ^ 66
-abbrev pub left_over : ℕ → RcFrame → ℕ
+abbrev pub left_over : ℕ → Frames → ℕ
 left_over count f = (256 - count) * 2 ^ 66 + left_in f

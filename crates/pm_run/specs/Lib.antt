@@ -13,3 +13,7 @@ pub mod Codes
 pub mod Drafts
 pub mod Frames
 pub mod Copies
+pub mod Nested
+pub mod Tasks
+pub mod HeldLocks
+pub mod HeldLockExamples

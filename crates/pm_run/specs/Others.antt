@@ -1,5 +1,5 @@
 -- What comes next in a run, and how it goes on from there.
-use Rattle.std.specs.Prelude.{◌≡◌, ℕ, map}
+use Rattle.std.specs.Prelude.{◌≡◌, map}
 use Rattle.pm_journal.specs.JournalState.{JournalState}
 use Rattle.pm_journal.specs.Entries.{View}
 use Rattle.pm_journal.specs.Walking.{Next, Go, Stop, Reaches, Completes}

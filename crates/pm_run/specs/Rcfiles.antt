@@ -12,15 +12,15 @@ use Rattle.pm_recipe.specs.Tree.{Trees}
 use Rattle.pm_meaning.specs.Changes.{with_rcfile}
 use Rattle.pm_meaning.specs.Minds.{Mind}
 use Rattle.pm_meaning.specs.Running.{Item, Running, Reading, open_rcfile, with_statements}
-use Rattle.pm_run.specs.declared.frames.RcFrame.{RcFrame}
+use Rattle.pm_run.specs.declared.frames.Frames.{Frames}
 use Rattle.pm_run.specs.declared.frames.Waiting.{Waiting}
 
 -- the current rcfile waits under its name
-abbrev pub waiting : List ℕ → RcFrame → Waiting
+abbrev pub waiting : List ℕ → Frames → Waiting
 waiting name f = record { name = name; code = f.code; place = f.place; blocks = f.blocks }
 
 -- the rcfile of this code begins, and the current one waits
-pub record GoesInto (name : List ℕ) (code : Code) (f g : RcFrame) (p q : Mind) : Type 0 where
+pub record GoesInto (name : List ℕ) (code : Code) (f g : Frames) (p q : Mind) : Type 0 where
   pub mind : q ≡ with_rcfile name p
   pub code_is : g.code ≡ code
   pub place : g.place ≡ 0
@@ -28,7 +28,7 @@ pub record GoesInto (name : List ℕ) (code : Code) (f g : RcFrame) (p q : Mind)
   pub outer : g.outer.items ≡ waiting p.rcfile f ∷ f.outer.items
 
 -- the rcfile of this code stands in the place of the current one
-pub record TakesPlace (code : Code) (f g : RcFrame) : Type 0 where
+pub record TakesPlace (code : Code) (f g : Frames) : Type 0 where
   pub code_is : g.code ≡ code
   pub place : g.place ≡ 0
   pub blocks : g.blocks.items ≡ []

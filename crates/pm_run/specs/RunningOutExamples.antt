@@ -1,7 +1,7 @@
 -- Where memory may be wanting in a process, and where it may not, in short cases.
 use Rattle.std.specs.Prelude.{ℕ, List, [], ◌∷◌, None, false, codes}
 use Rattle.pm_recipe.specs.Colon.{flags_of}
-use Rattle.pm_recipe.specs.Tree.{Top, Tree, Recipe, Act, Mailbox, Block, Unset, nil}
+use Rattle.pm_recipe.specs.Tree.{Top, Recipe, Act, Mailbox, Block, Unset, nil}
 use Rattle.pm_journal.specs.declared.acts.Act.{Act as Asked}
 use Rattle.pm_journal.specs.declared.acts.Act.TheVariants.{Unlock, Run, SayErr}
 use Rattle.pm_journal.specs.declared.acts.Entry.{Entry}

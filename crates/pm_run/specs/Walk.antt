@@ -1,5 +1,5 @@
 -- What comes of one item of an rcfile.
-use Rattle.std.specs.Prelude.{◌≡◌, ◌≤◌, ◌<◌, length, ℕ, ◌+◌, List, [], ◌∷◌, drop, Option, Some, None}
+use Rattle.std.specs.Prelude.{◌≡◌, ◌≤◌, ◌<◌, length, ℕ, ◌+◌, List, [], ◌∷◌, drop}
 use Rattle.pm_code.specs.Flat.{Flat, Does, flat_of}
 use Rattle.pm_code.specs.Ahead.{others, lists_of}
 use Rattle.pm_code.specs.declared.steps.Step.{Step}
@@ -13,12 +13,11 @@ use Rattle.pm_meaning.specs.Minds.{Mind}
 use Rattle.pm_meaning.specs.Turns.{Turn, GoesOn, Halts, Enters, Clones}
 use Rattle.pm_meaning.specs.Changes.{with_rcfile}
 use Rattle.pm_meaning.specs.Running.{State, Item, Do, Running, Including, Switching, LeavingFile, Cloning, Leaving, statement}
-use Rattle.pm_meaning.specs.declared.process.End.{End}
 use Rattle.pm_run.specs.Copies.{block_at}
 use Rattle.pm_run.specs.Frames.{items_of, outer_items, steps_of, weave, end_of, block_locks, all_locks}
 use Rattle.pm_run.specs.RunningOut.{MayRunOut}
 use Rattle.pm_run.specs.declared.frames.Open.{Open}
-use Rattle.pm_run.specs.declared.frames.RcFrame.{RcFrame}
+use Rattle.pm_run.specs.declared.frames.Frames.{Frames}
 use Rattle.pm_run.specs.declared.frames.Waiting.{Waiting}
 use Rattle.pm_run.specs.declared.gates.Gate.{Gate}
 use Rattle.pm_run.specs.declared.gates.Gate.TheVariants as gate
@@ -49,7 +48,7 @@ gate_turn (gate.Enters lock) p = Enters lock p
 gate_turn gate.Clones p = Clones p
 
 -- where the process stands after an item
-abbrev pub stands : Stepped → RcFrame → Mind → State
+abbrev pub stands : Stepped → Frames → Mind → State
 stands stepped.Went f p = Running (items_of f) p
 stands (stepped.Halts end) f p = Leaving (all_locks f) end p
 stands stepped.Over f p = Running [] p
@@ -79,24 +78,24 @@ pub record EndsAt (steps : List Flat) (place next : ℕ) : Type 0 where
   pub later : place ≤ next
 
 -- how the frame and the mind are after a gate
-abbrev pub Entered : ℕ → Gate → Stepped → RcFrame → RcFrame → Mind → Mind → Type 0
+abbrev pub Entered : ℕ → Gate → Stepped → Frames → Frames → Mind → Mind → Type 0
 Entered behind gate.Passes s f g p q = (s ≡ stepped.Went) × (g ≡ record f { place = behind }) × (q ≡ p)
 Entered behind (gate.Halts end) s f g p q = (s ≡ stepped.Halts end) × (g ≡ f) × (q ≡ p)
 Entered behind (gate.Enters lock) s f g p q =
     (s ≡ stepped.Went) × (g.code ≡ f.code) × (g.place ≡ f.place + 1)
-    × (g.blocks.items ≡ record { saved = p.chain; lock = lock } ∷ f.blocks.items) × (g.outer ≡ f.outer) × (q ≡ begun_block p)
+    × (g.blocks.items ≡ record { enter = f.place; saved = p.chain; lock = lock } ∷ f.blocks.items) × (g.outer ≡ f.outer) × (q ≡ begun_block p)
 Entered behind gate.Clones s f g p q = (s ≡ stepped.Clones (f.place + 1)) × (g ≡ record f { place = behind }) × (q ≡ p)
 
 -- the rcfile that waits first goes on, under its name; or none waits
-abbrev pub ComesBack : Stepped → RcFrame → RcFrame → Mind → Mind → Type 0
+abbrev pub ComesBack : Stepped → Frames → Frames → Mind → Mind → Type 0
 ComesBack stepped.Over f g p q = (f.outer.items ≡ []) × (g.code ≡ f.code) × (g.place ≡ f.place) × (g.blocks ≡ f.blocks) × (g.outer.items ≡ []) × (q ≡ p)
 ComesBack stepped.Went f g p q = (w : Waiting) × (f.outer.items ≡ w ∷ g.outer.items) × (g.code ≡ w.code) × (g.place ≡ w.place) × (g.blocks ≡ w.blocks) × (q ≡ with_rcfile w.name p)
 ComesBack other f g p q = ⊥
 
--- where a copy is wanted, the block at the place is over where the process stands
-abbrev pub IsBehind : Stepped → RcFrame → Type 0
+-- where a copy is wanted, a step before the place enters the block, and that is over where the process stands
+abbrev pub IsBehind : Stepped → Frames → Type 0
 IsBehind (stepped.Clones place) f =
-    (blocks : List Open) (rest : List Item) → weave (others (lists_of (drop place (steps_of f)))) blocks rest ≡ weave (lists_of (drop f.place (steps_of f))) blocks rest
+    (0 < place) × ((blocks : List Open) (rest : List Item) → weave (others (lists_of (drop place (steps_of f)))) blocks rest ≡ weave (lists_of (drop f.place (steps_of f))) blocks rest)
 IsBehind other f = Unit {0}
 
 -- so much less is left after it

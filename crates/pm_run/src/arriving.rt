@@ -1,6 +1,6 @@
 //! The beginning of a run: the mail gets its From line, the words of the command line set variables, and the first of
 //! its rcfiles that can be read is opened.
-ghost use Rattle.std.specs.Prelude.{◌≡◌, ◌||◌, ◌∷◌, ℕ, List, [], false, bytes_eq, codes, IfOk, OnErr, if◌then◌else◌};
+ghost use Rattle.std.specs.Prelude.{◌≡◌, ◌||◌, ◌∷◌, ℕ, List, [], false, reverse, bytes_eq, codes, IfOk, OnErr, if◌then◌else◌};
 ghost use Rattle.pm_bytes.specs.Name.{has_zero};
 ghost use Rattle.pm_journal.specs.Executed.{Carries};
 ghost use Rattle.pm_journal.specs.Held.{Keeping};
@@ -25,7 +25,6 @@ use pm_journal::{Effects, HeldLocks, Journal, ask_moment};
 use pm_meaning::{CommandLine, Process, Run};
 use pm_message::{Mail, needs_line, prepare_mail};
 use std::alloc::Global;
-use std::collections::VecDeque;
 
 /// The process that begins with this mail, which gets its From line.
 pub fn arrive<D: Effects>(
@@ -155,18 +154,19 @@ fn home_of<'a>(word: &'a Pair, home: &'a str) -> &'a str
     }
 }
 
-// The rcfiles that are tried; without a word for one that of the home folder.
-fn rcfiles_of(alloc: Global, line: &CommandLine, home: &str) -> Result<VecDeque<Name>, Memory>
+// The rcfiles that are tried, the last one first; without a word for one that of the home folder.
+fn rcfiles_of(alloc: Global, line: &CommandLine, home: &str) -> Result<Vec<Name>, Memory>
     requires usable { has_zero home.now ≡ false }
-    ensures { IfOk result (λ names. names.items ≡ Running.rcfiles_of line.now home.now) }
+    ensures { IfOk result (λ names. reverse names.items ≡ Running.rcfiles_of line.now home.now) }
 {
     if is_without(&line.rcfiles) {
         return own_rcfile(alloc, home);
     }
-    let mut names = VecDeque::new(alloc);
+    let mut names = Vec::new(alloc);
     for word in line.rcfiles.as_slice() {
-        names.push_back(named_rcfile(alloc, line.filter, home, word)?)?;
+        names.push(named_rcfile(alloc, line.filter, home, word)?)?;
     }
+    names.reverse();
     Ok(names)
 }
 
@@ -178,12 +178,12 @@ fn is_without(names: &Names) -> bool
 }
 
 // The rcfile of the home folder.
-fn own_rcfile(alloc: Global, home: &str) -> Result<VecDeque<Name>, Memory>
+fn own_rcfile(alloc: Global, home: &str) -> Result<Vec<Name>, Memory>
     requires usable { has_zero home.now ≡ false }
     ensures { IfOk result (λ names. names.items ≡ Running.in_home home.now (codes ".procmailrc") ∷ []) }
 {
-    let mut names = VecDeque::new(alloc);
-    names.push_back(in_home(alloc, home, ".procmailrc")?)?;
+    let mut names = Vec::new(alloc);
+    names.push(in_home(alloc, home, ".procmailrc")?)?;
     Ok(names)
 }
 

@@ -1,5 +1,5 @@
 //! Copies of a process for blocks with the flag c (procmailrc(5), "Flags").
-ghost use Rattle.std.specs.Prelude.{◌≡◌, ◌≤◌, IfOk, List, drop};
+ghost use Rattle.std.specs.Prelude.{◌≡◌, ◌<◌, ◌≤◌, IfOk, List, drop};
 ghost use Rattle.pm_code.specs.Ahead.{others, lists_of};
 ghost use Rattle.pm_journal.specs.Executed.{Carries};
 ghost use Rattle.pm_journal.specs.Walking.{Go};
@@ -12,7 +12,7 @@ ghost use Rattle.pm_run.specs.Ends.{copies_left};
 ghost use Rattle.pm_run.specs.Stretches.{Proceeds};
 
 use crate::copies::copy_for_block;
-use crate::frames::RcFrame;
+use crate::frames::Frames;
 use crate::queue::Queue;
 use pm_bytes::Memory;
 use pm_journal::{Effects, too_many_clones};
@@ -20,7 +20,7 @@ use pm_meaning::{Run, succeed, tell};
 use std::alloc::Global;
 
 /// The most copies that a run makes.
-const MOST_COPIES: u64 = 16;
+const MOST_COPIES: u32 = 16;
 
 /// A copy of the process is made for the block whose first statement stands at this place, unless the run has made 16,
 /// which is told. The process goes on after the block.
@@ -28,9 +28,10 @@ pub fn make_clone<D: Effects>(
     alloc: Global,
     run: &mut Run<D>,
     place: usize,
-    frame: &RcFrame,
+    frame: &Frames,
     queue: &mut Queue,
 ) -> Result<(), Memory>
+    requires begun { 0 < place }
     requires behind { (blocks : List Open) (rest : List Item) →
         weave (others (lists_of (drop place (steps_of frame.now)))) blocks rest
         ≡ weave (lists_of (drop frame.now.place (steps_of frame.now))) blocks rest }

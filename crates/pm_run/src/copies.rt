@@ -1,15 +1,16 @@
 //! Copies of a process for blocks with the flag c (procmailrc(5), "Flags").
-ghost use Rattle.std.specs.Prelude.{◌≡◌, List, [], drop, map, None, IfOk};
+ghost use Rattle.std.specs.Prelude.{◌≡◌, ◌<◌, List, [], drop, map, IfOk};
 ghost use Rattle.pm_code.specs.Ahead.{lists_of, others};
 ghost use Rattle.pm_meaning.specs.Blocks.{begun_block};
 ghost use Rattle.pm_meaning.specs.Minds.{mind_of};
-ghost use Rattle.pm_meaning.specs.Running.{Item, clone_of, copied, inside, unlocked};
+ghost use Rattle.pm_meaning.specs.Running.{Item, clone_of, copied};
 ghost use Rattle.pm_run.specs.Frames.{items_of, steps_of, weave};
 ghost use Rattle.pm_run.specs.declared.frames.Open.{Open as OpenBlock};
-ghost use Rattle.pm_run.specs.Copies.{task_of, block_at, left_of, unlocked_block, unlocked_left, IsCopied};
+ghost use Rattle.pm_run.specs.Copies.{task_of, block_at, unlocked_block, unlocked_frame, entered_frame, copied_frames};
+ghost use Rattle.pm_run.specs.Nested.{frame_of, frame_in, frames_in, frame_waiting, name_first, outer_frames};
 
-use crate::frames::{Open, RcFrame, Waiting};
-use crate::queue::Copy;
+use crate::frames::{Frames, Open, RcFrame, Waiting};
+use crate::task::Copy;
 use pm_bytes::{Memory, Name};
 use pm_journal::HeldLocks;
 use pm_meaning::{Chain, Process, Stored, new_chain};
@@ -23,82 +24,131 @@ use std::collections::VecDeque;
 pub fn copy_for_block(
     alloc: Global,
     place: usize,
-    frame: &RcFrame,
+    frame: &Frames,
     process: &Process,
 ) -> Result<Copy, Memory>
+    requires begun { 0 < place }
     requires behind { (blocks : List OpenBlock) (rest : List Item) →
         weave (others (lists_of (drop place (steps_of frame.now)))) blocks rest
         ≡ weave (lists_of (drop frame.now.place (steps_of frame.now))) blocks rest }
     ensures task { IfOk result (λ copy. task_of copy
         ≡ clone_of (block_at place frame.now) (items_of frame.now) (mind_of process.now)) }
-    ensures frame { IfOk result (λ copy. IsCopied place process.now.chain frame.now copy.frame) }
+    ensures frames { IfOk result (λ copy. map frame_of copy.frames.items
+        ≡ copied_frames place process.now.chain (frames_in frame.now)) }
 {
-    Ok(Copy {
-        frame: copy_frame(alloc, place, process.chain, frame)?,
-        process: copy_process(alloc, process)?,
-    })
+    let frames = copy_frames(alloc, place, process.chain, frame)?;
+    match copy_process(alloc, process) {
+        Ok(process) => Ok(Copy { frames, process }),
+        Err(Memory) => {
+            drop(frames);
+            Err(Memory)
+        }
+    }
 }
 
-// The rcfile at the place, in a block whose recipe has this chain.
-fn copy_frame(alloc: Global, place: usize, chain: Chain, frame: &RcFrame) -> Result<RcFrame, Memory>
-    requires behind { (blocks : List OpenBlock) (rest : List Item) →
-        weave (others (lists_of (drop place (steps_of frame.now)))) blocks rest
-        ≡ weave (lists_of (drop frame.now.place (steps_of frame.now))) blocks rest }
-    ensures items { IfOk result (λ copy. items_of copy
-        ≡ unlocked (inside (block_at place frame.now) chain None (items_of frame.now))) }
-    ensures copied { IfOk result (λ copy. IsCopied place chain frame.now copy) }
+// The rcfiles, of which the first one stands at the place, in a block whose recipe has this chain.
+fn copy_frames(
+    alloc: Global,
+    place: usize,
+    chain: Chain,
+    frame: &Frames,
+) -> Result<Vec<RcFrame>, Memory>
+    requires begun { 0 < place }
+    ensures { IfOk result (λ copies. map frame_of copies.items ≡ copied_frames place chain (frames_in frame.now)) }
+{
+    let first = copy_first(alloc, place, chain, frame)?;
+    match copy_outer(alloc, &frame.outer) {
+        Ok(mut frames) => {
+            frames.insert(0, first)?;
+            Ok(frames)
+        }
+        Err(Memory) => {
+            drop(first);
+            Err(Memory)
+        }
+    }
+}
+
+// The one in progress.
+fn copy_first(alloc: Global, place: usize, chain: Chain, frame: &Frames) -> Result<RcFrame, Memory>
+    requires begun { 0 < place }
+    ensures { IfOk result (λ copy. frame_of copy ≡ entered_frame place chain (frame_in frame.now)) }
 {
     let code = frame.code.copy(alloc)?;
+    let back = name_at(alloc, &frame.outer, 0)?;
     let mut blocks = copy_blocks(alloc, &frame.blocks)?;
     let block = Open {
+        enter: place - 1,
         saved: chain,
         lock: None,
     };
-    blocks.push_front(block)?;
-    let outer = copy_outer(alloc, &frame.outer)?;
+    blocks.insert(0, block)?;
     Ok(RcFrame {
         code,
         place,
         blocks,
-        outer,
+        back,
     })
 }
 
+// The name of the one that waits there.
+fn name_at(alloc: Global, outer: &VecDeque<Waiting>, index: usize) -> Result<Option<Name>, Memory>
+    ensures { IfOk result (λ name. name ≡ name_first (drop index outer.now.items)) }
+{
+    if index < outer.len() {
+        Ok(Some(outer[index].name.copy(alloc)?))
+    } else {
+        Ok(None)
+    }
+}
+
 // The blocks, with no lock.
-fn copy_blocks(alloc: Global, blocks: &VecDeque<Open>) -> Result<VecDeque<Open>, Memory>
+fn copy_blocks(alloc: Global, blocks: &VecDeque<Open>) -> Result<Vec<Open>, Memory>
     ensures { IfOk result (λ copies. copies.items ≡ map unlocked_block blocks.now.items) }
 {
-    let mut copies = VecDeque::new(alloc);
+    let mut copies = Vec::new(alloc);
     for index in 0..blocks.len() {
-        let saved = blocks[index].saved;
-        copies.push_back(Open { saved, lock: None })?;
+        let block = Open {
+            enter: blocks[index].enter,
+            saved: blocks[index].saved,
+            lock: None,
+        };
+        copies.push(block)?;
     }
     Ok(copies)
 }
 
 // The rcfiles that wait, with no lock.
-fn copy_outer(alloc: Global, outer: &VecDeque<Waiting>) -> Result<VecDeque<Waiting>, Memory>
-    ensures { IfOk result (λ copies. map left_of copies.items ≡ map unlocked_left outer.now.items) }
+fn copy_outer(alloc: Global, outer: &VecDeque<Waiting>) -> Result<Vec<RcFrame>, Memory>
+    ensures { IfOk result (λ copies. map frame_of copies.items ≡ map unlocked_frame (outer_frames outer.now.items)) }
 {
-    let mut copies = VecDeque::new(alloc);
-    for index in 0..outer.len() {
-        copies.push_back(copy_waiting(alloc, &outer[index])?)?;
+    let mut copies = Vec::new(alloc);
+    let mut index = outer.len();
+    while index > 0 {
+        let back = name_at(alloc, outer, index)?;
+        index -= 1;
+        let copy = copy_waiting(alloc, &outer[index], back)?;
+        copies.insert(0, copy)?;
     }
     Ok(copies)
 }
 
-fn copy_waiting(alloc: Global, waiting: &Waiting) -> Result<Waiting, Memory>
-    ensures { IfOk result (λ copy. left_of copy ≡ unlocked_left waiting.now) }
+// One that waits, at whose end the rcfile of this name comes back.
+fn copy_waiting(alloc: Global, waiting: &Waiting, back: Option<Name>) -> Result<RcFrame, Memory>
+    ensures { IfOk result (λ copy. frame_of copy ≡ unlocked_frame (frame_waiting waiting.now back)) }
 {
-    let name = waiting.name.copy(alloc)?;
-    let code = waiting.code.copy(alloc)?;
-    let blocks = copy_blocks(alloc, &waiting.blocks)?;
-    Ok(Waiting {
-        name,
-        code,
-        place: waiting.place,
-        blocks,
-    })
+    match copy_blocks(alloc, &waiting.blocks) {
+        Ok(blocks) => Ok(RcFrame {
+            code: waiting.code.copy(alloc)?,
+            place: waiting.place,
+            blocks,
+            back,
+        }),
+        Err(Memory) => {
+            drop(back);
+            Err(Memory)
+        }
+    }
 }
 
 // The process as it begins a block, with no lock, and the same rcfiles of the command line left.
@@ -139,7 +189,7 @@ struct Places {
     base: Name,
     host_name: Name,
     rcfile: Name,
-    later: VecDeque<Name>,
+    later: Vec<Name>,
     stored: Stored,
 }
 
@@ -153,7 +203,7 @@ fn copy_places(alloc: Global, process: &Process) -> Result<Places, Memory>
     let base = process.base.copy(alloc)?;
     let host_name = process.host_name.copy(alloc)?;
     let rcfile = process.rcfile.copy(alloc)?;
-    let later = copy_names(alloc, &process.later)?;
+    let later = copy_names(alloc, process.later.as_slice())?;
     let stored = copy_stored(alloc, &process.stored)?;
     Ok(Places {
         base,
@@ -180,12 +230,12 @@ fn copy_contents(alloc: Global, process: &Process) -> Result<(Mail, Vars), Memor
 }
 
 // The names, in order.
-fn copy_names(alloc: Global, names: &VecDeque<Name>) -> Result<VecDeque<Name>, Memory>
-    ensures { IfOk result (λ copies. copies.items ≡ names.now.items) }
+fn copy_names(alloc: Global, names: &[Name]) -> Result<Vec<Name>, Memory>
+    ensures { IfOk result (λ copies. copies.items ≡ names.now) }
 {
-    let mut copies = VecDeque::new(alloc);
+    let mut copies = Vec::new(alloc);
     for index in 0..names.len() {
-        copies.push_back(names[index].copy(alloc)?)?;
+        copies.push(names[index].copy(alloc)?)?;
     }
     Ok(copies)
 }

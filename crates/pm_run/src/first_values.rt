@@ -15,7 +15,6 @@ use pm_meaning::{CommandLine, Process, Stored, new_chain};
 use pm_message::Mail;
 use pm_vars::Vars;
 use std::alloc::Global;
-use std::collections::VecDeque;
 
 /// A process that begins with the arguments of this command line and this mail.
 pub fn begin(
@@ -43,7 +42,7 @@ pub fn begin(
             rcfile: Name::from_text(String::new(alloc)),
             openings: 0,
             is_clone: false,
-            later: VecDeque::new(alloc),
+            later: Vec::new(alloc),
             stored: Stored {
                 folder: Blob::empty(alloc),
                 size: 0,

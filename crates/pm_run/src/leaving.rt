@@ -12,7 +12,7 @@ ghost use Rattle.pm_run.specs.Frames.{block_locks, all_locks, left_in};
 ghost use Rattle.pm_run.specs.RunningOut.{HinderedSince};
 ghost use Rattle.pm_run.specs.Stretches.{Walks};
 
-use crate::frames::{Open, RcFrame, Waiting};
+use crate::frames::{Frames, Open, Waiting};
 use pm_bytes::{Memory, Name};
 use pm_journal::{Effects, couldnt_unlock, give};
 use pm_meaning::{End, Run, tell};
@@ -24,7 +24,7 @@ use std::collections::VecDeque;
 pub fn leave_blocks<D: Effects>(
     alloc: Global,
     run: &mut Run<D>,
-    frame: &mut RcFrame,
+    frame: &mut Frames,
     end: End,
 ) -> Result<(), Memory>
     ensures walks { Walks (Leaving (all_locks frame.old) end (mind_of run.old.process))
@@ -49,7 +49,7 @@ pub fn leave_blocks<D: Effects>(
 }
 
 // The blocks of the rcfile that waits first are those to leave; or no rcfile waits.
-fn come_out(frame: &mut RcFrame) -> bool
+fn come_out(frame: &mut Frames) -> bool
     requires { frame.old.blocks.items ≡ [] }
     ensures locks { all_locks frame.new ≡ all_locks frame.old }
     ensures least { left_in frame.new ≤ left_in frame.old }

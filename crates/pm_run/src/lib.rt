@@ -3,6 +3,7 @@
 //! runs out, the next act isn't done, and the held locks are released.
 #![tactic(auto)]
 
+mod alone;
 mod arriving;
 mod assigning;
 mod cloning;
@@ -19,14 +20,20 @@ mod judging;
 pub mod laws;
 mod leaving;
 mod opening;
+mod parts;
 mod process;
 mod queue;
 mod rcfiles;
+mod remaining;
+mod resuming;
 mod statements;
+mod task;
 mod turned;
 mod walk;
 
 pub use copies::copy_for_block;
-pub use frames::{Open, RcFrame, Waiting};
+pub use frames::{Open, RcFrame};
+pub use parts::{ProcessEnd, run_process};
 pub use process::{run_observed, run_processes};
-pub use queue::{Copy, Queue};
+pub use queue::Queue;
+pub use task::Task;

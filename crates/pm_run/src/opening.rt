@@ -1,5 +1,5 @@
 //! The rcfiles of the command line (procmail(1), "ARGUMENTS"): the first that can be read is run.
-ghost use Rattle.std.specs.Prelude.{◌≡◌, ◌<◌, ◌≤◌, ◌+◌, ◌&&◌, true, ◌∷◌, [], ℕ, List, length, IfOk, OnErr};
+ghost use Rattle.std.specs.Prelude.{◌≡◌, ◌<◌, ◌≤◌, ◌+◌, ◌&&◌, true, ◌∷◌, [], ℕ, List, length, reverse, IfOk, OnErr};
 ghost use Rattle.pm_journal.specs.Executed.{OutOfMemory};
 ghost use Rattle.pm_journal.specs.Plan.{and_then, ask};
 ghost use Rattle.pm_journal.specs.declared.acts.Act.TheVariants.{ReadFile};
@@ -18,7 +18,7 @@ ghost use Rattle.pm_run.specs.RunningOut.{MayRunOut, RunsOut};
 ghost use Rattle.pm_run.specs.Stretches.{Walks};
 ghost use Rattle.pm_run.specs.Opening.{OpensFrom, OpensOne, ReadsOne, PassesOver, is_read};
 
-use crate::frames::RcFrame;
+use crate::frames::Frames;
 use crate::rcfiles::read_statements;
 use pm_bytes::{Blob, Memory, Name};
 use pm_code::{Code, compile};
@@ -62,24 +62,25 @@ pub enum Tried {
     Passed,
 }
 
-/// Opens these rcfiles in order, up to one that is read. The others are left for a process that isn't on its host.
+/// Opens these rcfiles, the last one first, up to one that is read. The others are left for a process that isn't on its
+/// host.
 pub fn open_first<D: Effects>(
     alloc: Global,
     run: &mut Run<D>,
     rule: Rule,
-    mut names: VecDeque<Name>,
+    mut names: Vec<Name>,
 ) -> Result<Opened, Memory>
     ensures opens { IfOk result (λ opened. OpensFrom
-        (Opening (rule_of_opening rule) names.items (mind_of run.old.process)) opened (mind_of run.new.process)
+        (Opening (rule_of_opening rule) (reverse names.items) (mind_of run.old.process)) opened (mind_of run.new.process)
         run.old.journal run.new.journal (D.told run.old.outside) (D.told run.new.outside)) }
     ensures counted { IfOk result (λ opened.
         is_read opened ≡ true → run.old.process.openings < run.new.process.openings) }
     ensures most { IfOk result (λ opened. is_read opened ≡ true → run.new.process.openings ≤ 256) }
     ensures memory { OnErr result (RunsOut {X = Event} step MayRunOut
-        (Opening (rule_of_opening rule) names.items (mind_of run.old.process))
+        (Opening (rule_of_opening rule) (reverse names.items) (mind_of run.old.process))
         run.old.journal run.new.journal (D.told run.old.outside) (D.told run.new.outside)) }
 {
-    while let Some(name) = names.pop_front() {
+    while let Some(name) = names.pop() {
         match open_one(alloc, run, rule, name) {
             Err(Memory) => return Err(Memory),
             Ok(tried) => match tried {
@@ -223,7 +224,7 @@ fn may_miss(rule: Rule, missing: bool) -> bool
 pub fn open_later<D: Effects>(
     alloc: Global,
     run: &mut Run<D>,
-    frame: &mut RcFrame,
+    frame: &mut Frames,
 ) -> Result<Halted, Memory>
     ensures walks { Walks (left_by HostOff (mind_of run.old.process))
         (λ way. halted way frame.new (mind_of run.new.process)) result
@@ -231,7 +232,7 @@ pub fn open_later<D: Effects>(
     ensures falls { IfOk result (λ way. way ≡ Resumes →
         left_over run.new.process.openings frame.new + 1 ≤ left_over run.old.process.openings frame.old) }
 {
-    let names = mem::replace(&mut run.process.later, VecDeque::new(alloc));
+    let names = mem::replace(&mut run.process.later, Vec::new(alloc));
     let rule = Rule {
         is_implied: false,
         keeps_folder: true,
@@ -250,14 +251,14 @@ pub fn open_later<D: Effects>(
 }
 
 /// The rcfile of this code, with all of it left.
-pub fn begin_frame(alloc: Global, code: Code) -> RcFrame
+pub fn begin_frame(alloc: Global, code: Code) -> Frames
     ensures whole { (trees : Trees) → IsCode code trees → items_of result ≡ ahead trees [] }
     ensures place { result.place ≡ 0 }
     ensures code { result.code ≡ code }
     ensures blocks { result.blocks.items ≡ [] }
     ensures outer { result.outer.items ≡ [] }
 {
-    RcFrame {
+    Frames {
         code,
         place: 0,
         blocks: VecDeque::new(alloc),

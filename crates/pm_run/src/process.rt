@@ -1,24 +1,23 @@
 //! A whole run, from the mail's arrival to the end of the last of its processes.
-ghost use Rattle.std.specs.Prelude.{◌≡◌, ◌≤◌, [], IfOk, OnErr};
+ghost use Rattle.std.specs.Prelude.{◌≡◌, ◌≤◌, true, [], map, IfOk, OnErr};
 ghost use Rattle.pm_journal.specs.Held.{Keeping};
 ghost use Rattle.pm_journal.specs.Walking.{Stop, Completes};
 ghost use Rattle.pm_meaning.specs.FirstValues.{home_folder};
 ghost use Rattle.pm_meaning.specs.Minds.{mind_of};
 ghost use Rattle.pm_meaning.specs.Courses.{advance, run_of};
 ghost use Rattle.pm_meaning.specs.Running.{Running, Setting, Closing, home_by};
-ghost use Rattle.pm_run.specs.Frames.{items_of};
+ghost use Rattle.pm_run.specs.Nested.{are_nested, frame_of, items_in};
 ghost use Rattle.pm_run.specs.Ends.{copies_left};
 ghost use Rattle.pm_run.specs.Others.{next_in, GoesOn, GivesUp};
 ghost use Rattle.pm_run.specs.RunningOut.{GaveUp};
-ghost use Rattle.pm_run.specs.Stretches.{Proceeds, Walks};
+ghost use Rattle.pm_run.specs.Stretches.{Proceeds};
 
 use crate::arriving::{arrive, begin_rcfiles};
 use crate::ends::close;
-use crate::falling_off::fall_off;
 use crate::frames::RcFrame;
-use crate::opening::{Opened, begin_frame};
-use crate::queue::{Copy, Queue};
-use crate::walk::run_frame;
+use crate::queue::{Queue, next_copy};
+use crate::remaining::{run_frames, run_opened};
+use crate::task::Copy;
 use core::mem::replace_with;
 use pm_bytes::{Blob, Environ, Memory};
 use pm_conds::{NoObserver, Observer};
@@ -31,7 +30,7 @@ use std::mem;
 #[derive(Clone, Copy)]
 pub struct Counts {
     pub placed: u64,
-    pub openings: u64,
+    pub openings: u32,
 }
 
 /// What a whole run is given besides what does its acts.
@@ -151,7 +150,14 @@ fn run_all<D: Effects, N: Observer>(mut outside: D, start: Start<'_, N>) -> (D, 
     let counts = counts_of(&process);
     drop(process);
     match ended {
-        Ok(first) => run_copies(alloc, first, counts, queue, outside, journal, observer),
+        Ok(first) => {
+            let others = Others {
+                first,
+                counts,
+                queue,
+            };
+            run_copies(alloc, others, outside, journal, observer)
+        }
         Err(Memory) => (
             outside,
             Ran {
@@ -187,26 +193,9 @@ fn run_first<D: Effects, N: Observer>(
         run.old.journal run.new.journal (D.told run.old.outside) (D.told run.new.outside) }
     ensures few { copies_left queue.new ≤ copies_left queue.old }
 {
-    match begin_rcfiles(alloc, run, line, env)? {
-        Opened::Read(code) => {
-            let mut frame = begin_frame(alloc, code);
-            let ended = run_to_end(alloc, run, &mut frame, queue, observer);
-            drop(frame);
-            ended
-        }
-        Opened::Ended(end) => close(alloc, run, end, None),
-        Opened::Nothing => close_without(alloc, run),
-    }
-}
-
-// A process of which nothing is left to do, from its default mailboxes to its end.
-fn close_without<D: Effects>(alloc: Global, run: &mut Run<D>) -> Result<Ending, Memory>
-    ensures walks { Walks (Running [] (mind_of run.old.process))
-        (λ ending. Closing ending (mind_of run.new.process)) result
-        run.old.journal run.new.journal (D.told run.old.outside) (D.told run.new.outside) }
-{
+    let opened = begin_rcfiles(alloc, run, line, env)?;
     let mut draft = None;
-    match fall_off(alloc, run, &mut draft) {
+    match run_opened(alloc, run, opened, queue, &mut draft, observer) {
         Ok(end) => close(alloc, run, end, draft),
         Err(Memory) => {
             drop(draft);
@@ -215,28 +204,24 @@ fn close_without<D: Effects>(alloc: Global, run: &mut Run<D>) -> Result<Ending, 
     }
 }
 
-// A process, from what is left of its rcfiles to its end.
-fn run_to_end<D: Effects, N: Observer>(
+// A copy of a process, from the rest of its rcfiles to its end.
+fn run_copy<D: Effects, N: Observer>(
     alloc: Global,
     run: &mut Run<D>,
-    frame: &mut RcFrame,
+    frames: Vec<RcFrame>,
     queue: &mut Queue,
     observer: &mut N,
 ) -> Result<Ending, Memory>
-    ensures proceeds { Proceeds queue.old queue.new (Running (items_of frame.old) (mind_of run.old.process))
+    requires nested { are_nested (map frame_of frames.items) ≡ true }
+    ensures proceeds { Proceeds queue.old queue.new
+        (Running (items_in (map frame_of frames.items)) (mind_of run.old.process))
         (λ ending. Closing ending (mind_of run.new.process)) result
         run.old.journal run.new.journal (D.told run.old.outside) (D.told run.new.outside) }
     ensures few { copies_left queue.new ≤ copies_left queue.old }
 {
     let mut draft = None;
-    match run_frame(alloc, run, frame, queue, &mut draft, observer) {
-        Ok(ended) => match ended {
-            Some(end) => close(alloc, run, end, draft),
-            None => {
-                drop(draft);
-                close_without(alloc, run)
-            }
-        },
+    match run_frames(alloc, run, frames, queue, &mut draft, observer) {
+        Ok(end) => close(alloc, run, end, draft),
         Err(Memory) => {
             drop(draft);
             Err(Memory)
@@ -244,27 +229,36 @@ fn run_to_end<D: Effects, N: Observer>(
     }
 }
 
+// How the first process ended, what the run has counted since, and the copies that wait.
+struct Others {
+    first: Ending,
+    counts: Counts,
+    queue: Queue,
+}
+
 // The copies, one after the other, each from its block on.
 fn run_copies<D: Effects, N: Observer>(
     alloc: Global,
-    first: Ending,
-    counts: Counts,
-    mut queue: Queue,
+    others: Others,
     mut outside: D,
     mut journal: Journal,
     observer: &mut N,
 ) -> (D, Ran)
     requires keeping { Keeping journal [] }
-    ensures ok { IfOk result.1.ended (λ ending. GoesOn (next_in queue first counts) (Stop ending)
+    ensures ok { IfOk result.1.ended (λ ending. GoesOn (next_in others.queue others.first others.counts) (Stop ending)
         journal result.1.journal (D.told outside) (D.told result.0)) }
-    ensures memory { OnErr result.1.ended (GivesUp (next_in queue first counts)
+    ensures memory { OnErr result.1.ended (GivesUp (next_in others.queue others.first others.counts)
         journal result.1.journal (D.told outside) (D.told result.0)) }
     ensures keeping { Keeping result.1.journal [] }
 {
-    let mut counted = counts;
-    while let Some(copy) = queue.next() {
+    let Others {
+        first,
+        counts: mut counted,
+        mut queue,
+    } = others;
+    while let Some(copy) = next_copy(&mut queue) {
         let Copy {
-            mut frame,
+            frames,
             mut process,
         } = copy;
         process.placed = counted.placed;
@@ -274,7 +268,7 @@ fn run_copies<D: Effects, N: Observer>(
             journal,
             outside,
         };
-        let ended = run_to_end(alloc, &mut run, &mut frame, &mut queue, &mut *observer);
+        let ended = run_copy(alloc, &mut run, frames, &mut queue, &mut *observer);
         let Run {
             process: mut over,
             journal: noted,
@@ -285,7 +279,6 @@ fn run_copies<D: Effects, N: Observer>(
         give_all(&mut over.locks, &mut outside, &mut journal);
         counted = counts_of(&over);
         drop(over);
-        drop(frame);
         match ended {
             Ok(_) => {}
             Err(Memory) => {

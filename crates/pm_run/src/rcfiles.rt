@@ -17,7 +17,7 @@ ghost use Rattle.pm_run.specs.Frames.{items_of, outer_items, block_locks, left_o
 ghost use Rattle.pm_run.specs.Rcfiles.{GoesInto, HasCode, Opens, ReadsCode, TakesPlace};
 ghost use Rattle.pm_run.specs.Stretches.{Walks};
 
-use crate::frames::{RcFrame, Waiting};
+use crate::frames::{Frames, Waiting};
 use crate::leaving::leave_file;
 use pm_bytes::{Memory, Name};
 use pm_code::{Code, compile};
@@ -33,7 +33,7 @@ pub fn include<D: Effects>(
     alloc: Global,
     run: &mut Run<D>,
     name: Name,
-    frame: &mut RcFrame,
+    frame: &mut Frames,
 ) -> Result<(), Memory>
     ensures walks { Walks (Including name (items_of frame.old) (mind_of run.old.process))
         (λ _. Running (items_of frame.new) (mind_of run.new.process)) result
@@ -55,7 +55,7 @@ fn go_into(
     alloc: Global,
     name: Name,
     code: Code,
-    frame: &mut RcFrame,
+    frame: &mut Frames,
     process: &mut Process,
 ) -> Result<(), Memory>
     ensures into { IfOk result (λ _.
@@ -82,7 +82,7 @@ pub fn switch<D: Effects>(
     alloc: Global,
     run: &mut Run<D>,
     name: Name,
-    frame: &mut RcFrame,
+    frame: &mut Frames,
 ) -> Result<(), Memory>
     ensures walks { Walks (Switching name (items_of frame.old) (mind_of run.old.process))
         (λ _. Running (items_of frame.new) (mind_of run.new.process)) result
@@ -105,7 +105,7 @@ fn take_place<D: Effects>(
     run: &mut Run<D>,
     name: Name,
     code: Code,
-    frame: &mut RcFrame,
+    frame: &mut Frames,
 ) -> Result<(), Memory>
     ensures walks { (items : List Item) → Walks (LeavingFile (block_locks frame.old.blocks.items) items
         (begun_block (with_rcfile name (mind_of run.old.process))))
@@ -134,7 +134,7 @@ fn take_place<D: Effects>(
 pub fn end_file<D: Effects>(
     alloc: Global,
     run: &mut Run<D>,
-    frame: &mut RcFrame,
+    frame: &mut Frames,
 ) -> Result<(), Memory>
     ensures walks { Walks (LeavingFile (block_locks frame.old.blocks.items) (outer_items frame.old.outer.items)
         (mind_of run.old.process)) (λ _. Running (items_of frame.new) (mind_of run.new.process)) result

@@ -11,7 +11,7 @@ ghost use Rattle.pm_run.specs.Walk.{stands, less_by, IsStepAt, EndsAt, Entered, 
 
 use crate::cloning::make_clone;
 use crate::draft::Draft;
-use crate::frames::{Open, RcFrame, Waiting};
+use crate::frames::{Frames, Open, Waiting};
 use crate::gates::{Gate, pass_gate};
 use crate::leaving::{give_maybe, leave_blocks};
 use crate::opening::{Halted, open_later};
@@ -45,7 +45,7 @@ pub enum Stepped {
 pub fn run_frame<D: Effects, N: Observer>(
     alloc: Global,
     run: &mut Run<D>,
-    frame: &mut RcFrame,
+    frame: &mut Frames,
     queue: &mut Queue,
     draft: &mut Option<Draft>,
     observer: &mut N,
@@ -79,7 +79,7 @@ fn halt<D: Effects>(
     alloc: Global,
     run: &mut Run<D>,
     end: End,
-    frame: &mut RcFrame,
+    frame: &mut Frames,
 ) -> Result<Halted, Memory>
     ensures walks { Walks (Leaving (all_locks frame.old) end (mind_of run.old.process))
         (λ way. halted way frame.new (mind_of run.new.process)) result
@@ -98,7 +98,7 @@ fn halt<D: Effects>(
 fn step_frame<D: Effects, N: Observer>(
     alloc: Global,
     run: &mut Run<D>,
-    frame: &mut RcFrame,
+    frame: &mut Frames,
     draft: &mut Option<Draft>,
     observer: &mut N,
 ) -> Result<Stepped, Memory>
@@ -156,7 +156,7 @@ fn step_at(steps: &[Step], place: usize) -> Option<&Step>
 
 // The block is entered or passed by.
 fn enter_block(
-    frame: &mut RcFrame,
+    frame: &mut Frames,
     behind: usize,
     gate: Gate,
     process: &mut Process,
@@ -180,8 +180,12 @@ fn enter_block(
             Ok(Stepped::Clones(place))
         }
         Gate::Enters(lock) => {
-            let saved = process.chain;
-            frame.blocks.push_front(Open { saved, lock })?;
+            let block = Open {
+                enter: frame.place,
+                saved: process.chain,
+                lock,
+            };
+            frame.blocks.push_front(block)?;
             frame.place += 1;
             process.chain = new_chain();
             Ok(Stepped::Went)
@@ -193,7 +197,7 @@ fn enter_block(
 fn end_innermost<D: Effects>(
     alloc: Global,
     run: &mut Run<D>,
-    frame: &mut RcFrame,
+    frame: &mut Frames,
     next: usize,
 ) -> Result<Stepped, Memory>
     requires ends { EndsAt (steps_of frame.old) frame.old.place next }
@@ -207,7 +211,7 @@ fn end_innermost<D: Effects>(
     match frame.blocks.pop_front() {
         None => come_back(frame, &mut run.process),
         Some(open) => {
-            let Open { saved, lock } = open;
+            let Open { saved, lock, .. } = open;
             give_maybe(alloc, run, &lock)?;
             frame.place = next;
             run.process.chain = succeed(&saved);
@@ -217,7 +221,7 @@ fn end_innermost<D: Effects>(
 }
 
 // The rcfile that waits first goes on.
-fn come_back(frame: &mut RcFrame, process: &mut Process) -> Result<Stepped, Memory>
+fn come_back(frame: &mut Frames, process: &mut Process) -> Result<Stepped, Memory>
     ensures back { IfOk result (λ stepped.
         ComesBack stepped frame.old frame.new (mind_of process.old) (mind_of process.new)) }
     ensures locks { process.new.locks ≡ process.old.locks }

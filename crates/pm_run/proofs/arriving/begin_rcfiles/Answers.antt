@@ -1,4 +1,4 @@
-use Rattle.std.proofs.Common.{List, ℕ, ◌∙◌, ap}
+use Rattle.std.proofs.Common.{List, ℕ, ◌∙◌, reverse, ap}
 use Rattle.pm_journal.proofs.WantsMemory.{on_err}
 use Rattle.pm_meaning.specs.FirstValues.{home_folder}
 use Rattle.pm_meaning.specs.Minds.{mind_of}
@@ -27,7 +27,7 @@ returns-clause-opens g c =
     let walks = rw c.as_slice-values.ensures at c.in_ok-set_words.ensures.walks in
     let keeps = c.sets_folder.ensures ∙ ap sets_folder c.as_slice-values.ensures in
     let are = c.in_ok-names.ensures ∙ ap (rcfiles_of line) (c.home_by.ensures.same ∙ (ap (λ l. home_by l c.home.result.now) c.as_slice-values.ensures ∙ ap (home_by line.values) c.home.ensures.same)) in
-    ok_map c.open_first.result _ _ (λ opened h. begins_opening line home (record { is_implied = c.is_without.result; keeps_folder = c.sets_folder.result }) c.in_ok-names.names.items (mind_of c.args.run.now.process) (mind_of c.set_words.new.run.process) c.args.run.now.journal c.set_words.new.run.journal _ _
+    ok_map c.open_first.result _ _ (λ opened h. begins_opening line home (record { is_implied = c.is_without.result; keeps_folder = c.sets_folder.result }) (reverse c.in_ok-names.names.items) (mind_of c.args.run.now.process) (mind_of c.set_words.new.run.process) c.args.run.now.journal c.set_words.new.run.journal _ _
     c.is_without.ensures keeps are (λ (l : CommandLine) (h : List ℕ). (walks l h).0) opened (mind_of c.open_first.new.run.process) c.open_first.new.run.journal _ h) c.open_first.ensures.opens
 
 pub returns-clause-memory : goal.returns-clause-memory
@@ -37,5 +37,5 @@ returns-clause-memory g c =
     let walks = rw c.as_slice-values.ensures at c.in_ok-set_words.ensures.walks in
     let keeps = c.sets_folder.ensures ∙ ap sets_folder c.as_slice-values.ensures in
     let are = c.in_ok-names.ensures ∙ ap (rcfiles_of line) (c.home_by.ensures.same ∙ (ap (λ l. home_by l c.home.result.now) c.as_slice-values.ensures ∙ ap (home_by line.values) c.home.ensures.same)) in
-    err_map c.open_first.result _ _ (λ h. begins_wanting line home (record { is_implied = c.is_without.result; keeps_folder = c.sets_folder.result }) c.in_ok-names.names.items (mind_of c.args.run.now.process) (mind_of c.set_words.new.run.process) c.args.run.now.journal c.set_words.new.run.journal _ _
+    err_map c.open_first.result _ _ (λ h. begins_wanting line home (record { is_implied = c.is_without.result; keeps_folder = c.sets_folder.result }) (reverse c.in_ok-names.names.items) (mind_of c.args.run.now.process) (mind_of c.set_words.new.run.process) c.args.run.now.journal c.set_words.new.run.journal _ _
     c.is_without.ensures keeps are (λ (l : CommandLine) (h : List ℕ). (walks l h).0) c.open_first.new.run.journal _ h) c.open_first.ensures.memory

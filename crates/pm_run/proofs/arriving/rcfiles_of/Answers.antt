@@ -1,5 +1,5 @@
-use Rattle.std.proofs.Common.{◌∙◌, sym, rules}
-use Rattle.std.proofs.lemmas.List.{at_drop_all}
+use Rattle.std.proofs.Common.{◌∙◌, reverse, sym, ap, rules}
+use Rattle.std.proofs.lemmas.List.{at_drop_all, reverse-reverse}
 use Rattle.pm_meaning.specs.Running.{named_rcfile}
 use Rattle.pm_meaning.proofs.Choices.{ok_map}
 use Rattle.pm_meaning.proofs.Sequences.{front_of_rest}
@@ -8,7 +8,7 @@ use Rattle.pm_run.proofs.arriving.rcfiles_of.Goals as goal
 
 pub returns-then-is_without : goal.returns-then-is_without
 returns-then-is_without c =
-    ok_map c.own_rcfile.result _ _ (λ names h. rcfile_implied c.args.line.now c.args.home.now names.items (sym c.is_without.ensures ∙ c.if-is_without.true) h) c.own_rcfile.ensures
+    ok_map c.own_rcfile.result _ _ (λ names h. rcfile_implied c.args.line.now c.args.home.now (reverse names.items) (sym c.is_without.ensures ∙ c.if-is_without.true) (ap reverse h)) c.own_rcfile.ensures
 
 pub loop-word-preserved : goal.loop-word-preserved
 loop-word-preserved c =
@@ -19,4 +19,5 @@ pub returns : goal.returns
 returns c =
     let i = c.loop-word.word-index in
     let f = named_rcfile c.args.line.now.filter c.args.home.now in
+    ap reverse c.reverse.ensures.items ∙ reverse-reverse c.loop-word.names.items ∙
     rcfiles_named c.args.line.now c.args.home.now c.loop-word.names.items (sym c.is_without.ensures ∙ c.if-is_without.false) (words_named c.loop-word.names.items _ c.args.line.now.rcfiles f i (at_drop_all (λ l. l) _ i c.loop-word-test.false) c.loop-word.invariant.1)

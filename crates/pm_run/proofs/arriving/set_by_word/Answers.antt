@@ -1,5 +1,5 @@
-use Rattle.std.proofs.Common.{◌≡◌, ◌∙◌, refl, sym, ap, rules}
-use Rattle.std.specs.Prelude.{bytes_eq, codes, ◌||◌}
+use Rattle.std.proofs.Common.{◌∙◌, refl, sym, ap, rules}
+use Rattle.std.specs.Prelude.{bytes_eq, codes}
 use Rattle.pm_journal.proofs.WantsMemory.{on_err, out_anywhere}
 use Rattle.pm_meaning.specs.Minds.{mind_of}
 use Rattle.pm_meaning.proofs.Choices.{ok_map, err_map}

@@ -1,6 +1,5 @@
 use Rattle.std.proofs.Common.{◌≡◌, true, false, List, [], ◌∷◌, ◌++◌, ◌∙◌, inl, inr, refl, sym, subst}
 use Rattle.std.specs.Prelude.{codes}
-use Rattle.pm_recipe.specs.Tree.{Mailbox}
 use Rattle.pm_journal.specs.declared.acts.Act.TheVariants.{Run}
 use Rattle.pm_journal.specs.declared.acts.Entry.{Entry}
 use Rattle.pm_journal.specs.declared.acts.Reply.TheVariants.{Done, Torn, Ended}

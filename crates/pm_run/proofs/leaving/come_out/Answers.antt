@@ -1,4 +1,4 @@
-use Rattle.std.proofs.Common.{◌≡◌, ◌<◌, ◌+◌, ◌-◌, ◌*◌, ◌++◌, [], length, rules, refl, sym, ap, arith}
+use Rattle.std.proofs.Common.{◌≡◌, ◌+◌, ◌-◌, ◌*◌, ◌++◌, [], length, rules, sym, ap, arith}
 use Rattle.pm_run.specs.Frames.{block_locks, outer_locks, left_outside}
 use Rattle.pm_run.proofs.LeaveLemmas.{next_locks, no_locks}
 use Rattle.pm_run.proofs.leaving.come_out.Goals as goal

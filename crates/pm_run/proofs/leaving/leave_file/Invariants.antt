@@ -1,5 +1,4 @@
 use Rattle.std.proofs.Common.{◌≡◌, List, length}
-use Rattle.pm_journal.specs.Held.{Keeping}
 use Rattle.pm_journal.specs.Walking.{Reaches}
 use Rattle.pm_meaning.specs.Minds.{mind_of}
 use Rattle.pm_meaning.specs.Running.{Item, Event, LeavingFile, step}

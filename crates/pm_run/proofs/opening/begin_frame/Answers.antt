@@ -1,8 +1,5 @@
-use Rattle.std.proofs.Common.{◌≡◌, ◌∙◌, [], List, rules, ap}
-use Rattle.pm_code.specs.Ahead.{lists_of}
-use Rattle.pm_code.specs.Flat.{flats_of}
+use Rattle.std.proofs.Common.{◌≡◌, [], rules}
 use Rattle.pm_recipe.specs.Tree.{Trees}
-use Rattle.pm_run.specs.Frames.{weave, outer_items}
 use Rattle.pm_run.specs.Ends.{IsCode}
 use Rattle.pm_run.proofs.OpeningLemmas.{begun_items}
 use Rattle.pm_run.proofs.opening.begin_frame.Goals as goal

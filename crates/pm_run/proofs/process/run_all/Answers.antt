@@ -1,10 +1,10 @@
-use Rattle.std.proofs.Common.{[], rules, sym, subst}
+use Rattle.std.proofs.Common.{sym, subst}
 use Rattle.pm_journal.specs.Held.{Keeping}
 use Rattle.pm_journal.proofs.WalkJoin.{gives_none}
 use Rattle.pm_meaning.specs.FirstValues.{home_folder}
 use Rattle.pm_meaning.specs.Minds.{mind_of}
 use Rattle.pm_meaning.specs.Courses.{now_at, alone}
-use Rattle.pm_meaning.specs.Running.{Arrived, Setting, Closing, home_by, step}
+use Rattle.pm_meaning.specs.Running.{Arrived, Setting, home_by, step}
 use Rattle.pm_meaning.proofs.Choices.{ok_map, err_map}
 use Rattle.pm_run.specs.RunningOut.{MayRunOut}
 use Rattle.pm_run.proofs.RunOutLemmas.{ran_out_at_once, ran_out_in_run, gave_up_by}

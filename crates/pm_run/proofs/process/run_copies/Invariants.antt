@@ -6,7 +6,7 @@ use Rattle.pm_run.proofs.process.run_copies.Given as goal
 
 abbrev pub invariant-loop-copy : goal.invariant-loop-copy
 invariant-loop-copy g l = record {
-  goes : GoesOn (next_in l.fn.queue l.fn.first l.fn.counts) (next_in l.queue l.fn.first l.counted) l.fn.journal l.journal (g.D.Asks.told l.fn.outside) (g.D.Asks.told l.outside);
+  goes : GoesOn (next_in l.fn.others.queue l.fn.others.first l.fn.others.counts) (next_in l.queue l.fn.others.first l.counted) l.fn.journal l.journal (g.D.Asks.told l.fn.outside) (g.D.Asks.told l.outside);
   keeping : Keeping l.journal [];
 }
 

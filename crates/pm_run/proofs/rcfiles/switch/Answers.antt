@@ -1,4 +1,4 @@
-use Rattle.std.proofs.Common.{subst, ap}
+use Rattle.std.proofs.Common.{subst}
 use Rattle.pm_journal.specs.Walking.{Reaches}
 use Rattle.pm_meaning.specs.Blocks.{begun_block}
 use Rattle.pm_meaning.specs.Changes.{with_rcfile}

@@ -1,12 +1,10 @@
-use Rattle.std.proofs.Common.{rules, refl}
-use Rattle.pm_journal.proofs.WantsMemory.{on_err}
 use Rattle.pm_meaning.specs.Minds.{mind_of}
 use Rattle.pm_meaning.specs.declared.process.End.TheVariants.{HostOff}
 use Rattle.pm_meaning.specs.Running.{Leaving, left_by, step}
 use Rattle.pm_meaning.proofs.Choices.{ok_map, err_map}
 use Rattle.pm_run.specs.Frames.{all_locks}
 use Rattle.pm_run.specs.Ends.{halted}
-use Rattle.pm_run.proofs.LeaveLemmas.{halts_over, halts_off, same_left}
+use Rattle.pm_run.proofs.LeaveLemmas.{halts_over, halts_off}
 use Rattle.pm_run.specs.RunningOut.{MayRunOut}
 use Rattle.pm_run.proofs.RunOutLemmas.{ran_out_reached}
 use Rattle.pm_run.proofs.RunLemmas.{reaches_on}

@@ -1,5 +1,4 @@
 use Rattle.std.proofs.Common.{◌≤◌}
-use Rattle.pm_journal.specs.Held.{Keeping}
 use Rattle.pm_meaning.specs.Minds.{mind_of}
 use Rattle.pm_meaning.specs.Running.{Running}
 use Rattle.pm_run.specs.Frames.{items_of, left_over}
