@@ -5,7 +5,7 @@ use crate::failed::Failed;
 use crate::minds::mind_with;
 use crate::report::Report;
 use crate::world::{NOTHING, make_host};
-use pm_bytes::Name;
+use pm_bytes::{Memory, Name};
 use pm_journal::Journal;
 use pm_meaning::{Mind, Opening, Shared};
 use pm_memory::{MemoryHost, MemorySink};
@@ -38,6 +38,7 @@ pub fn show(alloc: Global, report: &mut Report) {
 }
 
 // What the processes of a run have in common.
+#[derive(Drop)]
 struct Common {
     queue: Queue,
     shared: Shared,
@@ -166,12 +167,19 @@ fn first_task(alloc: Global, under_m: bool) -> Result<Task, Failed>
     ensures { IfOk result (λ task. task.mind.locks.names ≡ []) }
 {
     let mut mind = mind_with(alloc, MAIL)?;
-    mind.rcfiles.push(Name::read(alloc, b"rc")?)?;
-    mind.rcfiles.push(Name::read(alloc, b"/more")?)?;
+    name_rcfiles(alloc, &mut mind.rcfiles)?;
     let opening = Opening {
         under_m,
         implied: false,
         keep_base: false,
     };
     Ok(Task::first(mind, opening))
+}
+
+fn name_rcfiles(alloc: Global, rcfiles: &mut Vec<Name>) -> Result<(), Memory> {
+    let first = Name::from_text(String::from_str(alloc, "rc")?);
+    let second = Name::from_text(String::from_str(alloc, "/more")?);
+    rcfiles.push(first)?;
+    rcfiles.push(second)?;
+    Ok(())
 }
