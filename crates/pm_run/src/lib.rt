@@ -31,9 +31,8 @@ mod task;
 mod turned;
 mod walk;
 
-pub use copies::copy_for_block;
 pub use frames::{Open, RcFrame};
 pub use parts::{ProcessEnd, run_process};
-pub use process::{run_observed, run_processes};
+pub use process::{Arrival, run_observed, run_processes};
 pub use queue::Queue;
 pub use task::Task;

@@ -33,12 +33,17 @@ pub struct Counts {
     pub openings: u32,
 }
 
-/// What a whole run is given besides what does its acts.
-pub struct Start<'a, N: Observer> {
-    pub alloc: Global,
+/// What a run is about: its command line, its environment, and the bytes of the mail.
+pub struct Arrival<'a> {
     pub line: CommandLine,
     pub env: &'a Environ,
     pub bytes: Blob,
+}
+
+/// What a whole run is given besides what does its acts.
+pub struct Start<'a, N: Observer> {
+    pub alloc: Global,
+    pub arrival: Arrival<'a>,
     pub journal: Journal,
     pub observer: &'a mut N,
 }
@@ -54,46 +59,40 @@ pub struct Ran {
 /// one that was held has been tried once.
 pub fn run_processes<D: Effects>(
     alloc: Global,
-    line: CommandLine,
-    env: &Environ,
-    bytes: Blob,
+    arrival: Arrival<'_>,
     outside: &mut D,
     journal: &mut Journal,
 ) -> Result<Ending, Memory>
     requires keeping { Keeping journal.old [] }
-    ensures ok { IfOk result (λ ending. Completes advance (run_of line env.now bytes) ending
+    ensures ok { IfOk result (λ ending. Completes advance (run_of arrival.entry.line arrival.entry.env.now arrival.entry.bytes) ending
         journal.old journal.new (D.told outside.old) (D.told outside.new)) }
-    ensures memory { OnErr result (GaveUp (run_of line env.now bytes)
+    ensures memory { OnErr result (GaveUp (run_of arrival.entry.line arrival.entry.env.now arrival.entry.bytes)
         journal.old journal.new (D.told outside.old) (D.told outside.new)) }
     ensures keeping { Keeping journal.new [] }
 {
-    run_observed(alloc, line, env, bytes, outside, journal, &mut NoObserver)
+    run_observed(alloc, arrival, outside, journal, &mut NoObserver)
 }
 
 /// The same as [`run_processes`]. The observer hears of the recipes that the processes come to, and of the conditions
 /// that are judged.
 pub fn run_observed<D: Effects, N: Observer>(
     alloc: Global,
-    line: CommandLine,
-    env: &Environ,
-    bytes: Blob,
+    arrival: Arrival<'_>,
     outside: &mut D,
     journal: &mut Journal,
     observer: &mut N,
 ) -> Result<Ending, Memory>
     requires keeping { Keeping journal.old [] }
-    ensures ok { IfOk result (λ ending. Completes advance (run_of line env.now bytes) ending
+    ensures ok { IfOk result (λ ending. Completes advance (run_of arrival.entry.line arrival.entry.env.now arrival.entry.bytes) ending
         journal.old journal.new (D.told outside.old) (D.told outside.new)) }
-    ensures memory { OnErr result (GaveUp (run_of line env.now bytes)
+    ensures memory { OnErr result (GaveUp (run_of arrival.entry.line arrival.entry.env.now arrival.entry.bytes)
         journal.old journal.new (D.told outside.old) (D.told outside.new)) }
     ensures keeping { Keeping journal.new [] }
 {
     let begun = mem::replace(journal, Journal::new(alloc));
     let start = Start {
         alloc,
-        line,
-        env,
-        bytes,
+        arrival,
         journal: begun,
         observer,
     };
@@ -109,21 +108,20 @@ pub fn run_observed<D: Effects, N: Observer>(
 fn run_all<D: Effects, N: Observer>(mut outside: D, start: Start<'_, N>) -> (D, Ran)
     requires keeping { Keeping start.journal [] }
     ensures ok { IfOk result.1.ended (λ ending.
-        Completes advance (run_of start.entry.line start.entry.env.now start.entry.bytes) ending
+        Completes advance (run_of start.entry.arrival.line start.entry.arrival.env.now start.entry.arrival.bytes) ending
         start.entry.journal result.1.journal (D.told outside) (D.told result.0)) }
     ensures memory { OnErr result.1.ended
-        (GaveUp (run_of start.entry.line start.entry.env.now start.entry.bytes)
+        (GaveUp (run_of start.entry.arrival.line start.entry.arrival.env.now start.entry.arrival.bytes)
         start.entry.journal result.1.journal (D.told outside) (D.told result.0)) }
     ensures keeping { Keeping result.1.journal [] }
 {
     let Start {
         alloc,
-        line,
-        env,
-        bytes,
+        arrival,
         mut journal,
         observer,
     } = start;
+    let Arrival { line, env, bytes } = arrival;
     let process = match arrive(alloc, &line, env, bytes, &mut outside, &mut journal) {
         Ok(process) => process,
         Err(Memory) => return (

@@ -12,13 +12,13 @@ ghost use Rattle.pm_top.specs.Traced.{RunsLine, RunsMail};
 
 use crate::words::read_words;
 use pm_append::write_text;
-use pm_bytes::{Blob, Environ, Memory};
+use pm_bytes::{Environ, Memory};
 use pm_conds::{NoObserver, Observer};
 use pm_host::{Child, Host, Sink, Source};
 use pm_journal::Journal;
 use pm_meaning::{CommandLine, End, Ending, Status};
 use pm_objects::{Objects, lend};
-use pm_run::run_observed;
+use pm_run::{Arrival, run_observed};
 use pm_streams::{Mail, read_mail};
 use std::alloc::Global;
 
@@ -152,7 +152,10 @@ fn run_line<'a, S: Source, H: Host, O: Sink, E: Sink, N: Observer>(
     ensures err { objects.new.err.ghost_name ≡ objects.old.err.ghost_name }
 {
     match read_mail(alloc, source) {
-        Ok(Mail::Bytes(bytes)) => run_mail(alloc, line, env, bytes, objects, journal, observer),
+        Ok(Mail::Bytes(bytes)) => {
+            let arrival = Arrival { line, env, bytes };
+            run_mail(alloc, arrival, objects, journal, observer)
+        }
         Ok(Mail::TooMany) => refuse(&mut *objects.err, Status::DataError),
         Ok(Mail::Failed) => refuse(&mut *objects.err, Status::InputOutput),
         Err(Memory) => refuse(&mut *objects.err, Status::SystemError),
@@ -161,17 +164,15 @@ fn run_line<'a, S: Source, H: Host, O: Sink, E: Sink, N: Observer>(
 
 fn run_mail<'a, H: Host, O: Sink, E: Sink, N: Observer>(
     alloc: Global,
-    line: CommandLine,
-    env: &Environ,
-    bytes: Blob,
+    arrival: Arrival<'_>,
     objects: &mut Objects<'a, H, &'a mut O, E>,
     journal: &mut Journal,
     observer: &mut N,
 ) -> u8
     requires empty { journal.old.entries ≡ [] }
-    ensures run { RunsMail line bytes (λ words source rest. record {
+    ensures run { RunsMail arrival.entry.line arrival.entry.bytes (λ words source rest. record {
       words = words;
-      env = env.now;
+      env = arrival.entry.env.now;
       status = result;
       source = source;
       rest = rest;
@@ -186,7 +187,7 @@ fn run_mail<'a, H: Host, O: Sink, E: Sink, N: Observer>(
     ensures out { objects.new.out.ghost_name ≡ objects.old.out.ghost_name }
     ensures err { objects.new.err.ghost_name ≡ objects.old.err.ghost_name }
 {
-    match run_objects(alloc, line, env, bytes, objects, journal, observer) {
+    match run_objects(alloc, arrival, objects, journal, observer) {
         Ok(ending) => finish(&mut *objects.err, ending),
         Err(Memory) => refuse(&mut *objects.err, Status::SystemError),
     }
@@ -195,19 +196,17 @@ fn run_mail<'a, H: Host, O: Sink, E: Sink, N: Observer>(
 // The processes, after which the objects are the same ones.
 fn run_objects<'a, H: Host, O: Sink, E: Sink, N: Observer>(
     alloc: Global,
-    line: CommandLine,
-    env: &Environ,
-    bytes: Blob,
+    arrival: Arrival<'_>,
     objects: &mut Objects<'a, H, &'a mut O, E>,
     journal: &mut Journal,
     observer: &mut N,
 ) -> Result<Ending, Memory>
     requires keeping { Keeping journal.old [] }
-    ensures ok { IfOk result (λ ending. Completes advance (run_of line env.now bytes) ending
+    ensures ok { IfOk result (λ ending. Completes advance (run_of arrival.entry.line arrival.entry.env.now arrival.entry.bytes) ending
         journal.old journal.new
         (view_of (H.told objects.old.host.now) (O.told objects.old.out.now) (E.told objects.old.err.now))
         (view_of (H.told objects.new.host.now) (O.told objects.new.out.now) (E.told objects.new.err.now))) }
-    ensures memory { OnErr result (GaveUp (run_of line env.now bytes)
+    ensures memory { OnErr result (GaveUp (run_of arrival.entry.line arrival.entry.env.now arrival.entry.bytes)
         journal.old journal.new
         (view_of (H.told objects.old.host.now) (O.told objects.old.out.now) (E.told objects.old.err.now))
         (view_of (H.told objects.new.host.now) (O.told objects.new.out.now) (E.told objects.new.err.now))) }
@@ -216,7 +215,7 @@ fn run_objects<'a, H: Host, O: Sink, E: Sink, N: Observer>(
     ensures out { objects.new.out.ghost_name ≡ objects.old.out.ghost_name }
     ensures err { objects.new.err.ghost_name ≡ objects.old.err.ghost_name }
 {
-    run_observed(alloc, line, env, bytes, objects, journal, observer)
+    run_observed(alloc, arrival, objects, journal, observer)
 }
 
 // The status of a run that ended so; a mail filter without its rcfile says so.

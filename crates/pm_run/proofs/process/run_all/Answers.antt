@@ -18,33 +18,33 @@ invariant_of-run g c =
 
 pub returns-in-Err-clause-memory : goal.returns-in-Err-clause-memory
 returns-in-Err-clause-memory g c =
-    let start = Arrived c.args.start.line c.args.start.env.now c.args.start.bytes in
+    let start = Arrived c.args.start.arrival.line c.args.start.arrival.env.now c.args.start.arrival.bytes in
     gave_up_by (now_at alone start) _ _ _ _ _ _ _
     (ran_out_in_run alone start _ _ _ _ (ran_out_at_once step MayRunOut start _ _ _ _ c.in-Err.ensures.carries.1 (λ more e. tt))) (gives_none _ _) c.requires.keeping c.arrive.ensures.keeping
 
 pub returns-clause-memory : goal.returns-clause-memory
 returns-clause-memory g c =
-    let line = c.args.start.line in
-    let start = Arrived line c.args.start.env.now c.args.start.bytes in
-    let setting = Setting line.values line (home_by line.values (home_folder c.args.start.env.now)) (mind_of c.in-Ok.process) in
+    let line = c.args.start.arrival.line in
+    let start = Arrived line c.args.start.arrival.env.now c.args.start.arrival.bytes in
+    let setting = Setting line.values line (home_by line.values (home_folder c.args.start.arrival.env.now)) (mind_of c.in-Ok.process) in
     let began = c.in-Ok.ensures.carries.0 in
     first_wants c.new-queue.result c.run_first-ended.new.queue start setting _ _ _ _ _ _ c.new-queue.ensures.empty c.new-queue.ensures.none began
     _ _ _ (λ first. (rw c.in-Err-ended.is at c.run_first-ended.ensures.proceeds first).1) c.give_all.ensures.gives c.requires.keeping (record { keeps = c.run_first-ended.new.run.keeps; room = c.run_first-ended.new.run.room })
 
 pub returns-in-Ok-ended-clause-ok : goal.returns-in-Ok-ended-clause-ok
 returns-in-Ok-ended-clause-ok g c =
-    let line = c.args.start.line in
-    let start = Arrived line c.args.start.env.now c.args.start.bytes in
-    let setting = Setting line.values line (home_by line.values (home_folder c.args.start.env.now)) (mind_of c.in-Ok.process) in
+    let line = c.args.start.arrival.line in
+    let start = Arrived line c.args.start.arrival.env.now c.args.start.arrival.bytes in
+    let setting = Setting line.values line (home_by line.values (home_folder c.args.start.arrival.env.now)) (mind_of c.in-Ok.process) in
     let began = c.in-Ok.ensures.carries.0 in
     ok_map c.run_copies.result.1.ended _ _ (λ end h. all_ran c.new-queue.result c.run_first-ended.new.queue start setting c.args.start.journal c.arrive.new.journal c.run_first-ended.new.run.journal _ _ _ c.new-queue.ensures.empty c.new-queue.ensures.none began
     c.in-Ok-ended.first (mind_of c.run_first-ended.new.run.process) c.counts_of-counts.result c.give_all.new.journal c.run_copies.result.1.journal _ _ (λ first. (rw c.in-Ok-ended.is at c.run_first-ended.ensures.proceeds first).0) c.counts_of-counts.ensures.placed c.counts_of-counts.ensures.openings c.give_all.ensures.gives end h) c.run_copies.ensures.ok
 
 pub returns-in-Ok-ended-clause-memory : goal.returns-in-Ok-ended-clause-memory
 returns-in-Ok-ended-clause-memory g c =
-    let line = c.args.start.line in
-    let start = Arrived line c.args.start.env.now c.args.start.bytes in
-    let setting = Setting line.values line (home_by line.values (home_folder c.args.start.env.now)) (mind_of c.in-Ok.process) in
+    let line = c.args.start.arrival.line in
+    let start = Arrived line c.args.start.arrival.env.now c.args.start.arrival.bytes in
+    let setting = Setting line.values line (home_by line.values (home_folder c.args.start.arrival.env.now)) (mind_of c.in-Ok.process) in
     let began = c.in-Ok.ensures.carries.0 in
     err_map c.run_copies.result.1.ended _ _ (λ h. others_want c.new-queue.result c.run_first-ended.new.queue start setting c.args.start.journal c.arrive.new.journal c.run_first-ended.new.run.journal _ _ _ c.new-queue.ensures.empty c.new-queue.ensures.none began
     c.in-Ok-ended.first (mind_of c.run_first-ended.new.run.process) c.counts_of-counts.result c.give_all.new.journal c.run_copies.result.1.journal _ _ (λ first. (rw c.in-Ok-ended.is at c.run_first-ended.ensures.proceeds first).0) c.counts_of-counts.ensures.placed c.counts_of-counts.ensures.openings c.give_all.ensures.gives c.requires.keeping c.give_all.ensures.keeping h) c.run_copies.ensures.memory
