@@ -27,6 +27,14 @@ pub struct Runs {
     pub starts: bool,
 }
 
+// What procmail is asked for: the machine, its words, and the mail.
+#[derive(Clone, Copy)]
+struct Asked<'a> {
+    rt: &'a HostRuntime,
+    words: &'a [String],
+    mail: &'a Blob,
+}
+
 /// What one did, what was heard of its recipes, and which of its programs were started, by their places among them.
 #[derive(Drop)]
 pub struct Ran {
@@ -39,23 +47,24 @@ pub struct Ran {
 impl Runs {
     /// Runs procmail by these words on a mail.
     pub fn run(&self, rt: &HostRuntime, words: &[String], mail: &Blob) -> Result<Ran, Memory> {
-        let first = self.run_once(rt, words, mail)?;
+        let asked = Asked { rt, words, mail };
+        let first = self.run_once(asked)?;
         if self.starts {
-            self.start_programs(rt, words, mail, first)
+            self.start_programs(asked, first)
         } else {
             Ok(first)
         }
     }
 
     // The run in which no program is started.
-    fn run_once(&self, rt: &HostRuntime, words: &[String], mail: &Blob) -> Result<Ran, Memory> {
-        let mut notes = Notes::new(rt.alloc());
-        let (journal, status) = self.observe(rt, words, mail, None, &mut notes)?;
+    fn run_once(&self, asked: Asked<'_>) -> Result<Ran, Memory> {
+        let mut notes = Notes::new(asked.rt.alloc());
+        let (journal, status) = self.observe(asked, None, &mut notes)?;
         Ok(Ran {
             journal,
             notes,
             status,
-            started: Vec::new(rt.alloc()),
+            started: Vec::new(asked.rt.alloc()),
         })
     }
 
@@ -70,45 +79,28 @@ impl Runs {
             let ran = self.run(rt, words, mail)?;
             outcome_of(rt.alloc(), ran.journal.entries(), ran.status)
         } else {
-            self.outcome_once(rt, words, mail)
+            self.outcome_once(Asked { rt, words, mail })
         }
     }
 
     // That of the run in which no program is started.
-    fn outcome_once(
-        &self,
-        rt: &HostRuntime,
-        words: &[String],
-        mail: &Blob,
-    ) -> Result<Outcome, Memory> {
-        let (journal, status) = self.observe(rt, words, mail, None, &mut NoObserver)?;
-        outcome_of(rt.alloc(), journal.entries(), status)
+    fn outcome_once(&self, asked: Asked<'_>) -> Result<Outcome, Memory> {
+        let (journal, status) = self.observe(asked, None, &mut NoObserver)?;
+        outcome_of(asked.rt.alloc(), journal.entries(), status)
     }
 
-    fn start_programs(
-        &self,
-        rt: &HostRuntime,
-        words: &[String],
-        mail: &Blob,
-        first: Ran,
-    ) -> Result<Ran, Memory> {
+    fn start_programs(&self, asked: Asked<'_>, first: Ran) -> Result<Ran, Memory> {
         let mut ran = first;
-        self.start_each(rt, words, mail, &mut ran)?;
+        self.start_each(asked, &mut ran)?;
         Ok(ran)
     }
 
     // The run is repeated, each time with one program more that is started, until none is left.
-    fn start_each(
-        &self,
-        rt: &HostRuntime,
-        words: &[String],
-        mail: &Blob,
-        ran: &mut Ran,
-    ) -> Result<(), Memory> {
-        let lines = lines_of(rt.alloc(), self.given.as_slice())?;
+    fn start_each(&self, asked: Asked<'_>, ran: &mut Ran) -> Result<(), Memory> {
+        let lines = lines_of(asked.rt.alloc(), self.given.as_slice())?;
         let mut last = None;
         for _ in 0..MOST_STARTS {
-            last = self.start_next(rt, words, mail, lines.as_slice(), last, ran)?;
+            last = self.start_next(asked, lines.as_slice(), last, ran)?;
             if last.is_none() {
                 break;
             }
@@ -119,30 +111,21 @@ impl Runs {
     // Starts the first program after the place, and answers where it is. These lines are answered without a start.
     fn start_next(
         &self,
-        rt: &HostRuntime,
-        words: &[String],
-        mail: &Blob,
+        asked: Asked<'_>,
         lines: &[Blob],
         last: Option<usize>,
         ran: &mut Ran,
     ) -> Result<Option<usize>, Memory> {
         let entries = ran.journal.entries();
-        let next = next_start(rt.alloc(), lines, entries, ran.notes.as_slice(), last)?;
+        let next = next_start(asked.rt.alloc(), lines, entries, ran.notes.as_slice(), last)?;
         if let Some(place) = next {
-            *ran = self.start_program(rt, words, mail, ran, place)?;
+            *ran = self.start_program(asked, ran, place)?;
         }
         Ok(next)
     }
 
     // The same run once more, in which the program at this place is started.
-    fn start_program(
-        &self,
-        rt: &HostRuntime,
-        words: &[String],
-        mail: &Blob,
-        before: &Ran,
-        place: usize,
-    ) -> Result<Ran, Memory> {
+    fn start_program(&self, asked: Asked<'_>, before: &Ran, place: usize) -> Result<Ran, Memory> {
         let entries = before.journal.entries();
         let started = before.started.as_slice();
         let script = Script {
@@ -150,9 +133,9 @@ impl Runs {
             started,
             next: Some(place),
         };
-        let mut notes = Notes::new(rt.alloc());
-        let (journal, status) = self.observe(rt, words, mail, Some(script), &mut notes)?;
-        let started = started_after(rt.alloc(), entries, journal.entries(), started, place)?;
+        let mut notes = Notes::new(asked.rt.alloc());
+        let (journal, status) = self.observe(asked, Some(script), &mut notes)?;
+        let started = started_after(asked.rt.alloc(), entries, journal.entries(), started, place)?;
         Ok(Ran {
             journal,
             notes,
@@ -164,24 +147,20 @@ impl Runs {
     // The entries and the status of a run, which the observer follows. Programs are started by the script, or none.
     fn observe<N: Observer>(
         &self,
-        rt: &HostRuntime,
-        words: &[String],
-        mail: &Blob,
+        asked: Asked<'_>,
         script: Option<Script<'_>>,
         observer: &mut N,
     ) -> Result<(Journal, u8), Memory> {
-        let given = copies(rt.alloc(), self.given.as_slice())?;
-        let lines = lines_of(rt.alloc(), self.given.as_slice())?;
-        let overlay = Overlay::new(rt.alloc(), self.machine.base(rt)?, given);
-        let host = OwnCode::new(rt.alloc(), overlay, lines)?;
-        self.observe_by(rt, words, mail, host, script, observer)
+        let given = copies(asked.rt.alloc(), self.given.as_slice())?;
+        let lines = lines_of(asked.rt.alloc(), self.given.as_slice())?;
+        let overlay = Overlay::new(asked.rt.alloc(), self.machine.base(asked.rt)?, given);
+        let host = OwnCode::new(asked.rt.alloc(), overlay, lines)?;
+        self.observe_by(asked, host, script, observer)
     }
 
     fn observe_by<H: Host + Drop, N: Observer>(
         &self,
-        rt: &HostRuntime,
-        words: &[String],
-        mail: &Blob,
+        asked: Asked<'_>,
         below: H,
         script: Option<Script<'_>>,
         observer: &mut N,
@@ -189,44 +168,45 @@ impl Runs {
         requires { (H.told below).child ≡ Child.NoChild }
     {
         match script {
-            Some(script) => self.observe_started(rt, words, mail, below, script, observer),
+            Some(script) => self.observe_started(asked, below, script, observer),
             None => {
                 let mut host = below;
-                self.observe_over(rt, words, mail, &mut host, observer)
+                self.observe_over(asked, &mut host, observer)
             }
         }
     }
 
     fn observe_started<H: Host + Drop, N: Observer>(
         &self,
-        rt: &HostRuntime,
-        words: &[String],
-        mail: &Blob,
+        asked: Asked<'_>,
         below: H,
         script: Script<'_>,
         observer: &mut N,
     ) -> Result<(Journal, u8), Memory>
         requires { (H.told below).child ≡ Child.NoChild }
     {
-        let mut host = Stepping::new(rt.alloc(), below, self.machine.host(rt)?, script);
-        self.observe_over(rt, words, mail, &mut host, observer)
+        let mut host = Stepping::new(
+            asked.rt.alloc(),
+            below,
+            self.machine.host(asked.rt)?,
+            script,
+        );
+        self.observe_over(asked, &mut host, observer)
     }
 
     fn observe_over<H: Host, N: Observer>(
         &self,
-        rt: &HostRuntime,
-        words: &[String],
-        mail: &Blob,
+        asked: Asked<'_>,
         host: &mut H,
         observer: &mut N,
     ) -> Result<(Journal, u8), Memory>
         requires { (H.told host.old).child ≡ Child.NoChild }
     {
-        let mut source = MessageSource::new(mail.as_slice().to_vec(rt.alloc())?);
-        let mut journal = Journal::new(rt.alloc());
+        let mut source = MessageSource::new(asked.mail.as_slice().to_vec(asked.rt.alloc())?);
+        let mut journal = Journal::new(asked.rt.alloc());
         let status = procmail_observed(
-            rt.alloc(),
-            words,
+            asked.rt.alloc(),
+            asked.words,
             self.machine.env(),
             &mut source,
             host,

@@ -101,27 +101,33 @@ fn write_mailbox<H: Host, O: Sink>(
     Ok(status)
 }
 
+// What the words ask for, and the variables of the environment that a program gets.
+#[derive(Clone, Copy)]
+struct Asked<'a> {
+    request: &'a Request,
+    vars: &'a Pairs,
+}
+
 // The output for some mails is written, or given to children.
 fn finish<H: Host, O: Sink>(
     alloc: Global,
     mails: &[Blob],
-    request: &Request,
-    vars: &Pairs,
+    asked: Asked<'_>,
     host: &mut H,
     out: &mut O,
 ) -> Result<u8, Memory>
     requires { (H.told host.old).child ≡ Child.NoChild }
-    ensures ok { IfOk result (λ status. Puts request.now.program request.now vars.now mails.now status
+    ensures ok { IfOk result (λ status. Puts asked.entry.request.now.program asked.entry.request.now asked.entry.vars.now mails.now status
         (H.told host.old) (H.told host.new) (O.told out.old) (O.told out.new)) }
     ensures asked { OnErr result (AsksAtMost (H.told host.old) (H.told host.new)) }
     ensures unwritten { OnErr result (O.told out.new ≡ O.told out.old) }
     ensures none { (H.told host.new).child ≡ Child.NoChild }
 {
-    let Some(program) = &request.program else {
-        return write(alloc, mails, request, host, out);
+    let Some(program) = &asked.request.program else {
+        return write(alloc, mails, asked.request, host, out);
     };
-    let command = command(alloc, program, &request.arguments, vars)?;
-    feed(alloc, mails, request, &command, host)
+    let command = command(alloc, program, &asked.request.arguments, asked.vars)?;
+    feed(alloc, mails, asked.request, &command, host)
 }
 
 fn any_kept(kept: &[bool]) -> bool
@@ -141,24 +147,23 @@ fn finish_kept<H: Host, O: Sink>(
     alloc: Global,
     mails: &[Blob],
     kept: &[bool],
-    request: &Request,
-    vars: &Pairs,
+    asked: Asked<'_>,
     host: &mut H,
     out: &mut O,
 ) -> Result<u8, Memory>
     requires { (H.told host.old).child ≡ Child.NoChild }
     ensures ok { IfOk result
-        (λ status. PutsKept request.now.split kept.now request.now vars.now mails.now status
+        (λ status. PutsKept asked.entry.request.now.split kept.now asked.entry.request.now asked.entry.vars.now mails.now status
         (H.told host.old) (H.told host.new) (O.told out.old) (O.told out.new)) }
     ensures asked { OnErr result (AsksAtMost (H.told host.old) (H.told host.new)) }
     ensures unwritten { OnErr result (O.told out.new ≡ O.told out.old) }
     ensures none { (H.told host.new).child ≡ Child.NoChild }
 {
-    if !request.split {
+    if !asked.request.split {
         return Ok(status_of(kept));
     }
     let left = kept_mails(alloc, mails, kept)?;
-    let status = finish(alloc, left.as_slice(), request, vars, host, out)?;
+    let status = finish(alloc, left.as_slice(), asked, host, out)?;
     Ok(status)
 }
 
@@ -167,13 +172,12 @@ fn after_step<H: Host, O: Sink>(
     alloc: Global,
     end: &CacheEnd,
     mails: &[Blob],
-    request: &Request,
-    vars: &Pairs,
+    asked: Asked<'_>,
     host: &mut H,
     out: &mut O,
 ) -> Result<u8, Memory>
     requires { (H.told host.old).child ≡ Child.NoChild }
-    ensures ok { IfOk result (λ status. AfterStep end.now request.now vars.now mails.now status
+    ensures ok { IfOk result (λ status. AfterStep end.now asked.entry.request.now asked.entry.vars.now mails.now status
         (H.told host.old) (H.told host.new) (O.told out.old) (O.told out.new)) }
     ensures asked { OnErr result (AsksAtMost (H.told host.old) (H.told host.new)) }
     ensures unwritten { OnErr result (O.told out.new ≡ O.told out.old) }
@@ -182,7 +186,7 @@ fn after_step<H: Host, O: Sink>(
     match end {
         CacheEnd::Kept(kept) => {
             let kept = kept.as_slice();
-            finish_kept(alloc, mails, kept, request, vars, host, out)
+            finish_kept(alloc, mails, kept, asked, host, out)
         }
         CacheEnd::Busy => Ok(73),
         CacheEnd::IsFolder => Ok(73),
@@ -212,22 +216,21 @@ fn remember<H: Host, O: Sink>(
     alloc: Global,
     cache: &Cache,
     mails: &[Blob],
-    request: &Request,
-    vars: &Pairs,
+    asked: Asked<'_>,
     host: &mut H,
     out: &mut O,
 ) -> Result<u8, Memory>
     requires none { (H.told host.old).child ≡ Child.NoChild }
     requires most { cache.now.most ≤ 1048576 }
-    ensures ok { IfOk result (λ status. Remembers cache.now request.now vars.now mails.now status
+    ensures ok { IfOk result (λ status. Remembers cache.now asked.entry.request.now asked.entry.vars.now mails.now status
         (H.told host.old) (H.told host.new) (O.told out.old) (O.told out.new)) }
     ensures left { OnErr result (LeavesCache cache.now (H.told host.old) (H.told host.new)) }
     ensures unwritten { OnErr result (O.told out.new ≡ O.told out.old) }
     ensures none { (H.told host.new).child ≡ Child.NoChild }
 {
-    let ids = ids(alloc, mails, request)?;
+    let ids = ids(alloc, mails, asked.request)?;
     let end = made(cache_step(alloc, host, &cache.name, cache.most, ids.as_slice()))?;
-    let status = after_step(alloc, &end, mails, request, vars, host, out)?;
+    let status = after_step(alloc, &end, mails, asked, host, out)?;
     Ok(status)
 }
 
@@ -235,51 +238,49 @@ fn remember<H: Host, O: Sink>(
 fn treat<H: Host, O: Sink>(
     alloc: Global,
     mails: &[Blob],
-    request: &Request,
-    vars: &Pairs,
+    asked: Asked<'_>,
     host: &mut H,
     out: &mut O,
 ) -> Result<u8, Memory>
     requires none { (H.told host.old).child ≡ Child.NoChild }
-    requires most { IfSome request.now.cache (λ cache. cache.most ≤ 1048576) }
+    requires most { IfSome asked.request.now.cache (λ cache. cache.most ≤ 1048576) }
     ensures ok { IfOk result
-        (λ status. Treats request.now.cache request.now vars.now mails.now status
+        (λ status. Treats asked.entry.request.now.cache asked.entry.request.now asked.entry.vars.now mails.now status
         (H.told host.old) (H.told host.new) (O.told out.old) (O.told out.new)) }
-    ensures left { OnErr result (Leaves request.now.cache (H.told host.old) (H.told host.new)) }
+    ensures left { OnErr result (Leaves asked.entry.request.now.cache (H.told host.old) (H.told host.new)) }
     ensures unwritten { OnErr result (O.told out.new ≡ O.told out.old) }
     ensures none { (H.told host.new).child ≡ Child.NoChild }
 {
-    let Some(cache) = &request.cache else {
-        return finish(alloc, mails, request, vars, host, out);
+    let Some(cache) = &asked.request.cache else {
+        return finish(alloc, mails, asked, host, out);
     };
-    remember(alloc, cache, mails, request, vars, host, out)
+    remember(alloc, cache, mails, asked, host, out)
 }
 
 // What becomes of an input.
 fn treat_all<H: Host, O: Sink>(
     alloc: Global,
     bytes: &Blob,
-    request: &Request,
-    vars: &Pairs,
+    asked: Asked<'_>,
     host: &mut H,
     out: &mut O,
 ) -> Result<u8, Memory>
     requires none { (H.told host.old).child ≡ Child.NoChild }
-    requires most { IfSome request.now.cache (λ cache. cache.most ≤ 1048576) }
+    requires most { IfSome asked.request.now.cache (λ cache. cache.most ≤ 1048576) }
     ensures ok { IfOk result
-        (λ status. Treats request.now.cache request.now vars.now (mails_of request.now bytes.now) status
+        (λ status. Treats asked.entry.request.now.cache asked.entry.request.now asked.entry.vars.now (mails_of asked.entry.request.now bytes.now) status
         (H.told host.old) (H.told host.new) (O.told out.old) (O.told out.new)) }
     ensures left { OnErr result ((H.told host.new ≡ H.told host.old)
-        ⊎ Leaves request.now.cache (H.told host.old) (H.told host.new)) }
+        ⊎ Leaves asked.entry.request.now.cache (H.told host.old) (H.told host.new)) }
     ensures unwritten { OnErr result (O.told out.new ≡ O.told out.old) }
     ensures none { (H.told host.new).child ≡ Child.NoChild }
 {
-    if writes_mailbox(request) {
-        let status = write_mailbox(alloc, bytes, request, host, out)?;
+    if writes_mailbox(asked.request) {
+        let status = write_mailbox(alloc, bytes, asked.request, host, out)?;
         return Ok(status);
     }
-    let mails = mails(alloc, bytes, request)?;
-    let status = treat(alloc, mails.as_slice(), request, vars, host, out)?;
+    let mails = mails(alloc, bytes, asked.request)?;
+    let status = treat(alloc, mails.as_slice(), asked, host, out)?;
     Ok(status)
 }
 
@@ -313,7 +314,11 @@ fn run<S: Source, H: Host, O: Sink>(
         Mail::Failed => Ok(74),
         Mail::Bytes(mut bytes) => {
             bytes.share()?;
-            let status = treat_all(alloc, &bytes, &request, &env.vars, host, out)?;
+            let asked = Asked {
+                request: &request,
+                vars: &env.vars,
+            };
+            let status = treat_all(alloc, &bytes, asked, host, out)?;
             Ok(status)
         }
     }

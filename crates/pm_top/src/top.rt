@@ -87,13 +87,20 @@ pub fn deliver_observed<S: Source, H: Host, O: Sink, E: Sink, N: Observer>(
     }) }
 {
     let mut objects = lend(host, out, err);
-    run_words(alloc, words, env, source, &mut objects, journal, observer)
+    let call = Call { words, env };
+    run_words(alloc, call, source, &mut objects, journal, observer)
+}
+
+// What the program is called with.
+#[derive(Clone, Copy)]
+struct Call<'a> {
+    words: &'a [String],
+    env: &'a Environ,
 }
 
 fn run_words<'a, S: Source, H: Host, O: Sink, E: Sink, N: Observer>(
     alloc: Global,
-    words: &[String],
-    env: &Environ,
+    call: Call<'_>,
     source: &mut S,
     objects: &mut Objects<'a, H, &'a mut O, E>,
     journal: &mut Journal,
@@ -102,8 +109,8 @@ fn run_words<'a, S: Source, H: Host, O: Sink, E: Sink, N: Observer>(
     requires empty { journal.old.entries ≡ [] }
     requires no_child { (H.told objects.old.host.now).child ≡ Child.NoChild }
     ensures promise { Promise (record {
-      words = words.now;
-      env = env.now;
+      words = call.entry.words.now;
+      env = call.entry.env.now;
       status = result;
       source = S.told source.old;
       rest = S.told source.new;
@@ -117,26 +124,37 @@ fn run_words<'a, S: Source, H: Host, O: Sink, E: Sink, N: Observer>(
     ensures out { objects.new.out.ghost_name ≡ objects.old.out.ghost_name }
     ensures err { objects.new.err.ghost_name ≡ objects.old.err.ghost_name }
 {
-    match read_words(alloc, words) {
-        Ok(Some(line)) => run_line(alloc, line, env, source, objects, journal, observer),
+    match read_words(alloc, call.words) {
+        Ok(Some(line)) => {
+            let request = Request {
+                line,
+                env: call.env,
+            };
+            run_line(alloc, request, source, objects, journal, observer)
+        }
         Ok(None) => refuse(&mut *objects.err, Status::Usage),
         Err(Memory) => refuse(&mut *objects.err, Status::SystemError),
     }
 }
 
+// What its words ask for, and its environment.
+struct Request<'a> {
+    line: CommandLine,
+    env: &'a Environ,
+}
+
 fn run_line<'a, S: Source, H: Host, O: Sink, E: Sink, N: Observer>(
     alloc: Global,
-    line: CommandLine,
-    env: &Environ,
+    request: Request<'_>,
     source: &mut S,
     objects: &mut Objects<'a, H, &'a mut O, E>,
     journal: &mut Journal,
     observer: &mut N,
 ) -> u8
     requires empty { journal.old.entries ≡ [] }
-    ensures run { RunsLine line (λ words. record {
+    ensures run { RunsLine request.entry.line (λ words. record {
       words = words;
-      env = env.now;
+      env = request.entry.env.now;
       status = result;
       source = S.told source.old;
       rest = S.told source.new;
@@ -153,6 +171,7 @@ fn run_line<'a, S: Source, H: Host, O: Sink, E: Sink, N: Observer>(
 {
     match read_mail(alloc, source) {
         Ok(Mail::Bytes(bytes)) => {
+            let Request { line, env } = request;
             let arrival = Arrival { line, env, bytes };
             run_mail(alloc, arrival, objects, journal, observer)
         }

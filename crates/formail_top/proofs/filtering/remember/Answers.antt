@@ -21,4 +21,4 @@ returns-clause-ok g c =
     }
 
 pub cache_step-requires-clause-ids : goal.cache_step-requires-clause-ids
-cache_step-requires-clause-ids g c = rw (c.as_slice.ensures.value, c.in_ok-ids.ensures) (ids_short c.args.request.now c.args.mails.now)
+cache_step-requires-clause-ids g c = rw (c.as_slice.ensures.value, c.in_ok-ids.ensures) (ids_short c.args.asked.request.now c.args.mails.now)
