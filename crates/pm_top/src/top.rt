@@ -138,6 +138,7 @@ fn run_words<'a, S: Source, H: Host, O: Sink, E: Sink, N: Observer>(
 }
 
 // What its words ask for, and its environment.
+#[derive(Drop)]
 struct Request<'a> {
     line: CommandLine,
     env: &'a Environ,
