@@ -54,7 +54,7 @@ fn run(
     rcfile: Option<&[u8]>,
     included: &[u8],
 ) -> Result<(), Failed> {
-    let mut common = common(alloc, 0)?;
+    let mut common = make_common(alloc, 0)?;
     if let Some(bytes) = rcfile {
         common.host.put_file("rc", bytes, 0)?;
     }
@@ -138,7 +138,7 @@ fn tell_frame(report: &mut Report, frame: &RcFrame) {
 
 // A run that has made sixteen copies makes no more.
 fn count(alloc: Global, report: &mut Report) -> Result<(), Failed> {
-    let mut common = common(alloc, 16)?;
+    let mut common = make_common(alloc, 16)?;
     common.host.put_file("rc", b":0 c\n{ X=1 }\n:0\nmbox\n", 0)?;
     let task = first_task(alloc, false)?;
     run_one(alloc, report, task, &mut common);
@@ -146,7 +146,7 @@ fn count(alloc: Global, report: &mut Report) -> Result<(), Failed> {
     Ok(())
 }
 
-fn common(alloc: Global, clones: u32) -> Result<Common, Failed> {
+fn make_common(alloc: Global, clones: u32) -> Result<Common, Failed> {
     let shared = Shared {
         openings: 0,
         clones,
