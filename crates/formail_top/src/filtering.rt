@@ -117,7 +117,8 @@ fn finish<H: Host, O: Sink>(
     out: &mut O,
 ) -> Result<u8, Memory>
     requires { (H.told host.old).child ≡ Child.NoChild }
-    ensures ok { IfOk result (λ status. Puts asked.entry.request.now.program asked.entry.request.now asked.entry.vars.now mails.now status
+    ensures ok { let request = asked.entry.request.now in
+        IfOk result (λ status. Puts request.program request asked.entry.vars.now mails.now status
         (H.told host.old) (H.told host.new) (O.told out.old) (O.told out.new)) }
     ensures asked { OnErr result (AsksAtMost (H.told host.old) (H.told host.new)) }
     ensures unwritten { OnErr result (O.told out.new ≡ O.told out.old) }
@@ -152,8 +153,8 @@ fn finish_kept<H: Host, O: Sink>(
     out: &mut O,
 ) -> Result<u8, Memory>
     requires { (H.told host.old).child ≡ Child.NoChild }
-    ensures ok { IfOk result
-        (λ status. PutsKept asked.entry.request.now.split kept.now asked.entry.request.now asked.entry.vars.now mails.now status
+    ensures ok { let request = asked.entry.request.now in IfOk result
+        (λ status. PutsKept request.split kept.now request asked.entry.vars.now mails.now status
         (H.told host.old) (H.told host.new) (O.told out.old) (O.told out.new)) }
     ensures asked { OnErr result (AsksAtMost (H.told host.old) (H.told host.new)) }
     ensures unwritten { OnErr result (O.told out.new ≡ O.told out.old) }
@@ -222,7 +223,8 @@ fn remember<H: Host, O: Sink>(
 ) -> Result<u8, Memory>
     requires none { (H.told host.old).child ≡ Child.NoChild }
     requires most { cache.now.most ≤ 1048576 }
-    ensures ok { IfOk result (λ status. Remembers cache.now asked.entry.request.now asked.entry.vars.now mails.now status
+    ensures ok { IfOk result
+        (λ status. Remembers cache.now asked.entry.request.now asked.entry.vars.now mails.now status
         (H.told host.old) (H.told host.new) (O.told out.old) (O.told out.new)) }
     ensures left { OnErr result (LeavesCache cache.now (H.told host.old) (H.told host.new)) }
     ensures unwritten { OnErr result (O.told out.new ≡ O.told out.old) }
@@ -267,8 +269,8 @@ fn treat_all<H: Host, O: Sink>(
 ) -> Result<u8, Memory>
     requires none { (H.told host.old).child ≡ Child.NoChild }
     requires most { IfSome asked.request.now.cache (λ cache. cache.most ≤ 1048576) }
-    ensures ok { IfOk result
-        (λ status. Treats asked.entry.request.now.cache asked.entry.request.now asked.entry.vars.now (mails_of asked.entry.request.now bytes.now) status
+    ensures ok { let request = asked.entry.request.now in IfOk result
+        (λ status. Treats request.cache request asked.entry.vars.now (mails_of request bytes.now) status
         (H.told host.old) (H.told host.new) (O.told out.old) (O.told out.new)) }
     ensures left { OnErr result ((H.told host.new ≡ H.told host.old)
         ⊎ Leaves asked.entry.request.now.cache (H.told host.old) (H.told host.new)) }

@@ -71,7 +71,8 @@ pub fn open_first<D: Effects>(
     mut names: Vec<Name>,
 ) -> Result<Opened, Memory>
     ensures opens { IfOk result (λ opened. OpensFrom
-        (Opening (rule_of_opening rule) (reverse names.items) (mind_of run.old.process)) opened (mind_of run.new.process)
+        (Opening (rule_of_opening rule) (reverse names.items) (mind_of run.old.process))
+        opened (mind_of run.new.process)
         run.old.journal run.new.journal (D.told run.old.outside) (D.told run.new.outside)) }
     ensures counted { IfOk result (λ opened.
         is_read opened ≡ true → run.old.process.openings < run.new.process.openings) }

@@ -64,7 +64,8 @@ pub fn run_processes<D: Effects>(
     journal: &mut Journal,
 ) -> Result<Ending, Memory>
     requires keeping { Keeping journal.old [] }
-    ensures ok { IfOk result (λ ending. Completes advance (run_of arrival.entry.line arrival.entry.env.now arrival.entry.bytes) ending
+    ensures ok { IfOk result (λ ending.
+        Completes advance (run_of arrival.entry.line arrival.entry.env.now arrival.entry.bytes) ending
         journal.old journal.new (D.told outside.old) (D.told outside.new)) }
     ensures memory { OnErr result (GaveUp (run_of arrival.entry.line arrival.entry.env.now arrival.entry.bytes)
         journal.old journal.new (D.told outside.old) (D.told outside.new)) }
@@ -83,7 +84,8 @@ pub fn run_observed<D: Effects, N: Observer>(
     observer: &mut N,
 ) -> Result<Ending, Memory>
     requires keeping { Keeping journal.old [] }
-    ensures ok { IfOk result (λ ending. Completes advance (run_of arrival.entry.line arrival.entry.env.now arrival.entry.bytes) ending
+    ensures ok { IfOk result (λ ending.
+        Completes advance (run_of arrival.entry.line arrival.entry.env.now arrival.entry.bytes) ending
         journal.old journal.new (D.told outside.old) (D.told outside.new)) }
     ensures memory { OnErr result (GaveUp (run_of arrival.entry.line arrival.entry.env.now arrival.entry.bytes)
         journal.old journal.new (D.told outside.old) (D.told outside.new)) }

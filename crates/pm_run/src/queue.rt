@@ -9,8 +9,8 @@ use std::collections::VecDeque;
 /// The copies that wait, the first one first, and how many the run has made.
 #[derive(Drop)]
 pub struct Queue {
-    pub copies: VecDeque<Copy>,
-    pub made: u32,
+    pub(crate) copies: VecDeque<Copy>,
+    pub(crate) made: u32,
 }
 
 impl Queue {
@@ -27,7 +27,8 @@ impl Queue {
 
     /// The first of the tasks that wait, which waits no more. It takes no memory.
     pub fn next(&mut self) -> Option<Task>
-        ensures next { MatchOption result (tasks_of self.old ≡ []) (λ task. IsNext task (tasks_of self.old) (tasks_of self.new)) }
+        ensures next { MatchOption result (tasks_of self.old ≡ [])
+            (λ task. IsNext task (tasks_of self.old) (tasks_of self.new)) }
         ensures free { IfSome result (λ task. task.mind.locks.names ≡ []) }
         ensures made { self.new.made ≡ self.old.made }
     {

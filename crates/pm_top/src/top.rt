@@ -222,7 +222,8 @@ fn run_objects<'a, H: Host, O: Sink, E: Sink, N: Observer>(
     observer: &mut N,
 ) -> Result<Ending, Memory>
     requires keeping { Keeping journal.old [] }
-    ensures ok { IfOk result (λ ending. Completes advance (run_of arrival.entry.line arrival.entry.env.now arrival.entry.bytes) ending
+    ensures ok { IfOk result (λ ending.
+        Completes advance (run_of arrival.entry.line arrival.entry.env.now arrival.entry.bytes) ending
         journal.old journal.new
         (view_of (H.told objects.old.host.now) (O.told objects.old.out.now) (E.told objects.old.err.now))
         (view_of (H.told objects.new.host.now) (O.told objects.new.out.now) (E.told objects.new.err.now))) }
