@@ -8,7 +8,7 @@ ghost use Rattle.pm_match.specs.Finding.{IsFirst};
 use crate::automata::{Automata, Room};
 use crate::find::{hand_on, visit};
 use crate::labels::{Label, clear};
-use crate::starts::go_on;
+use crate::starts::{Places, go_on};
 
 /// Whether a label came.
 fn is_met(label: Option<Label>) -> bool
@@ -60,8 +60,10 @@ pub fn is_match_within(
             &room.left,
             &room.right,
             area,
-            base,
-            place + 1,
+            Places {
+                base,
+                place: place + 1,
+            },
         );
         base = on.base;
         place = on.place;

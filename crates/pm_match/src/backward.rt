@@ -205,28 +205,28 @@ fn sweep_both(
 /// The states from which the exit can be reached at a place, by those of the next place. It takes few rounds where
 /// each state is listed after those that it leads to.
 pub fn step_back(
-    steps: &[Step],
+    program: &Program,
     order: &Vec<usize>,
-    exit: usize,
     area: &[u8],
     place: usize,
     next: &[bool],
     set: &mut Vec<bool>,
 )
-    requires program { InRange steps.now }
-    requires exit { exit < length steps.now }
+    requires program { InRange program.now.steps.items }
+    requires exit { program.now.exit < length program.now.steps.items }
     requires place { place ≤ length area.now }
-    requires set { vec_len set.old ≡ length steps.now }
-    requires len_next { length next.now ≡ length steps.now }
-    requires next { place < length area.now → IsExitSet steps.now area.now exit (place + 1) next.now }
-    ensures len { vec_len set.new ≡ length steps.now }
-    ensures back { IsExitSet steps.now area.now exit place set.new.items }
+    requires set { vec_len set.old ≡ length program.now.steps.items }
+    requires len_next { length next.now ≡ length program.now.steps.items }
+    requires next { place < length area.now
+        → IsExitSet program.now.steps.items area.now program.now.exit (place + 1) next.now }
+    ensures len { vec_len set.new ≡ length program.now.steps.items }
+    ensures back { IsExitSet program.now.steps.items area.now program.now.exit place set.new.items }
 {
-    for state in 0..steps.len() {
+    for state in 0..program.steps.len() {
         set[state] = false;
     }
-    set[exit] = true;
-    while sweep_both(steps, order, area, place, set, next) {}
+    set[program.exit] = true;
+    while sweep_both(&program.steps, order, area, place, set, next) {}
 }
 
 /// The states from which the exit can be reached at the area's end.
@@ -244,13 +244,5 @@ pub fn set_at_end(
     ensures set { vec_len set.new ≡ length program.now.steps.items }
     ensures back { IsExitSet program.now.steps.items area.now program.now.exit (length area.now) set.new.items }
 {
-    step_back(
-        &program.steps,
-        order,
-        program.exit,
-        area,
-        area.len(),
-        next,
-        set,
-    );
+    step_back(program, order, area, area.len(), next, set);
 }

@@ -269,9 +269,8 @@ fn meet(cache: &mut Cache, program: &Program, area: &[u8], place: usize, at: usi
     ensures number { IsNumberOf program.now.steps.items area.now program.now.exit place cache.new result }
 {
     step_back(
-        &program.steps,
+        program,
         &cache.order,
-        program.exit,
         area,
         place,
         &cache.sets[at].set,
@@ -313,13 +312,19 @@ pub fn has_state(cache: &Cache, at: usize, state: usize) -> bool
     cache.sets[at].set[state]
 }
 
-/// Marks the places from `low` up to `high` where a run from the entry to the exit begins. The set is that of `high`
-/// before, and that of `low` after.
+/// Places of an area from `low` on, and before `high`.
+#[derive(Clone, Copy, Drop)]
+pub struct Bounds {
+    pub low: usize,
+    pub high: usize,
+}
+
+/// Marks the places between bounds where a run from the entry to the exit begins. The set is that of `high` before, and
+/// that of `low` after.
 pub fn mark_starts(
     program: &Program,
     area: &[u8],
-    low: usize,
-    high: usize,
+    bounds: Bounds,
     set: &mut Vec<bool>,
     cache: &mut Cache,
     marks: &mut Vec<bool>,
@@ -327,52 +332,51 @@ pub fn mark_starts(
     requires program { InRange program.now.steps.items }
     requires entry { program.now.entry < length program.now.steps.items }
     requires exit { program.now.exit < length program.now.steps.items }
-    requires low { low ≤ high }
-    requires high { high ≤ length area.now }
-    requires room { high ≤ low + vec_len marks.old }
+    requires low { bounds.low ≤ bounds.high }
+    requires high { bounds.high ≤ length area.now }
+    requires room { bounds.high ≤ bounds.low + vec_len marks.old }
     requires set { vec_len set.old ≡ length program.now.steps.items }
     requires ready { AreReady false program.now.steps.items program.now.exit cache.old }
-    requires after { IsExitSet program.now.steps.items area.now program.now.exit high set.old.items }
+    requires after { IsExitSet program.now.steps.items area.now program.now.exit bounds.high set.old.items }
     ensures set { vec_len set.new ≡ length program.now.steps.items }
     ensures ready { AreReady false program.now.steps.items program.now.exit cache.new }
     ensures marks { vec_len marks.new ≡ vec_len marks.old }
-    ensures before { IsExitSet program.now.steps.items area.now program.now.exit low set.new.items }
-    ensures marked { AreMarks program.now.steps.items program.now.entry program.now.exit area.now low high
+    ensures before { IsExitSet program.now.steps.items area.now program.now.exit bounds.low set.new.items }
+    ensures marked { AreMarks program.now.steps.items program.now.entry program.now.exit area.now bounds.low bounds.high
         marks.new.items }
 {
     let mut at = enter(cache, set);
-    let mut place = high;
-    while place > low {
+    let mut place = bounds.high;
+    while place > bounds.low {
         place -= 1;
         at = step(cache, program, area, place, at);
-        marks[place - low] = cache.sets[at].set[program.entry];
+        marks[place - bounds.low] = cache.sets[at].set[program.entry];
     }
     copy_set(&cache.sets[at].set, set);
 }
 
-/// Goes back from `high` to `low` without marks. The set is that of `high` before, and that of `low` after.
+/// Goes back from the upper bound to the lower without marks. The set is that of `high` before, and that of `low` after.
 pub fn go_back(
     program: &Program,
     area: &[u8],
-    low: usize,
-    high: usize,
+    bounds: Bounds,
     set: &mut Vec<bool>,
     cache: &mut Cache,
 )
     requires program { InRange program.now.steps.items }
     requires exit { program.now.exit < length program.now.steps.items }
-    requires low { low ≤ high }
-    requires high { high ≤ length area.now }
+    requires low { bounds.low ≤ bounds.high }
+    requires high { bounds.high ≤ length area.now }
     requires set { vec_len set.old ≡ length program.now.steps.items }
     requires ready { AreReady false program.now.steps.items program.now.exit cache.old }
-    requires after { IsExitSet program.now.steps.items area.now program.now.exit high set.old.items }
+    requires after { IsExitSet program.now.steps.items area.now program.now.exit bounds.high set.old.items }
     ensures set { vec_len set.new ≡ length program.now.steps.items }
     ensures ready { AreReady false program.now.steps.items program.now.exit cache.new }
-    ensures before { IsExitSet program.now.steps.items area.now program.now.exit low set.new.items }
+    ensures before { IsExitSet program.now.steps.items area.now program.now.exit bounds.low set.new.items }
 {
     let mut at = enter(cache, set);
-    let mut place = high;
-    while place > low {
+    let mut place = bounds.high;
+    while place > bounds.low {
         place -= 1;
         at = step(cache, program, area, place, at);
     }

@@ -14,7 +14,7 @@ use crate::automata::{Automata, Room};
 use crate::build::Program;
 use crate::closing::reach;
 use crate::labels::{Label, Labels, clear, none_before, none_through};
-use crate::starts::{Starts, go_on, is_ruled_out};
+use crate::starts::{Places, Starts, go_on, is_ruled_out};
 
 /// Where a match stands.
 #[derive(Clone, Copy, Drop)]
@@ -237,8 +237,10 @@ pub fn find_within(
             &room.left,
             &room.right,
             area,
-            base,
-            place + 1,
+            Places {
+                base,
+                place: place + 1,
+            },
         );
         base = on.base;
         place = on.place;

@@ -14,7 +14,7 @@ ghost use Rattle.pm_match.specs.Begins.{AreRuns};
 
 use crate::backward::set_at_end;
 use crate::build::Program;
-use crate::cache::{Cache, States, copy_set, go_back, make_cache, mark_starts};
+use crate::cache::{Bounds, Cache, States, copy_set, go_back, make_cache, mark_starts};
 use crate::forward::{Forward, is_reached, least_end, make_forward, start_run};
 use std::alloc::{AllocError, Global};
 
@@ -133,29 +133,29 @@ fn count_at(
     }
 }
 
-/// Counts the matches that begin in a window, from a place on.
+/// Counts the matches that begin in a window between these bounds, from a place on.
 fn count_window(
     program: &Program,
     forward: &mut Forward,
     area: &[u8],
     window: &[bool],
-    low: usize,
-    high: usize,
+    bounds: Bounds,
     from: Progress,
 ) -> Progress
     requires program { InRange program.now.steps.items }
     requires entry { program.now.entry < length program.now.steps.items }
     requires exit { program.now.exit < length program.now.steps.items }
     requires forward { AreRuns program.now.steps.items program.now.entry forward.old }
-    requires low { low ≤ high }
-    requires high { high ≤ length area.now }
-    requires room { high ≤ low + length window.now }
-    requires after { low ≤ from.place }
+    requires low { bounds.low ≤ bounds.high }
+    requires high { bounds.high ≤ length area.now }
+    requires room { bounds.high ≤ bounds.low + length window.now }
+    requires after { bounds.low ≤ from.place }
     requires few { from.count ≤ from.place }
     requires within { from.place ≤ length area.now }
-    requires marked { AreMarks program.now.steps.items program.now.entry program.now.exit area.now low high window.now }
+    requires marked { AreMarks program.now.steps.items program.now.entry program.now.exit area.now bounds.low
+        bounds.high window.now }
     ensures forward { AreRuns program.now.steps.items program.now.entry forward.new }
-    ensures after { high ≤ result.place }
+    ensures after { bounds.high ≤ result.place }
     ensures few { result.count ≤ result.place }
     ensures within { result.place ≤ length area.now }
     ensures counted { (e : Re) (fold : Bool) (start : ℕ) → IsProgram program.now e fold
@@ -163,8 +163,8 @@ fn count_window(
         → CountsTo fold e area.now start result.count result.place }
 {
     let mut at = from;
-    while at.place < high {
-        let is_marked = window[at.place - low];
+    while at.place < bounds.high {
+        let is_marked = window[at.place - bounds.low];
         at = count_at(program, forward, area, is_marked, at);
     }
     at
@@ -193,7 +193,8 @@ fn keep_checkpoints(program: &Program, area: &[u8], marks: &mut Marks)
     let mut high = area.len();
     while index > 0 {
         let low = index * WINDOW;
-        go_back(program, area, low, high, &mut marks.set, &mut marks.cache);
+        let bounds = Bounds { low, high };
+        go_back(program, area, bounds, &mut marks.set, &mut marks.cache);
         copy_set(&marks.set, &mut marks.checkpoints[index].set);
         high = low;
         index -= 1;
@@ -256,8 +257,10 @@ fn mark_window(program: &Program, area: &[u8], marks: &mut Marks, index: usize) 
     mark_starts(
         program,
         area,
-        index * WINDOW,
-        high,
+        Bounds {
+            low: index * WINDOW,
+            high,
+        },
         &mut marks.set,
         &mut marks.cache,
         &mut marks.window,
@@ -294,8 +297,10 @@ fn count_marked(program: &Program, marks: &mut Marks, area: &[u8], from: Progres
             &mut marks.forward,
             area,
             &marks.window,
-            index * WINDOW,
-            high,
+            Bounds {
+                low: index * WINDOW,
+                high,
+            },
             at,
         );
         index += 1;

@@ -14,7 +14,7 @@ use crate::cache::{Cache, make_cache};
 use crate::marks::{Marks, make_marks};
 use crate::order::order_of;
 use crate::starts::Starts;
-use crate::tables::starts_of;
+use crate::tables::{Ends, starts_of};
 use pm_bytes::Memory;
 use std::alloc::Global;
 
@@ -57,8 +57,10 @@ pub fn tables(
     match starts_of(
         alloc,
         &program.steps,
-        program.entry,
-        program.exit,
+        Ends {
+            entry: program.entry,
+            exit: program.exit,
+        },
         room,
         is_very_long,
     ) {

@@ -10,9 +10,9 @@ invariant-loop-state l = record {
 
 abbrev pub invariant-loop : goal.invariant-loop
 invariant-loop l = record {
-  len : vec_len l.set ≡ length l.steps;
-  final : Holds l.set.items l.exit;
-  sound : AllReachExit l.steps l.area l.exit l.place l.set.items;
+  len : vec_len l.set ≡ length l.program.steps.items;
+  final : Holds l.set.items l.program.exit;
+  sound : AllReachExit l.program.steps.items l.area l.program.exit l.place l.set.items;
 }
 
 abbrev pub decreases-loop : goal.decreases-loop

@@ -10,7 +10,7 @@ loop-place-init c = record {
   ready = c.enter-at.ensures.ready c.args.program.now.steps.items c.args.program.now.exit c.requires.ready;
   at = (
     c.enter-at.ensures.in_use,
-    λ s is. subst (λ xs. IsExitSet c.args.program.now.steps.items c.args.area.now c.args.program.now.exit c.args.high xs)
+    λ s is. subst (λ xs. IsExitSet c.args.program.now.steps.items c.args.area.now c.args.program.now.exit c.args.bounds.high xs)
         (sym (c.enter-at.ensures.is s is ∙ c.deref.ensures.value)) c.requires.after,
   );
 }
@@ -50,6 +50,6 @@ returns-clause-before c =
     let sets = c.loop-place.cache.sets in
     let number = inv.at.0 in
     let is = slice_get_read sets.items _ _ _ sets.ok.0 (omega (arith, number, inv.ready.spare)) c.index.ensures in
-    let place : c.loop-place.place ≡ c.args.low = omega (arith, inv.above, c.loop-place-test.false) in
+    let place : c.loop-place.place ≡ c.args.bounds.low = omega (arith, inv.above, c.loop-place-test.false) in
     subst (λ i. IsExitSet p area exit i c.copy_set.new.to.items) place
     (subst (λ xs. IsExitSet p area exit c.loop-place.place xs) (sym (c.copy_set.ensures.same ∙ c.deref-2.ensures.value)) (inv.at.1 c.index.result.now is))

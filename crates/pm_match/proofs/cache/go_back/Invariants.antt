@@ -7,8 +7,8 @@ decreases-loop-place l = l.place
 
 abbrev pub invariant-loop-place : goal.invariant-loop-place
 invariant-loop-place l = record {
-  above : l.low ≤ l.place;
-  below : l.place ≤ l.high;
+  above : l.bounds.low ≤ l.place;
+  below : l.place ≤ l.bounds.high;
   ready : AreReady false l.program.steps.items l.program.exit l.cache;
   at : IsNumberOf l.program.steps.items l.area l.program.exit l.place l.cache l.at;
 }

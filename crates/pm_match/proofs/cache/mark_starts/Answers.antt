@@ -22,7 +22,7 @@ loop-place-init c = record {
   ready = c.enter-at.ensures.ready c.args.program.now.steps.items c.args.program.now.exit c.requires.ready;
   at = (
     c.enter-at.ensures.in_use,
-    λ s is. subst (λ xs. IsExitSet c.args.program.now.steps.items c.args.area.now c.args.program.now.exit c.args.high xs)
+    λ s is. subst (λ xs. IsExitSet c.args.program.now.steps.items c.args.area.now c.args.program.now.exit c.args.bounds.high xs)
         (sym (c.enter-at.ensures.is s is ∙ c.deref.ensures.value)) c.requires.after,
   );
   marked = λ k from lt. absurd (omega (arith, from, lt));
@@ -47,7 +47,7 @@ loop-place-preserved c =
       len = inv.len;
       ready = ready;
       at = number;
-      marked = one_mark (λ i. ReachesExit p c.args.area.now c.args.program.now.exit c.args.program.now.entry i) c.args.low c.loop-place.place c.args.high
+      marked = one_mark (λ i. ReachesExit p c.args.area.now c.args.program.now.exit c.args.program.now.entry i) c.args.bounds.low c.loop-place.place c.args.bounds.high
           c.index-in-loop-place.result.now c.loop-place.marks.items c.loop-place-test.true
           (omega (arith, c.loop-place-test.true, inv.below, inv.len, c.requires.room, c.loop-place.marks.ok.0)) (
             (λ yes. exact.0 (subst (λ b. slice_get set.items c.args.program.now.entry ≡ Some b) yes bit)),
@@ -83,6 +83,6 @@ returns-clause-before c =
     let sets = c.loop-place.cache.sets in
     let number = inv.at.0 in
     let is = slice_get_read sets.items _ _ _ sets.ok.0 (omega (arith, number, inv.ready.spare)) c.index-2.ensures in
-    let place : c.loop-place.place ≡ c.args.low = omega (arith, inv.above, c.loop-place-test.false) in
+    let place : c.loop-place.place ≡ c.args.bounds.low = omega (arith, inv.above, c.loop-place-test.false) in
     subst (λ i. IsExitSet p area exit i c.copy_set.new.to.items) place
     (subst (λ xs. IsExitSet p area exit c.loop-place.place xs) (sym (c.copy_set.ensures.same ∙ c.deref-2.ensures.value)) (inv.at.1 c.index-2.result.now is))

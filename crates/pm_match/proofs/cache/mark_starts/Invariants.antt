@@ -8,10 +8,10 @@ decreases-loop-place l = l.place
 
 abbrev pub invariant-loop-place : goal.invariant-loop-place
 invariant-loop-place l = record {
-  above : l.low ≤ l.place;
-  below : l.place ≤ l.high;
+  above : l.bounds.low ≤ l.place;
+  below : l.place ≤ l.bounds.high;
   len : vec_len l.marks ≡ vec_len l.initial.marks;
   ready : AreReady false l.program.steps.items l.program.exit l.cache;
   at : IsNumberOf l.program.steps.items l.area l.program.exit l.place l.cache l.at;
-  marked : (k : ℕ) → l.place ≤ l.low + k → l.low + k < l.high → Holds l.marks.items k ↔ ReachesExit l.program.steps.items l.area l.program.exit l.program.entry (l.low + k);
+  marked : (k : ℕ) → l.place ≤ l.bounds.low + k → l.bounds.low + k < l.bounds.high → Holds l.marks.items k ↔ ReachesExit l.program.steps.items l.area l.program.exit l.program.entry (l.bounds.low + k);
 }

@@ -5,8 +5,8 @@ use Rattle.pm_match.proofs.marks.count_window.Goals as goal
 
 pub count_at-at-requires-clause-marked : goal.count_at-at-requires-clause-marked
 count_at-at-requires-clause-marked c = λ out.
-    let k = c.loop-at.at.place - c.args.low in
-    let same : c.args.low + k ≡ c.loop-at.at.place = omega (arith, c.loop-at.invariant.after) in
+    let k = c.loop-at.at.place - c.args.bounds.low in
+    let same : c.args.bounds.low + k ≡ c.loop-at.at.place = omega (arith, c.loop-at.invariant.after) in
     read_held c.args.window.now k
     ((c.requires.marked k (omega (arith, same, c.loop-at-test.true))).1
     (subst (λ i. ReachesExit c.args.program.now.steps.items c.args.area.now c.args.program.now.exit c.args.program.now.entry i) (sym same) out))

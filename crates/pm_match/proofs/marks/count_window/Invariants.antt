@@ -11,7 +11,7 @@ decreases-loop-at l = length l.area - l.at.place
 abbrev pub invariant-loop-at : goal.invariant-loop-at
 invariant-loop-at l = record {
   forward : AreRuns l.program.steps.items l.program.entry l.forward;
-  after : l.low ≤ l.at.place;
+  after : l.bounds.low ≤ l.at.place;
   few : l.at.count ≤ l.at.place;
   within : l.at.place ≤ length l.area;
   counted : (e : Re) (fold : Bool) (start : ℕ) → IsProgram l.program e fold → CountsTo fold e l.area start l.fn.from.count l.fn.from.place
