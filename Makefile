@@ -81,6 +81,7 @@ bench:
 	@bash bench/egrep.sh
 	@bash bench/rcfiles.sh
 	@bash bench/deliver.sh
+	@python3 bench/large.py
 	@bash bench/conditions.sh
 	@bash bench/recipes.sh
 	@bash bench/programs.sh
