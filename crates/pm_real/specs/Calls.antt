@@ -5,6 +5,8 @@ use Rattle.pm_host.specs.declared.answers.Cut.{Cut}
 use Rattle.pm_host.specs.declared.answers.Cut.TheVariants.{Cut as WasCut, Failed as CutFailed}
 use Rattle.pm_host.specs.declared.answers.Got.{Got}
 use Rattle.pm_host.specs.declared.answers.Got.TheVariants.{Got as GotSome, Failed as GotFailed}
+use Rattle.pm_host.specs.declared.answers.Looked.{Looked}
+use Rattle.pm_host.specs.declared.answers.Looked.TheVariants.{File}
 use Rattle.pm_host.specs.declared.answers.Made.{Made}
 use Rattle.pm_host.specs.declared.answers.Made.TheVariants.{Made as MadeNew}
 use Rattle.pm_host.specs.declared.answers.Removed.{Removed}
@@ -12,7 +14,8 @@ use Rattle.pm_host.specs.declared.answers.Removed.TheVariants.{Removed as Remove
 use Rattle.pm_host.specs.declared.answers.Took.{Took}
 use Rattle.pm_host.specs.declared.answers.Took.TheVariants.{Took as TookSome, Failed as TookFailed}
 use Rattle.pm_real.specs.View.{FileView}
-use Rattle.pm_real.specs.Kept.{in_use, just_opened, made_target, appended, read_past, cut_to}
+use Rattle.pm_real.specs.Kept.{in_use, just_opened, found_again, made_target, appended, read_past, cut_to}
+use Rattle.pm_real.specs.declared.inode.Inode.{Inode}
 use Rattle.pm_real.specs.declared.mode.Mode.{Mode}
 use Rattle.pm_real.specs.declared.mode.Mode.TheVariants.{Appending}
 use Rattle.pm_real.specs.declared.opened.Opened.{Opened}
@@ -64,6 +67,23 @@ IsEmptied answer before now = ⊥
 abbrev pub IsMadeBy : {F : Type 0} → Made → List ℕ → Option (Opened F) → Type 0
 IsMadeBy MadeNew name opened = IsMade name (state_of opened)
 IsMadeBy other name opened = opened ≡ None
+
+-- the file that was open stays open as it is, as one that a look at this name found there
+abbrev pub StaysOpen : {F : Type 0} → List ℕ → Option (Opened F) → Option (Opened F) → Type 0
+StaysOpen name (Some before) (Some now) =
+    (found_again name (Some before.state) ≡ Some now.state) × (now.file ≡ before.file)
+StaysOpen name before now = ⊥
+
+-- the file that is open, if one is, is known to be the one that was found
+abbrev pub IsThatFile : {F : Type 0} → Option Inode → Option (Opened F) → Type 0
+IsThatFile (Some inode) (Some opened) = opened.inode ≡ Some inode
+IsThatFile None (Some opened) = ⊥
+IsThatFile found None = Unit {0}
+
+-- a look at this name, by its answer: none is open, or the file that was, but that only if a file was found
+abbrev pub IsLookedAt : {F : Type 0} → Looked → List ℕ → Option (Opened F) → Option (Opened F) → Type 0
+IsLookedAt (File size) name before now = (now ≡ None) ⊎ StaysOpen name before now
+IsLookedAt other name before now = now ≡ None
 
 -- a sync changes nothing of what is known of the file
 abbrev pub Stays : FileView → FileView → Type 0

@@ -1,7 +1,7 @@
 -- The file that is kept open, step by step.
 use Rattle.std.specs.Prelude.{◌≡◌, [], ◌∷◌, codes, true, false, Some, None}
 use Rattle.pm_real.specs.View.{FileView}
-use Rattle.pm_real.specs.Kept.{just_opened, is_open, in_use, is_open_target, made_target, appended, read_past, cut_to, after_all}
+use Rattle.pm_real.specs.Kept.{just_opened, is_open, in_use, found_again, is_open_target, made_target, appended, read_past, cut_to, after_all}
 use Rattle.pm_real.specs.Kept.Change.{Appends, Cuts}
 use Rattle.pm_real.specs.declared.mode.Mode.TheVariants.{Reading, Appending}
 
@@ -18,6 +18,13 @@ pub record Examples : Type 0 where
   pub other_mode : in_use (codes "mbox") Reading (Some mbox) ≡ just_opened (codes "mbox") Reading
   pub read_again : is_open (codes "m") Reading (Some (just_opened (codes "m") Reading)) ≡ true
   pub none_open : is_open (codes "mbox") Appending None ≡ false
+  -- once a look found it at its name, nothing is known to be added to it; no other one stays open
+  pub found : found_again (codes "mbox") (Some mbox) ≡ Some (just_opened (codes "mbox") Appending)
+  pub found_target : found_again (codes "l") (Some (made_target (just_opened (codes "l") Appending)))
+      ≡ Some (just_opened (codes "l") Appending)
+  pub found_other : found_again (codes "mbo") (Some mbox) ≡ None
+  pub found_read : found_again (codes "m") (Some (just_opened (codes "m") Reading)) ≡ None
+  pub found_none : found_again (codes "mbox") None ≡ None
   -- bytes add up
   pub first_bytes : appended 5 (just_opened (codes "mbox") Appending) ≡ mbox
   pub more_bytes : (appended 3 mbox).added ≡ Some 8

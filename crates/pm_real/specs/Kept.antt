@@ -27,6 +27,11 @@ abbrev pub in_use : List ℕ → Mode → Option FileView → FileView
 in_use name mode None = just_opened name mode
 in_use name mode (Some file) = if is_use name mode file then file else just_opened name mode
 
+-- the file once a look at this name found it there: as one that was just opened, if it was opened by this name for
+-- appending; any other isn't used any more
+abbrev pub found_again : List ℕ → Option FileView → Option FileView
+found_again name file = if is_open name Appending file then Some (just_opened name Appending) else None
+
 -- it was made as the target of a symbolic link of this name
 abbrev pub is_target_of : List ℕ → FileView → Bool
 is_target_of name file = file.is_target && bytes_eq file.name name

@@ -1,4 +1,5 @@
 //! Names of the machine: what stands there, how old it is, moving it, and folders with the names in them.
+use crate::inode::Inode;
 use pm_bytes::{Name, NameRefused, Names};
 use pm_host::{Aged, Listed, Looked, Made, Moved, Removed};
 use std::alloc::{Alloc, Global};
@@ -12,13 +13,13 @@ use std::{fs, io};
 /// A made folder is its owner's only, as a made file is.
 const OWNER_ONLY: u32 = 0o700;
 
-/// What stands at the name. Anything that isn't a folder is a file.
-pub fn look<R: Files>(rt: &R, name: &str) -> Looked {
+/// What stands at the name, and which file it is if that is a regular one. Anything that isn't a folder is a file.
+pub fn look<R: Files>(rt: &R, name: &str) -> (Looked, Option<Inode>) {
     match fs::metadata(rt, name) {
-        Ok(found) if found.is_dir() => Looked::Folder,
-        Ok(found) => Looked::File(found.len()),
-        Err(error) if error.kind() == ErrorKind::NotFound => Looked::Nothing,
-        Err(_) => Looked::Failed,
+        Ok(found) if found.is_dir() => (Looked::Folder, None),
+        Ok(found) => (Looked::File(found.len()), Inode::of(&found)),
+        Err(error) if error.kind() == ErrorKind::NotFound => (Looked::Nothing, None),
+        Err(_) => (Looked::Failed, None),
     }
 }
 

@@ -8,7 +8,7 @@ ghost use Rattle.pm_host.specs.declared.answers.Child.TheVariants.{NoChild};
 ghost use Rattle.pm_real.specs.Quiet.{quiet_host};
 ghost use Rattle.pm_real.specs.Kept.{is_open_target};
 ghost use Rattle.pm_real.specs.Calls.{state_of, came_of, count_of, Adds, IsUsed, IsCutBy, IsEmptied};
-ghost use Rattle.pm_real.specs.Calls.{IsAfterRead, IsMadeBy, Stays};
+ghost use Rattle.pm_real.specs.Calls.{IsAfterRead, IsMadeBy, IsLookedAt, Stays};
 ghost use Rattle.pm_real.specs.declared.mode.Mode.TheVariants.{Reading, Appending};
 
 use crate::child::Running;
@@ -32,8 +32,8 @@ use std::time::{Duration, SystemTime, UNIX_EPOCH};
 use std::{io, thread};
 
 /// The files, the clock and the children of the machine. The file that was made, read or appended to last is kept open
-/// for the calls that follow on its name. It is closed when another one is opened, at a look, a remove or a rename,
-/// before a child starts, and when the host is dropped.
+/// for the calls that follow on its name. It is closed when another one is opened, at a look that doesn't find that
+/// very file, at a remove or a rename, before a child starts, and when the host is dropped.
 #[derive(Drop)]
 pub struct RealHost<R: Files + Clock + Processes + Alloc<A = Global> + Clone + Drop>
 where
@@ -143,10 +143,14 @@ where
     fn look(&mut self, name: &str) -> Looked
         ensures made { Makes (call.Look name.now) (answer.Look result) (quiet_host self.old.faults self.old.child)
             (quiet_host self.new.faults self.new.child) }
-        ensures closed { self.new.kept.opened ≡ None }
+        ensures kept { IsLookedAt result name.now self.old.kept.opened self.new.kept.opened }
     {
+        let (looked, found) = folders::look(&self.rt, name);
+        if let Looked::File(_) = looked {
+            self.kept.close_unless_found(name, found);
+            return looked;
+        }
         self.kept.close();
-        let looked = folders::look(&self.rt, name);
         match looked {
             Looked::Nothing => self.kept.note_missing(self.alloc, name),
             Looked::Failed => self.count_fault(),

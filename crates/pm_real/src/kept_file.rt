@@ -5,8 +5,9 @@ ghost use Rattle.std.specs.Prelude.{IfSome, IfOk, IsOk, IsErr, IsSome, MatchResu
 ghost use Rattle.pm_real.specs.declared.mode.Mode.TheVariants.{Reading, Appending};
 ghost use Rattle.pm_real.specs.Kept.{just_opened, is_open, in_use, is_open_target, made_target};
 ghost use Rattle.pm_real.specs.Calls.{state_of, IsAfterRead, IsAfterCut, IsEmptied, IsMade, IsUsed};
-ghost use Rattle.pm_real.specs.Calls.{Adds, AddedTo, Stays};
+ghost use Rattle.pm_real.specs.Calls.{Adds, AddedTo, Stays, StaysOpen, IsThatFile};
 
+use crate::inode::Inode;
 use crate::limit::SizeLimit;
 use crate::mode::Mode;
 use crate::opened::Opened;
@@ -64,6 +65,26 @@ impl<F: Read + Write + OpenFile + FileExt + Drop> KeptFile<F> {
         match &self.opened {
             Some(opened) => opened.serves(name, mode),
             None => false,
+        }
+    }
+
+    /// A look found a file at the name, and which one if it is a regular one. The file that was opened by that name for
+    /// appending stays open if it is that very one, so that a log isn't opened for each of its lines. Any other is
+    /// closed.
+    pub fn close_unless_found(&mut self, name: &str, found: Option<Inode>)
+        ensures opened { (self.new.opened ≡ None) ⊎ StaysOpen name.now self.old.opened self.new.opened }
+        ensures same { IsThatFile found self.new.opened }
+        ensures seen { self.new.seen ≡ self.old.seen }
+    {
+        if !self.has_open(name, Mode::Appending) {
+            return self.close();
+        }
+        let stays = match (&mut self.opened, found) {
+            (Some(opened), Some(found)) => opened.is_found(found),
+            _ => false,
+        };
+        if !stays {
+            self.close();
         }
     }
 

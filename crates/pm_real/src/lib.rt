@@ -7,6 +7,7 @@ mod child;
 mod folders;
 mod host;
 mod host_name;
+mod inode;
 mod kept_file;
 mod laws;
 mod limit;

@@ -1,9 +1,11 @@
 //! An open file, and what the calls of a host do with it.
-ghost use Rattle.std.specs.Prelude.{◌≡◌, ◌≤◌, ◌<◌, length, take, IfSome, IfOk, IfErr, IsNone, string_bytes};
+ghost use Rattle.std.specs.Prelude.{◌≡◌, ◌≤◌, ◌<◌, true, false, Some};
+ghost use Rattle.std.specs.Prelude.{length, take, IfSome, IfOk, IfErr, IsNone, string_bytes};
 ghost use Rattle.std.specs.Io.KnownBytes.{Appends, Keeps};
 ghost use Rattle.pm_real.specs.Kept.{just_opened, is_use, is_target_of, made_target};
 ghost use Rattle.pm_real.specs.Calls.{IsAfterRead, IsAfterAppend, IsAfterCut};
 
+use crate::inode::Inode;
 use crate::limit::SizeLimit;
 use crate::mode::Mode;
 use crate::state::FileState;
@@ -17,6 +19,8 @@ use std::os::unix::fs::FileExt;
 pub struct Opened<F: Drop> {
     state: FileState,
     file: F,
+    /// Which file it is, once that was asked for.
+    inode: Option<Inode>,
 }
 
 impl<F: Read + Write + OpenFile + FileExt + Drop> Opened<F> {
@@ -27,6 +31,7 @@ impl<F: Read + Write + OpenFile + FileExt + Drop> Opened<F> {
         Opened {
             state: FileState::new(name, mode),
             file,
+            inode: None,
         }
     }
 
@@ -42,6 +47,35 @@ impl<F: Read + Write + OpenFile + FileExt + Drop> Opened<F> {
         ensures { result ≡ is_target_of name.now self.now.state }
     {
         self.state.is_target(name)
+    }
+
+    // The open file itself is asked, and only once: another one may have been put at its name.
+    fn inode(&mut self) -> Option<Inode>
+        ensures inode { result ≡ self.new.inode }
+        ensures file { self.new.file ≡ self.old.file }
+        ensures state { self.new.state ≡ self.old.state }
+    {
+        if self.inode.is_none() {
+            self.inode = match self.file.metadata() {
+                Ok(found) => Inode::of(&found),
+                Err(_) => None,
+            };
+        }
+        self.inode
+    }
+
+    /// Whether it is that very file. Then it is from now on as one that was just opened by its name.
+    pub fn is_found(&mut self, found: Inode) -> bool
+        ensures file { self.new.file ≡ self.old.file }
+        ensures inode { result ≡ true → self.new.inode ≡ Some found }
+        ensures renewed { result ≡ true → self.new.state ≡ just_opened self.old.state.name self.old.state.mode }
+        ensures same { result ≡ false → self.new.state ≡ self.old.state }
+    {
+        if self.inode() != Some(found) {
+            return false;
+        }
+        self.state.renew();
+        true
     }
 
     /// Takes a file that was opened through a link for a made one. One that has bytes is another's.

@@ -62,6 +62,15 @@ impl FileState {
         self.is_target && self.name.as_str().as_bytes() == name.as_bytes()
     }
 
+    /// It is from now on as one that was just opened by its name.
+    pub fn renew(&mut self)
+        ensures { self.new ≡ just_opened self.old.name self.old.mode }
+    {
+        self.added = None;
+        self.passed = 0;
+        self.is_target = false;
+    }
+
     /// It was made as the target of a symbolic link, so that all of its bytes may be cut off again.
     pub fn make_target(&mut self)
         ensures { self.new ≡ made_target self.old }
