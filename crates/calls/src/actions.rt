@@ -67,9 +67,11 @@ fn act_on(
     recipe: &Recipe,
     world: World<'_>,
 ) -> Result<(), Failed> {
-    let mut mind = mind_with(alloc, MAIL)?;
     let mut shared = shared(alloc)?;
-    act_in(alloc, report, recipe, world, &mut mind, &mut shared)
+    let mut mind = mind_with(alloc, MAIL)?;
+    let shown = act_in(alloc, report, recipe, world, &mut mind, &mut shared);
+    drop(mind);
+    shown
 }
 
 fn act_in(
@@ -98,8 +100,10 @@ fn act_in(
     );
     report.answer("perform", performed);
     report.file("  m", host.file("/home/joe/m"));
+    drop(host);
     report.bytes("  out", out.written());
     tell(report, mind, &err, &journal);
+    drop(journal);
     Ok(())
 }
 
@@ -143,7 +147,9 @@ fn fall_in(
     let performed = deliver_default(alloc, mind, shared, &mut host, &mut err, &mut journal, 7);
     report.answer("deliver_default", performed);
     print_defaults(report, &host);
+    drop(host);
     tell(report, mind, &err, &journal);
+    drop(journal);
     Ok(())
 }
 

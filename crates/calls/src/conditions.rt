@@ -59,7 +59,9 @@ fn judge_mail(
     mail: &[u8],
 ) -> Result<(), Failed> {
     let mut mind = mind_with(alloc, mail)?;
-    judge_recipe(alloc, report, recipe, &mut mind)
+    let shown = judge_recipe(alloc, report, recipe, &mut mind);
+    drop(mind);
+    shown
 }
 
 fn judge_recipe(

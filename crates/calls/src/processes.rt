@@ -55,13 +55,32 @@ fn run(
     included: &[u8],
 ) -> Result<(), Failed> {
     let mut common = make_common(alloc, 0)?;
+    let shown = run_in(alloc, report, rcfile, included, &mut common);
+    drop(common);
+    shown
+}
+
+fn run_in(
+    alloc: Global,
+    report: &mut Report,
+    rcfile: Option<&[u8]>,
+    included: &[u8],
+    common: &mut Common,
+) -> Result<(), Failed> {
     if let Some(bytes) = rcfile {
         common.host.put_file("rc", bytes, 0)?;
     }
     common.host.put_file("/home/joe/inc", included, 0)?;
     let task = first_task(alloc, rcfile.is_none())?;
     report.answer("Task::frames", task.frames().len());
-    run_one(alloc, report, task, &mut common);
+    run_one(alloc, report, task, common);
+    run_next(alloc, report, common);
+    tell_rest(report, &mut common.queue);
+    Ok(())
+}
+
+// The copy that waits first, where one does.
+fn run_next(alloc: Global, report: &mut Report, common: &mut Common) {
     match common.queue.next() {
         None => report.word("Queue::next", "None"),
         Some(copy) => {
@@ -69,11 +88,16 @@ fn run(
             for frame in copy.frames() {
                 tell_frame(report, frame);
             }
-            run_one(alloc, report, copy, &mut common);
+            run_one(alloc, report, copy, common);
         }
     }
-    report.answer("Queue::next", common.queue.next().is_some());
-    Ok(())
+}
+
+// Whether one more waits.
+fn tell_rest(report: &mut Report, queue: &mut Queue) {
+    let next = queue.next();
+    report.answer("Queue::next", next.is_some());
+    drop(next);
 }
 
 // Runs one of them, with a journal of its own.
@@ -92,7 +116,14 @@ fn run_one(alloc: Global, report: &mut Report, task: Task, common: &mut Common)
         &mut journal,
     );
     tell_end(report, &ended);
+    drop(ended);
     report.answer("  entries", journal.entries().len());
+    drop(journal);
+    tell_common(report, common);
+}
+
+// What the run has then.
+fn tell_common(report: &mut Report, common: &Common) {
     report.answer("  openings", common.shared.openings);
     report.answer("  clones", common.shared.clones);
     report.file("  mbox", common.host.file("/home/joe/mbox"));
@@ -139,26 +170,36 @@ fn tell_frame(report: &mut Report, frame: &RcFrame) {
 // A run that has made sixteen copies makes no more.
 fn count(alloc: Global, report: &mut Report) -> Result<(), Failed> {
     let mut common = make_common(alloc, 16)?;
+    let shown = count_in(alloc, report, &mut common);
+    drop(common);
+    shown
+}
+
+fn count_in(alloc: Global, report: &mut Report, common: &mut Common) -> Result<(), Failed> {
     common.host.put_file("rc", b":0 c\n{ X=1 }\n:0\nmbox\n", 0)?;
     let task = first_task(alloc, false)?;
-    run_one(alloc, report, task, &mut common);
-    report.answer("Queue::next", common.queue.next().is_some());
+    run_one(alloc, report, task, common);
+    tell_rest(report, &mut common.queue);
     Ok(())
 }
 
 fn make_common(alloc: Global, clones: u32) -> Result<Common, Failed> {
+    let host_name = Name::read(alloc, b"here")?;
+    let out = MemorySink::new(alloc, None)?;
+    let err = MemorySink::new(alloc, None)?;
+    let host = make_host(alloc, NOTHING)?;
     let shared = Shared {
         openings: 0,
         clones,
         placed: 0,
-        host_name: Name::read(alloc, b"here")?,
+        host_name,
     };
     Ok(Common {
         queue: Queue::new(alloc),
         shared,
-        host: make_host(alloc, NOTHING)?,
-        out: MemorySink::new(alloc, None)?,
-        err: MemorySink::new(alloc, None)?,
+        host,
+        out,
+        err,
     })
 }
 
@@ -167,7 +208,10 @@ fn first_task(alloc: Global, under_m: bool) -> Result<Task, Failed>
     ensures { IfOk result (λ task. task.mind.locks.names ≡ []) }
 {
     let mut mind = mind_with(alloc, MAIL)?;
-    name_rcfiles(alloc, &mut mind.rcfiles)?;
+    if name_rcfiles(alloc, &mut mind.rcfiles).is_err() {
+        drop(mind);
+        return Err(Failed);
+    }
     let opening = Opening {
         under_m,
         implied: false,
