@@ -355,7 +355,7 @@ pub fn mark_starts(
     copy_set(&cache.sets[at].set, set);
 }
 
-/// Goes back from the upper bound to the lower without marks. The set is that of `high` before, and that of `low` after.
+/// Goes back from the upper bound to the lower without marks. The set is that of `high` before, and of `low` after.
 pub fn go_back(
     program: &Program,
     area: &[u8],

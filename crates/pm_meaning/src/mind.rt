@@ -44,9 +44,9 @@ pub struct Shared {
     pub host_name: Name,
 }
 
-/// How the first rcfile of a process is opened: whether the program is a mail filter (`-m`, procmail(1)), whether the one
-/// name is that of the user's own rcfile, which may be missing, and whether MAILDIR stays as a word of the command line
-/// set it.
+/// How the first rcfile of a process is opened: whether the program is a mail filter (`-m`, procmail(1)), whether the
+/// one name is that of the user's own rcfile, which may be missing, and whether MAILDIR stays as a word of the command
+/// line set it.
 #[derive(Clone, Copy, Debug, PartialEq, Eq)]
 pub struct Opening {
     pub under_m: bool,
