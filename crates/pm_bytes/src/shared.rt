@@ -1,5 +1,5 @@
 //! Bytes with several owners.
-ghost use Rattle.std.specs.Prelude.{◌≡◌, ◌≤◌, ◌-◌, ◌++◌, IfOk, IfErr, length, take, drop};
+ghost use Rattle.std.specs.Prelude.{◌≡◌, ◌≤◌, ◌-◌, ◌++◌, true, false, IfOk, IfErr, length, take, drop};
 
 use crate::Memory;
 use std::alloc::{AllocFailed, Global};
@@ -69,6 +69,23 @@ impl Shared {
         both.extend_from_slice(bytes)?;
         both.extend_from_slice(more)?;
         Ok(both)
+    }
+
+    /// Takes in the bytes that stand after these in the vector, where they are `more`, and answers whether they are.
+    pub fn widen(&mut self, more: &[u8]) -> bool
+        ensures yes { result ≡ true → self.new ≡ self.old ++ more.now }
+        ensures no { result ≡ false → self.new ≡ self.old }
+    {
+        let stored = self.bytes.as_slice();
+        if more.len() > stored.len() - self.end {
+            return false;
+        }
+        let end = self.end + more.len();
+        let found = &stored[self.end..end] == more;
+        if found {
+            self.end = end;
+        }
+        found
     }
 
     /// Keeps so many of the bytes.
