@@ -13,6 +13,9 @@ use pm_bytes::{Blob, Memory};
 use std::alloc::Global;
 use std::marker::Model;
 
+// From so many bytes on a body is large.
+const LARGE_BODY: usize = 65_536;
+
 /// A mail in one piece and in its two parts, which have the same memory, with what was made of it so far: the area of
 /// its head, that of its head and body, and what a mailbox gets. It may have the newlines behind it that end it in a
 /// mailbox. Contracts see its two parts.
@@ -65,7 +68,8 @@ impl Mail {
     }
 
     /// The mail that `split` gives. The newlines that end it in a mailbox are put behind its bytes, so that a mailbox
-    /// gets the mail's own memory if no line is escaped. Bytes that share their memory are copied for that.
+    /// gets the mail's own memory if no line is escaped. Bytes that share their memory are copied for that, unless the
+    /// newlines stand behind them in it.
     pub fn split_own(alloc: Global, mut bytes: Blob) -> Result<Mail, Memory>
         ensures { IfOk result (λ mail. mail ≡ split_of bytes) }
     {
@@ -155,15 +159,25 @@ impl Mail {
         self.whole.copy(alloc)
     }
 
-    /// The wanted parts as they are, in the mail's own memory.
+    /// The wanted parts as they are, in the mail's own memory. The head of a large mail gets its own.
     pub fn chosen(&self, alloc: Global, feed: Feed) -> Result<Blob, Memory>
         ensures { IfOk result (λ bytes. bytes ≡ Piece.chosen self.now feed) }
     {
         match feed {
             Feed::Both => self.whole.copy(alloc),
-            Feed::Head => self.parts.head.copy(alloc),
+            Feed::Head => self.head(alloc),
             Feed::Body => self.parts.body.copy(alloc),
         }
+    }
+
+    // The head, in memory of its own where the body is large, which then goes before what keeps the head does.
+    fn head(&self, alloc: Global) -> Result<Blob, Memory>
+        ensures { IfOk result (λ head. head ≡ self.now.head) }
+    {
+        if self.parts.body.len() < LARGE_BODY {
+            return self.parts.head.copy(alloc);
+        }
+        Blob::from_slice(alloc, self.parts.head.as_slice())
     }
 
     /// What a mailbox gets of the mail. The last piece is kept, and a call that asks for an equal one shares its
