@@ -1,15 +1,15 @@
 -- The run of a program as an entry.
-use Rattle.std.proofs.Common.{◌≡◌, true, Bool, ℕ, ◌+◌, List, [], ◌∷◌, ◌++◌, Option, Some, None, Result, Ok, Err, IfOk, OnErr, refl, sym, ap, ◌∙◌, subst, inr, append-nil}
+use Rattle.std.proofs.Common.{◌≡◌, true, Bool, ℕ, ◌+◌, List, [], ◌∷◌, ◌++◌, Option, Some, None, Ok, Err, refl, sym, ap, ◌∙◌, subst, inr, append-nil}
 use Rattle.pm_bytes.specs.declared.error.Memory.{Memory}
 use Rattle.pm_host.specs.Runs.{Ran}
 use Rattle.pm_host.specs.Streams.{StreamView}
-use Rattle.pm_host.specs.Told.{HostView, Tells, Adds}
+use Rattle.pm_host.specs.Told.{HostView, Adds}
 use Rattle.pm_host.specs.declared.command.Command.{Command}
 use Rattle.pm_host.specs.declared.calls.Logged.{Logged}
 use Rattle.pm_host.proofs.RunsJoin.{tells_at}
 use Rattle.pm_journal.specs.Acts.{LeavesAct}
 use Rattle.pm_journal.specs.Children.{RunGroup}
-use Rattle.pm_journal.specs.Entries.{view_of, Accounts}
+use Rattle.pm_journal.specs.Entries.{view_of}
 use Rattle.pm_journal.specs.Executed.{UnfinishedCalls}
 use Rattle.pm_journal.specs.JournalState.{JournalState}
 use Rattle.pm_journal.specs.Noted.{NotesAct}

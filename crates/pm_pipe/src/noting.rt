@@ -44,7 +44,7 @@ pub fn run_noted<H: Host>(
 {
     let before = counts(host, sinks);
     let end = run_child(alloc, host, &command, input.as_slice(), want);
-    let reply = child_reply_of(end)?;
+    let reply = child_reply_of(alloc, end, &input)?;
     let end = run_end_of(&reply);
     let after = counts(host, sinks);
     journal.note(Entry {
@@ -70,25 +70,45 @@ fn counts<H: Host>(host: &H, sinks: SinkFaults) -> Counts
     }
 }
 
-// The reply of the run of a program, unless memory was wanting. Copies of the output get its memory; where there is
-// none for that, they will have their own.
-fn child_reply_of(end: ChildEnd) -> Result<Reply, Memory>
+// The reply of the run of a program with this input, unless memory was wanting.
+fn child_reply_of(alloc: Global, end: ChildEnd, input: &Blob) -> Result<Reply, Memory>
     ensures { AreReply (child_reply end) result }
 {
     match end {
-        ChildEnd::Ended {
+        ChildEnd::Ended { code, took, output } => Ok(Reply::Ended {
             code,
             took,
-            mut output,
-        } => {
-            let _ = output.share();
-            Ok(Reply::Ended { code, took, output })
-        }
+            output: shared(alloc, output, input),
+        }),
         ChildEnd::NotStarted => Ok(Reply::NotStarted),
         ChildEnd::Broken { took } => Ok(Reply::Broken { took }),
         ChildEnd::TooLong(count) => Ok(Reply::TooLong(count)),
         ChildEnd::Memory => Err(Memory),
     }
+}
+
+// The output, in the memory of the input where the program handed that on as it was.
+fn shared(alloc: Global, mut output: Blob, input: &Blob) -> Blob
+    ensures { result ≡ output }
+{
+    if output.as_slice() == input.as_slice() {
+        if let Ok(copy) = input.copy(alloc) {
+            return copy;
+        }
+    }
+    share_ended(&mut output);
+    output
+}
+
+// Copies of the output get its memory, in which the newlines stand behind it that end a mail in a mailbox. Where memory
+// is wanting for that, they will have their own.
+fn share_ended(output: &mut Blob)
+    ensures { output.new ≡ output.old }
+{
+    let length = output.len();
+    let _ = output.push_slice(b"\n\n");
+    let _ = output.share();
+    output.truncate(length);
 }
 
 fn run_end_of(reply: &Reply) -> RunEnd
