@@ -155,7 +155,7 @@ fn take_output(
         return Ok(Outcome::TooLong);
     }
     let bytes = refilled(alloc, feed, output, parts)?;
-    process.message = Mail::split(alloc, bytes)?;
+    process.message = Mail::split_own(alloc, bytes)?;
     Ok(fed)
 }
 
