@@ -1,12 +1,11 @@
 //! Checks an rcfile and those that it names. It only looks at the disk and reads: it has nothing else.
 use crate::disk::{Disk, Look, is_memory};
+use crate::findings::{found_in, push_first};
 use crate::known::Known;
 use crate::places::{below, column_of, is_absolute};
-use crate::remarks::{Checked, Remark, of_disk, of_finding, of_form};
+use crate::remarks::{Checked, Remark, of_disk};
 use crate::steps::{Step, steps_of};
 use crate::walk::{Next, Walk};
-use check_find::{Finding, find};
-use check_moving::{Finding as FoundForm, find_forms};
 use check_text::DiskMistake;
 use pm_bytes::{Blob, Memory};
 use pm_recipe::RcRefused;
@@ -377,76 +376,6 @@ impl Checking {
         }
         self.known.lose(name)
     }
-}
-
-/// What is found in a text by itself, and the forms of procmail 3.22 in it, if it is from there.
-pub fn found_in(alloc: Global, from_old: bool, text: &[u8]) -> Result<Vec<Remark>, Memory> {
-    let mut remarks = Vec::new(alloc);
-    add_all(alloc, from_old, text, &mut remarks)?;
-    Ok(remarks)
-}
-
-fn add_all(
-    alloc: Global,
-    from_old: bool,
-    text: &[u8],
-    remarks: &mut Vec<Remark>,
-) -> Result<(), Memory> {
-    add_found(alloc, text, remarks)?;
-    if from_old {
-        add_forms(alloc, text, remarks)?;
-    }
-    Ok(())
-}
-
-fn add_found(alloc: Global, text: &[u8], remarks: &mut Vec<Remark>) -> Result<(), Memory> {
-    match find(alloc, text) {
-        Ok(findings) => add_findings(alloc, text, findings.as_slice(), remarks),
-        Err(RcRefused::TooLong { .. }) => push_first(alloc, DiskMistake::TooLong, remarks),
-        Err(RcRefused::Memory) => Err(Memory),
-    }
-}
-
-fn add_findings(
-    alloc: Global,
-    text: &[u8],
-    findings: &[Finding],
-    remarks: &mut Vec<Remark>,
-) -> Result<(), Memory> {
-    for finding in findings {
-        remarks.push(of_finding(alloc, text, finding)?)?;
-    }
-    Ok(())
-}
-
-// Of an rcfile that is too long nothing more is said.
-fn add_forms(alloc: Global, text: &[u8], remarks: &mut Vec<Remark>) -> Result<(), Memory> {
-    match find_forms(alloc, text) {
-        Ok(found) => add_found_forms(alloc, text, found.as_slice(), remarks),
-        Err(RcRefused::TooLong { .. }) => Ok(()),
-        Err(RcRefused::Memory) => Err(Memory),
-    }
-}
-
-fn add_found_forms(
-    alloc: Global,
-    text: &[u8],
-    found: &[FoundForm],
-    remarks: &mut Vec<Remark>,
-) -> Result<(), Memory> {
-    for one in found {
-        remarks.push(of_form(alloc, text, one)?)?;
-    }
-    Ok(())
-}
-
-// A remark on a whole rcfile.
-fn push_first(
-    alloc: Global,
-    mistake: DiskMistake,
-    remarks: &mut Vec<Remark>,
-) -> Result<(), Memory> {
-    Ok(remarks.push(of_disk(alloc, mistake, 1, 1, "")?)?)
 }
 
 fn read<D: Disk>(disk: &D, name: &str) -> Result<Vec<u8>, Stopped> {

@@ -1,6 +1,6 @@
 //! Rcfiles of the command line are written anew, and what is left to do by hand is reported.
-use crate::checking::found_in;
 use crate::disk::{Disk, RealDisk, is_memory};
+use crate::findings::found_in;
 use crate::options::Options;
 use crate::remarks::{Checked, Remark, Source, severity_of};
 use crate::replacing::replace;

@@ -5,6 +5,7 @@ mod allowed;
 mod arguments;
 mod checking;
 mod disk;
+mod findings;
 mod fixed;
 mod forms;
 mod known;
