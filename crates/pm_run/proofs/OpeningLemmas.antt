@@ -30,12 +30,11 @@ use Rattle.pm_meaning.specs.Changes.{with_base, with_variable, with_rcfile, open
 use Rattle.pm_meaning.specs.Logging.{log, logged}
 use Rattle.pm_meaning.specs.Minds.{Mind}
 use Rattle.pm_meaning.specs.Turns.{say_then}
+use Rattle.pm_meaning.specs.declared.process.End.{End}
 use Rattle.pm_meaning.specs.declared.process.End.TheVariants.{NoRc, HostOff}
 use Rattle.pm_meaning.specs.Running.{State, Event, Running, Over, Opening, OpeningRule, ahead, entered, is_first, is_missing, with_later, left_by, open_next, after_read, pass_over, step}
 use Rattle.pm_run.specs.Frames.{weave, items_of, outer_items, left_outside, left_in, left_over}
-use Rattle.pm_run.specs.declared.frames.Open.{Open}
 use Rattle.pm_run.specs.declared.frames.Frames.{Frames}
-use Rattle.pm_run.specs.declared.frames.Waiting.{Waiting}
 use Rattle.pm_journal.specs.Acts.{ReadsWhole}
 use Rattle.pm_meaning.proofs.Choices.{choose_then, choose_else, then_out, else_out, line_told, line_out}
 use Rattle.pm_run.specs.Ends.{IsCode, opened_at}
@@ -43,8 +42,6 @@ use Rattle.std.proofs.lemmas.List.{reverse-append}
 use Rattle.pm_run.specs.declared.opening.Opened.{Opened}
 use Rattle.pm_run.specs.declared.opening.Opened.TheVariants.{Read as OpenedRead, Ended as OpenedEnded, Nothing as OpenedNothing}
 use Rattle.pm_run.specs.Opening.{OpensTo, OpensOne, OpensFrom, OpensCode, ReadsTo, ReadsOne, ReadsCode, PassesTo, PassesOver}
-use Rattle.pm_run.specs.declared.opening.Tried.{Tried}
-use Rattle.pm_run.specs.declared.opening.Tried.TheVariants.{Content as TriedContent, Ends as TriedEnds, Passed}
 
 abbrev Onward : Type 0
 Onward = Next State Event
@@ -121,10 +118,10 @@ module _ (o : OpeningRule) (name noted : List ℕ) (content : Option (List ℕ))
       λ names. executes_then (ask (ReadFile name)) (after_read o name names p) h.reply (Go (to names)) x y z a b c asked
       (subst (λ plan. Executes plan (Go (to names)) y z b c) (passed missing names none is) (k names))
 
-  pub reads_none : (missing : Bool) (tried : Tried) (z : JournalState) (c : View) → content ≡ None → missing ≡ last_missing y.entries → PassesOver o name missing tried p y z b c → ReadsOne o name tried p p x z a c
-  reads_none missing (TriedContent code) z c none is k = absurd k
-  reads_none missing TriedEnds z c none is k = (refl, passed_to missing (λ names. Over NoRc p) z c none is k)
-  reads_none missing Passed z c none is k = (refl, passed_to missing (λ names. Opening o names p) z c none is k)
+  pub reads_none : (missing : Bool) (tried : Opened) (z : JournalState) (c : View) → content ≡ None → missing ≡ last_missing y.entries → PassesOver o name missing tried p y z b c → ReadsOne o name tried p p x z a c
+  reads_none missing (OpenedRead code) z c none is k = absurd k
+  reads_none missing (OpenedEnded end) z c none is k = (refl, passed_to missing (λ names. Over end p) z c none is k)
+  reads_none missing OpenedNothing z c none is k = (refl, passed_to missing (λ names. Opening o names p) z c none is k)
 
   pub reads_none_out : (missing : Bool) (z : JournalState) (c : View) → content ≡ None → missing ≡ last_missing y.entries → ((names : List (List ℕ)) → OutOfMemory (pass_over o name names missing p) y z b c)
       → (names : List (List ℕ)) → OutOfMemory (and_then (ask (ReadFile name)) (after_read o name names p)) x z a c
@@ -151,7 +148,7 @@ say_many o name names p = say_then p (too_many_rcfiles_line name) (Go (Opening o
 abbrev read_on : OpeningRule → List ℕ → List (List ℕ) → Mind → Plan Onward
 read_on o name names p = and_then (ask (ReadFile name)) (after_read o name names p)
 
-pub many_told : (o : OpeningRule) (name line : List ℕ) (p : Mind) (x y : JournalState) (a b : View) → nat_le 256 p.openings ≡ true → line ≡ too_many_rcfiles_line name → Executes (log line p) logged x y a b → OpensOne o name Passed p p x y a b
+pub many_told : (o : OpeningRule) (name line : List ℕ) (p : Mind) (x y : JournalState) (a b : View) → nat_le 256 p.openings ≡ true → line ≡ too_many_rcfiles_line name → Executes (log line p) logged x y a b → OpensOne o name OpenedNothing p p x y a b
 many_told o name line p x y a b e is h = record {
   counted = omega arith;
   opens = λ names. choose_then (nat_le 256 p.openings) (say_many o name names p) (read_on o name names (opened p)) (Go (Opening o names p)) x y a b e
@@ -168,17 +165,17 @@ opens_to : (o : OpeningRule) (name : List ℕ) (p : Mind) (to : List (List ℕ) 
 opens_to o name p to x y a b e h =
     λ names. choose_else (nat_le 256 p.openings) (say_many o name names p) (read_on o name names (opened p)) (Go (to names)) x y a b e (h names)
 
-pub opens_by : (o : OpeningRule) (name : List ℕ) (tried : Tried) (p q : Mind) (x y : JournalState) (a b : View) → p.openings < 256 → ReadsOne o name tried (opened p) q x y a b → OpensOne o name tried p q x y a b
-opens_by o name (TriedContent code) p q x y a b few h = record {
+pub opens_by : (o : OpeningRule) (name : List ℕ) (tried : Opened) (p q : Mind) (x y : JournalState) (a b : View) → p.openings < 256 → ReadsOne o name tried (opened p) q x y a b → OpensOne o name tried p q x y a b
+opens_by o name (OpenedRead code) p q x y a b few h = record {
   few = few;
   mind = h.mind;
   trees = h.trees;
   is_code = h.is_code;
   opens = opens_to o name p (λ names. Running (ahead h.trees []) (begun_block (entered o name (with_later names (opened p))))) x y a b (is_few p.openings few) h.reads;
 }
-opens_by o name TriedEnds p q x y a b few h =
-    subst (λ r. OpensTo o name p (λ names. Over NoRc r) x y a b) (sym h.0) (opens_to o name p (λ names. Over NoRc (opened p)) x y a b (is_few p.openings few) h.1)
-opens_by o name Passed p q x y a b few h =
+opens_by o name (OpenedEnded end) p q x y a b few h =
+    subst (λ r. OpensTo o name p (λ names. Over end r) x y a b) (sym h.0) (opens_to o name p (λ names. Over end (opened p)) x y a b (is_few p.openings few) h.1)
+opens_by o name OpenedNothing p q x y a b few h =
     let counted : q.openings ≡ p.openings + 1 = ap (λ (m : Mind). m.openings) h.0 in
     record {
       counted = omega (arith, counted);
@@ -216,13 +213,13 @@ module _ (s : State) (o : OpeningRule) (items rest : List (List ℕ)) (name : Li
   reached : Reaches {X = Event} step s (Opening o (name ∷ rest) p) x y a b
   reached = subst (λ l. Reaches {X = Event} step s (Opening o l p) x y a b) e h
 
-  pub opening_on : OpensOne o name Passed p q y z b c → Reaches {X = Event} step s (Opening o rest q) x z a c
+  pub opening_on : OpensOne o name OpenedNothing p q y z b c → Reaches {X = Event} step s (Opening o rest q) x z a c
   opening_on k = reaches_then step s (Opening o (name ∷ rest) p) (Opening o rest q) x y z a b c reached (k.opens rest)
 
-  pub opening_ends : OpensOne o name TriedEnds p q y z b c → Reaches {X = Event} step s (Over NoRc q) x z a c
-  opening_ends k = reaches_then step s (Opening o (name ∷ rest) p) (Over NoRc q) x y z a b c reached (k rest)
+  pub opening_ends : (end : End) → OpensOne o name (OpenedEnded end) p q y z b c → Reaches {X = Event} step s (Over end q) x z a c
+  opening_ends end k = reaches_then step s (Opening o (name ∷ rest) p) (Over end q) x y z a b c reached (k rest)
 
-  pub opening_reads : (code : Code) (r : Mind) → OpensOne o name (TriedContent code) p q y z b c → r ≡ begun_block (with_later rest q) → OpensCode s code r x z a c
+  pub opening_reads : (code : Code) (r : Mind) → OpensOne o name (OpenedRead code) p q y z b c → r ≡ begun_block (with_later rest q) → OpensCode s code r x z a c
   opening_reads code r k is =
       let last = begun_block (entered o name (with_later rest (opened p))) in
       let same : begun_block (with_later rest q) ≡ last = ap (λ m. begun_block (with_later rest m)) k.mind ∙ ap begun_block (entered_later o name rest (opened p)) in
@@ -256,12 +253,6 @@ later_state p names none n e =
     let o : OpeningRule = record { is_implied = false; keeps_folder = true } in
     ap (λ l. Opening o l (with_later none p)) n ∙ ap (λ l. Opening o p.later (with_later l p)) e
 
-pub later_reads : (s t : State) (code : Code) (f : Frames) (q : Mind) (x y : JournalState) (a b : View) → s ≡ t → OpensCode s code q x y a b → ((trees : Trees) → IsCode code trees → items_of f ≡ ahead trees [])
-    → Reaches {X = Event} step t (Running (items_of f) q) x y a b
-later_reads s t code f q x y a b e h k =
-    subst (λ v. Reaches {X = Event} step v (Running (items_of f) q) x y a b) e
-    (subst (λ i. Reaches {X = Event} step s (Running i q) x y a b) (sym (k h.trees h.is_code)) h.reaches)
-
 pub reaches_from : (s t u : State) (x y : JournalState) (a b : View) → s ≡ t → Reaches {X = Event} step s u x y a b → Reaches {X = Event} step t u x y a b
 reaches_from s t u x y a b e h = subst (λ v. Reaches {X = Event} step v u x y a b) e h
 
@@ -277,15 +268,8 @@ later_falls n m f g h k place blocks outer =
     omega (arith, h, k, left)
 
 -- an rcfile that was read is counted
-pub openings_read : (o : OpeningRule) (name : List ℕ) (code : Code) (p q : Mind) (x y : JournalState) (a b : View) → OpensOne o name (TriedContent code) p q x y a b → q.openings ≡ p.openings + 1
+pub openings_read : (o : OpeningRule) (name : List ℕ) (code : Code) (p q : Mind) (x y : JournalState) (a b : View) → OpensOne o name (OpenedRead code) p q x y a b → q.openings ≡ p.openings + 1
 openings_read o name code p q x y a b h = openings_entered o name (opened p) q h.mind
-
--- all of an rcfile that begins is left
-pub begun_items : (code : Code) (blocks : List Open) (outer : List Waiting) (trees : Trees) → blocks ≡ [] → outer ≡ [] → IsCode code trees → weave (lists_of (drop 0 (flats_of code.steps.items))) blocks (outer_items outer) ≡ ahead trees []
-begun_items code blocks outer trees b o w =
-    ap (λ l. weave (lists_of (drop 0 (flats_of code.steps.items))) l (outer_items outer)) b
-    ∙ ap (λ l. weave (lists_of (drop 0 (flats_of code.steps.items))) [] (outer_items l)) o
-    ∙ (ap (λ l. weave (lists_of l) [] []) w ∙ ap (λ l. weave l [] []) (lists-whole trees))
 
 -- memory was wanting before anything was done
 pub passing_wants_first : (o : OpeningRule) (name : List ℕ) (missing : Bool) (p : Mind) (x : JournalState) (s : View) → (names : List (List ℕ)) → OutOfMemory (pass_over o name names missing p) x x s s

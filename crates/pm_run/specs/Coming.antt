@@ -9,18 +9,15 @@ use Rattle.pm_journal.specs.Plan.{Plan}
 use Rattle.pm_meaning.specs.Chains.{is_admitted}
 use Rattle.pm_meaning.specs.Judging.{Held, judge_first}
 use Rattle.pm_meaning.specs.Minds.{Mind}
-use Rattle.pm_meaning.specs.Turns.{Turn}
-use Rattle.pm_meaning.specs.Turning.{turn_of}
+use Rattle.pm_meaning.specs.Turns.{Turn, GoesOn}
 use Rattle.pm_conds.specs.Notes.{HearsHeld}
 use Rattle.pm_conds.specs.declared.observer.Note.{Note}
 use Rattle.pm_conds.specs.declared.observer.Note.TheVariants.{CameTo}
-use Rattle.pm_run.specs.declared.judging.Come.{Come}
-use Rattle.pm_run.specs.declared.judging.Come.TheVariants.{Acts, Ended}
 
--- whatever the action is: it is what is left to do, or the recipe is over
-abbrev pub ComesTo : Come → Top → Mind → Mind → JournalState → JournalState → View → View → Type 0
-ComesTo Acts top p q x y a b = (acts : Mind → Plan Turn) → LeadsTo (judge_first top acts p) (acts q) x y a b
-ComesTo (Ended end) top p q x y a b = (acts : Mind → Plan Turn) → Executes (judge_first top acts p) (turn_of end q) x y a b
+-- whatever the action is: it is what is left to do, or the process goes on behind the recipe
+abbrev pub ComesTo : Bool → Top → Mind → Mind → JournalState → JournalState → View → View → Type 0
+ComesTo true top p q x y a b = (acts : Mind → Plan Turn) → LeadsTo (judge_first top acts p) (acts q) x y a b
+ComesTo false top p q x y a b = (acts : Mind → Plan Turn) → Executes (judge_first top acts p) (GoesOn q) x y a b
 
 -- the conditions of a recipe that is admitted were judged, and the observer heard of each; of any other it heard no more
 abbrev pub HearsConditions : Bool → Top → Mind → JournalState → JournalState → Option (List Note) → Option (List Note) → Type 0

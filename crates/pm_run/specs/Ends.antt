@@ -7,24 +7,16 @@ use Rattle.pm_meaning.specs.Minds.{Mind}
 use Rattle.pm_meaning.specs.declared.process.End.{End}
 use Rattle.pm_meaning.specs.Running.{State, Running, Over, OpeningRule}
 use Rattle.pm_code.specs.Ahead.{lists_of}
-use Rattle.pm_run.specs.Frames.{items_of, weave}
+use Rattle.pm_run.specs.Frames.{weave}
 use Rattle.pm_run.specs.declared.opening.Opened.{Opened}
 use Rattle.pm_run.specs.declared.opening.Opened.TheVariants.{Read, Ended, Nothing}
 use Rattle.pm_run.specs.declared.queue.Queue.{Queue}
-use Rattle.pm_run.specs.declared.frames.Frames.{Frames}
-use Rattle.pm_run.specs.declared.opening.Halted.{Halted}
-use Rattle.pm_run.specs.declared.opening.Halted.TheVariants.{Over as HaltedOver, Resumes}
 use Rattle.pm_run.specs.declared.opening.Rule.{Rule}
 
 -- where a process stands after its statements: without an end nothing is left
 abbrev pub stands_at : Option End → Mind → State
 stands_at None p = Running [] p
 stands_at (Some end) p = Over end p
-
--- where it stands after a statement that ends it
-abbrev pub halted : Halted → Frames → Mind → State
-halted (HaltedOver end) f p = stands_at end p
-halted Resumes f p = Running (items_of f) p
 
 -- where it stands once an rcfile of the command line was read, or none was
 abbrev pub opened_at : Opened → Mind → State

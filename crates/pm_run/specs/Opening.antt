@@ -10,14 +10,11 @@ use Rattle.pm_journal.specs.declared.acts.Act.TheVariants.{ReadFile}
 use Rattle.pm_journal.specs.Walking.{Next, Go, Reaches}
 use Rattle.pm_meaning.specs.Blocks.{begun_block}
 use Rattle.pm_meaning.specs.Changes.{opened}
-use Rattle.pm_meaning.specs.declared.process.End.TheVariants.{NoRc}
 use Rattle.pm_meaning.specs.Minds.{Mind}
 use Rattle.pm_meaning.specs.Running.{State, Event, Running, Over, Opening, OpeningRule, ahead, entered, with_later, open_next, after_read, pass_over, step}
 use Rattle.pm_run.specs.Ends.{IsCode}
 use Rattle.pm_run.specs.declared.opening.Opened.{Opened}
 use Rattle.pm_run.specs.declared.opening.Opened.TheVariants.{Read, Ended, Nothing}
-use Rattle.pm_run.specs.declared.opening.Tried.{Tried}
-use Rattle.pm_run.specs.declared.opening.Tried.TheVariants.{Content, Ends as TriedEnds, Passed}
 
 -- an rcfile was read, and this is its code
 pub record OpensCode (s : State) (code : Code) (q : Mind) (x y : JournalState) (a b : View) : Type 0 where
@@ -54,10 +51,10 @@ pub record PassesOn (rule : OpeningRule) (name : List ℕ) (p q : Mind) (x y : J
   pub opens : OpensTo rule name p (λ names. Opening rule names q) x y a b
 
 -- what came of one rcfile
-abbrev pub OpensOne : OpeningRule → List ℕ → Tried → Mind → Mind → JournalState → JournalState → View → View → Type 0
-OpensOne rule name (Content code) p q x y a b = ReadsContent rule name code p q x y a b
-OpensOne rule name TriedEnds p q x y a b = OpensTo rule name p (λ names. Over NoRc q) x y a b
-OpensOne rule name Passed p q x y a b = PassesOn rule name p q x y a b
+abbrev pub OpensOne : OpeningRule → List ℕ → Opened → Mind → Mind → JournalState → JournalState → View → View → Type 0
+OpensOne rule name (Read code) p q x y a b = ReadsContent rule name code p q x y a b
+OpensOne rule name (Ended end) p q x y a b = OpensTo rule name p (λ names. Over end q) x y a b
+OpensOne rule name Nothing p q x y a b = PassesOn rule name p q x y a b
 
 -- what its reading does, once its opening was counted
 abbrev pub ReadsTo : OpeningRule → List ℕ → Mind → (List (List ℕ) → State) → JournalState → JournalState → View → View → Type 0
@@ -72,17 +69,17 @@ pub record ReadsCode (rule : OpeningRule) (name : List ℕ) (code : Code) (p q :
   pub reads : ReadsTo rule name p (λ names. Running (ahead trees []) (begun_block (entered rule name (with_later names p)))) x y a b
 
 -- what came of the reading of one rcfile
-abbrev pub ReadsOne : OpeningRule → List ℕ → Tried → Mind → Mind → JournalState → JournalState → View → View → Type 0
-ReadsOne rule name (Content code) p q x y a b = ReadsCode rule name code p q x y a b
-ReadsOne rule name TriedEnds p q x y a b = (q ≡ p) × ReadsTo rule name p (λ names. Over NoRc p) x y a b
-ReadsOne rule name Passed p q x y a b = (q ≡ p) × ReadsTo rule name p (λ names. Opening rule names p) x y a b
+abbrev pub ReadsOne : OpeningRule → List ℕ → Opened → Mind → Mind → JournalState → JournalState → View → View → Type 0
+ReadsOne rule name (Read code) p q x y a b = ReadsCode rule name code p q x y a b
+ReadsOne rule name (Ended end) p q x y a b = (q ≡ p) × ReadsTo rule name p (λ names. Over end p) x y a b
+ReadsOne rule name Nothing p q x y a b = (q ≡ p) × ReadsTo rule name p (λ names. Opening rule names p) x y a b
 
 -- what comes of one that wasn't read
 abbrev pub PassesTo : OpeningRule → List ℕ → Bool → Mind → (List (List ℕ) → State) → JournalState → JournalState → View → View → Type 0
 PassesTo rule name missing p to x y a b = (names : List (List ℕ)) → Executes {R = Next State Event} (pass_over rule name names missing p) (Go (to names)) x y a b
 
 -- the same, by how its try ended
-abbrev pub PassesOver : OpeningRule → List ℕ → Bool → Tried → Mind → JournalState → JournalState → View → View → Type 0
-PassesOver rule name missing (Content code) p x y a b = ⊥
-PassesOver rule name missing TriedEnds p x y a b = PassesTo rule name missing p (λ names. Over NoRc p) x y a b
-PassesOver rule name missing Passed p x y a b = PassesTo rule name missing p (λ names. Opening rule names p) x y a b
+abbrev pub PassesOver : OpeningRule → List ℕ → Bool → Opened → Mind → JournalState → JournalState → View → View → Type 0
+PassesOver rule name missing (Read code) p x y a b = ⊥
+PassesOver rule name missing (Ended end) p x y a b = PassesTo rule name missing p (λ names. Over end p) x y a b
+PassesOver rule name missing Nothing p x y a b = PassesTo rule name missing p (λ names. Opening rule names p) x y a b

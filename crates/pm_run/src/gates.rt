@@ -19,7 +19,7 @@ ghost use Rattle.pm_perform.specs.Names.{top_of};
 ghost use Rattle.pm_meaning.specs.Turning.{turn_of};
 ghost use Rattle.pm_run.specs.Walk.{gate_turn};
 
-use crate::judging::{Come, come_to};
+use crate::judging::come_to;
 use pm_bytes::{Blob, Memory, Name, full};
 use pm_conds::Observer;
 use pm_journal::{Effects, LockEnd, couldnt_lock, forcing_lock, no_lock, take};
@@ -54,13 +54,13 @@ pub fn pass_gate<D: Effects, N: Observer>(
         (λ gate. gate_turn gate (mind_of run.new.process)) result
         run.old.journal run.new.journal (D.told run.old.outside) (D.told run.new.outside) }
 {
-    match come_to(alloc, run, recipe, place, observer)? {
-        Come::Acts => enter_block(alloc, run, recipe),
-        Come::Ended(end) => Ok(gate_by(end)),
+    if !come_to(alloc, run, recipe, place, observer)? {
+        return Ok(Gate::Passes);
     }
+    enter_block(alloc, run, recipe)
 }
 
-// The gate of a recipe that is over before its action, or whose lock wasn't got.
+// The gate of a recipe whose lock's name can't be used.
 fn gate_by(end: Option<End>) -> Gate
     ensures { (p : Mind) → turn_of end p ≡ gate_turn result p }
 {

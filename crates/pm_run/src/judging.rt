@@ -26,22 +26,16 @@ use pm_perform::perform;
 use pm_recipe::{Flags, Recipe};
 use std::alloc::Global;
 
-/// What comes of a recipe before its action: it is executed, or it isn't, and the process goes on or ends.
-#[derive(Drop)]
-pub enum Come {
-    Acts,
-    Ended(Option<End>),
-}
-
-/// Comes to the recipe at this place of the rcfile: its conditions are judged where its flags admit it.
+/// Comes to the recipe at this place of the rcfile: its conditions are judged where its flags admit it. The answer is
+/// whether it is executed, which leaves its action to do.
 pub fn come_to<D: Effects, N: Observer>(
     alloc: Global,
     run: &mut Run<D>,
     recipe: &Recipe,
     place: usize,
     observer: &mut N,
-) -> Result<Come, Memory>
-    ensures comes { IfOk result (λ come. ComesTo come (top_of recipe.now)
+) -> Result<bool, Memory>
+    ensures comes { IfOk result (λ acts. ComesTo acts (top_of recipe.now)
         (mind_of run.old.process) (mind_of run.new.process)
         run.old.journal run.new.journal (D.told run.old.outside) (D.told run.new.outside)) }
     ensures memory { OnErr result ((acts : Mind → Plan Turn) →
@@ -56,15 +50,15 @@ pub fn come_to<D: Effects, N: Observer>(
     observer.came_to(&run.process.rcfile, place, admitted, entries)?;
     if !admitted {
         pass(&flags, &mut run.process);
-        return Ok(Come::Ended(None));
+        return Ok(false);
     }
     let conditions = recipe.conditions.as_slice();
     if conditions_hold(alloc, run, conditions, flags, observer)? {
         execute(&flags, &mut run.process);
-        return Ok(Come::Acts);
+        return Ok(true);
     }
     pass(&flags, &mut run.process);
-    Ok(Come::Ended(None))
+    Ok(false)
 }
 
 // The recipe isn't executed.
@@ -99,10 +93,10 @@ pub fn run_recipe<D: Effects, N: Observer>(
     ensures sure { OnErr result (OfNew (LeavesUndelivered (top_of recipe.now) (mind_of run.old.process))
         run.old.journal run.new.journal) }
 {
-    match come_to(alloc, run, recipe, place, observer)? {
-        Come::Acts => act(alloc, run, recipe, draft),
-        Come::Ended(end) => Ok(end),
+    if come_to(alloc, run, recipe, place, observer)? {
+        return act(alloc, run, recipe, draft);
     }
+    Ok(None)
 }
 
 // Does the action, and before it the draft of its abstract.

@@ -8,12 +8,9 @@ ghost use Rattle.pm_meaning.specs.Minds.{mind_of};
 ghost use Rattle.pm_meaning.specs.Running.{Event, Opening, step, entered};
 ghost use Rattle.pm_meaning.specs.Running.{open_next, after_read};
 ghost use Rattle.pm_meaning.specs.Running;
-ghost use Rattle.pm_meaning.specs.Running.{ahead, left_by};
+ghost use Rattle.pm_meaning.specs.Running.{left_by};
 ghost use Rattle.pm_meaning.specs.declared.process.End.TheVariants.{HostOff};
-ghost use Rattle.pm_run.specs.Frames.{items_of, left_over};
-ghost use Rattle.pm_recipe.specs.Tree.{Trees};
-ghost use Rattle.pm_run.specs.declared.opening.Halted.TheVariants.{Resumes};
-ghost use Rattle.pm_run.specs.Ends.{halted, rule_of_opening, IsCode};
+ghost use Rattle.pm_run.specs.Ends.{opened_at, rule_of_opening, IsCode};
 ghost use Rattle.pm_run.specs.RunningOut.{MayRunOut, RunsOut};
 ghost use Rattle.pm_run.specs.Stretches.{Walks};
 ghost use Rattle.pm_run.specs.Opening.{OpensFrom, OpensOne, ReadsOne, PassesOver, is_read};
@@ -37,29 +34,14 @@ pub struct Rule {
     pub keeps_folder: bool,
 }
 
-/// What came of the rcfiles of the command line: the code of the one that was read, or the end of a process that has
-/// read one before, or must have its rcfile. Without either there is nothing to do, and the process falls off its end.
+/// What came of rcfiles of the command line: the code of the one that was read, or the end of a process that has read
+/// one before, or must have its rcfile. Without either the next one is tried, and behind the last one there is nothing
+/// to do: the process falls off its end.
 #[derive(Drop)]
 pub enum Opened {
     Read(Code),
     Ended(End),
     Nothing,
-}
-
-/// Where a process stands that a statement ended: it is over, so or because nothing is left to do, or an rcfile of the
-/// command line has taken the place of all others.
-#[derive(Clone, Copy)]
-pub enum Halted {
-    Over(Option<End>),
-    Resumes,
-}
-
-/// What came of one rcfile: its code, the end of a mail filter without it, or nothing, and the next one is tried.
-#[derive(Drop)]
-pub enum Tried {
-    Content(Code),
-    Ends,
-    Passed,
 }
 
 /// Opens these rcfiles, the last one first, up to one that is read. The others are left for a process that isn't on its
@@ -84,14 +66,14 @@ pub fn open_first<D: Effects>(
     while let Some(name) = names.pop() {
         match open_one(alloc, run, rule, name) {
             Err(Memory) => return Err(Memory),
-            Ok(tried) => match tried {
-                Tried::Content(code) => {
+            Ok(opened) => match opened {
+                Opened::Read(code) => {
                     run.process.later = names;
                     run.process.chain = new_chain();
                     return Ok(Opened::Read(code));
                 }
-                Tried::Ends => return Ok(Opened::Ended(End::NoRc)),
-                Tried::Passed => {}
+                Opened::Ended(end) => return Ok(Opened::Ended(end)),
+                Opened::Nothing => {}
             },
         }
     }
@@ -108,8 +90,8 @@ fn open_one<D: Effects>(
     run: &mut Run<D>,
     rule: Rule,
     name: Name,
-) -> Result<Tried, Memory>
-    ensures opens { IfOk result (λ tried. OpensOne (rule_of_opening rule) name tried
+) -> Result<Opened, Memory>
+    ensures opens { IfOk result (λ opened. OpensOne (rule_of_opening rule) name opened
         (mind_of run.old.process) (mind_of run.new.process)
         run.old.journal run.new.journal (D.told run.old.outside) (D.told run.new.outside)) }
     ensures memory { OnErr result ((names : List (List ℕ)) →
@@ -119,7 +101,7 @@ fn open_one<D: Effects>(
     if run.process.openings >= 256 {
         let line = too_many_rcfiles(alloc, &name)?;
         tell(alloc, run, line)?;
-        return Ok(Tried::Passed);
+        return Ok(Opened::Nothing);
     }
     run.process.openings += 1;
     read_one(alloc, run, rule, name)
@@ -131,8 +113,8 @@ fn read_one<D: Effects>(
     run: &mut Run<D>,
     rule: Rule,
     name: Name,
-) -> Result<Tried, Memory>
-    ensures reads { IfOk result (λ tried. ReadsOne (rule_of_opening rule) name tried
+) -> Result<Opened, Memory>
+    ensures reads { IfOk result (λ opened. ReadsOne (rule_of_opening rule) name opened
         (mind_of run.old.process) (mind_of run.new.process)
         run.old.journal run.new.journal (D.told run.old.outside) (D.told run.new.outside)) }
     ensures memory { let p = mind_of run.old.process in OnErr result ((names : List (List ℕ)) →
@@ -150,7 +132,7 @@ fn read_one<D: Effects>(
         Some(rc) => {
             let code = code_of(alloc, rc.as_slice())?;
             enter(alloc, rule, &name, &mut run.process)?;
-            Ok(Tried::Content(code))
+            Ok(Opened::Read(code))
         }
         None => {
             let missing = run.journal.last_missing();
@@ -194,23 +176,23 @@ fn pass_over<D: Effects>(
     rule: Rule,
     name: &Name,
     missing: bool,
-) -> Result<Tried, Memory>
-    ensures passes { let p = mind_of run.old.process in IfOk result (λ tried. PassesOver (rule_of_opening rule)
-        name.now missing tried p run.old.journal run.new.journal (D.told run.old.outside) (D.told run.new.outside)) }
+) -> Result<Opened, Memory>
+    ensures passes { let p = mind_of run.old.process in IfOk result (λ opened. PassesOver (rule_of_opening rule)
+        name.now missing opened p run.old.journal run.new.journal (D.told run.old.outside) (D.told run.new.outside)) }
     ensures memory { OnErr result ((names : List (List ℕ)) →
         OutOfMemory (Running.pass_over (rule_of_opening rule) name.now names missing (mind_of run.old.process))
         run.old.journal run.new.journal (D.told run.old.outside) (D.told run.new.outside)) }
     ensures same { run.new.process ≡ run.old.process }
 {
     if run.process.filter {
-        return Ok(Tried::Ends);
+        return Ok(Opened::Ended(End::NoRc));
     }
     if may_miss(rule, missing) {
-        return Ok(Tried::Passed);
+        return Ok(Opened::Nothing);
     }
     let line = couldnt_read(alloc, name)?;
     tell(alloc, run, line)?;
-    Ok(Tried::Passed)
+    Ok(Opened::Nothing)
 }
 
 // Whether nothing is told of this rcfile.
@@ -220,40 +202,26 @@ fn may_miss(rule: Rule, missing: bool) -> bool
     rule.is_implied && missing
 }
 
-/// The next rcfile of the command line that can be read takes the place of all others of a process that isn't on its
-/// host, once their blocks were left; without one the process is over.
-pub fn open_later<D: Effects>(
-    alloc: Global,
-    run: &mut Run<D>,
-    frame: &mut Frames,
-) -> Result<Halted, Memory>
+/// Opens the next rcfile of the command line that can be read, for a process that isn't on its host and has left its
+/// blocks; without one the process is over.
+pub fn open_later<D: Effects>(alloc: Global, run: &mut Run<D>) -> Result<Opened, Memory>
     ensures walks { Walks (left_by HostOff (mind_of run.old.process))
-        (λ way. halted way frame.new (mind_of run.new.process)) result
+        (λ opened. opened_at opened (mind_of run.new.process)) result
         run.old.journal run.new.journal (D.told run.old.outside) (D.told run.new.outside) }
-    ensures falls { IfOk result (λ way. way ≡ Resumes →
-        left_over run.new.process.openings frame.new + 1 ≤ left_over run.old.process.openings frame.old) }
+    ensures counted { IfOk result (λ opened.
+        is_read opened ≡ true → run.old.process.openings < run.new.process.openings) }
+    ensures most { IfOk result (λ opened. is_read opened ≡ true → run.new.process.openings ≤ 256) }
 {
     let names = mem::replace(&mut run.process.later, Vec::new(alloc));
     let rule = Rule {
         is_implied: false,
         keeps_folder: true,
     };
-    match open_first(alloc, run, rule, names) {
-        Err(Memory) => Err(Memory),
-        Ok(opened) => match opened {
-            Opened::Read(code) => {
-                *frame = begin_frame(alloc, code);
-                Ok(Halted::Resumes)
-            }
-            Opened::Ended(end) => Ok(Halted::Over(Some(end))),
-            Opened::Nothing => Ok(Halted::Over(None)),
-        },
-    }
+    open_first(alloc, run, rule, names)
 }
 
 /// The rcfile of this code, with all of it left.
 pub fn begin_frame(alloc: Global, code: Code) -> Frames
-    ensures whole { (trees : Trees) → IsCode code trees → items_of result ≡ ahead trees [] }
     ensures place { result.place ≡ 0 }
     ensures code { result.code ≡ code }
     ensures blocks { result.blocks.items ≡ [] }

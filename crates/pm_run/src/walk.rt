@@ -1,10 +1,10 @@
 //! The items of an rcfile, one after the other.
-ghost use Rattle.std.specs.Prelude.{◌≡◌, ◌<◌, ◌≤◌, ◌+◌, [], length, drop, IfOk, MatchOption};
+ghost use Rattle.std.specs.Prelude.{◌≡◌, ◌<◌, ◌≤◌, ◌+◌, [], true, length, drop, IfOk, MatchOption};
 ghost use Rattle.pm_code.specs.Flat.{flats_of};
 ghost use Rattle.pm_meaning.specs.Minds.{mind_of};
 ghost use Rattle.pm_meaning.specs.Running.{Running, Leaving};
-ghost use Rattle.pm_run.specs.Ends.{stands_at, halted, copies_left};
-ghost use Rattle.pm_run.specs.declared.opening.Halted.TheVariants.{Resumes};
+ghost use Rattle.pm_run.specs.Ends.{stands_at, opened_at, copies_left};
+ghost use Rattle.pm_run.specs.Opening.{is_read};
 ghost use Rattle.pm_run.specs.Frames.{items_of, steps_of, left_over, all_locks};
 ghost use Rattle.pm_run.specs.Stretches.{Walks, Proceeds};
 ghost use Rattle.pm_run.specs.Walk.{stands, less_by, IsStepAt, EndsAt, Entered, ComesBack, IsBehind, stepped_of};
@@ -14,7 +14,7 @@ use crate::draft::Draft;
 use crate::frames::{Frames, Open, Waiting};
 use crate::gates::{Gate, pass_gate};
 use crate::leaving::{give_maybe, leave_blocks};
-use crate::opening::{Halted, open_later};
+use crate::opening::{Opened, begin_frame, open_later};
 use crate::queue::Queue;
 use crate::rcfiles::{end_file, include, switch};
 use crate::statements::run_statement;
@@ -60,8 +60,9 @@ pub fn run_frame<D: Effects, N: Observer>(
             Stepped::Went => {}
             Stepped::Over => return Ok(None),
             Stepped::Halts(end) => match halt(alloc, run, end, frame)? {
-                Halted::Over(end) => return Ok(end),
-                Halted::Resumes => {}
+                Opened::Read(code) => *frame = begin_frame(alloc, code),
+                Opened::Ended(end) => return Ok(Some(end)),
+                Opened::Nothing => return Ok(None),
             },
             Stepped::Includes(name) => include(alloc, run, name, frame)?,
             Stepped::Switches(name) => switch(alloc, run, name, frame)?,
@@ -73,24 +74,25 @@ pub fn run_frame<D: Effects, N: Observer>(
     }
 }
 
-// Leaves all blocks of a process that a statement ends. On another host the next rcfile of the command line takes the
-// place of the others, where one can be read.
+// Leaves all blocks of a process that a statement ends. On another host the next rcfile of the command line that can be
+// read is opened, to take the place of the others.
 fn halt<D: Effects>(
     alloc: Global,
     run: &mut Run<D>,
     end: End,
     frame: &mut Frames,
-) -> Result<Halted, Memory>
+) -> Result<Opened, Memory>
     ensures walks { Walks (Leaving (all_locks frame.old) end (mind_of run.old.process))
-        (λ way. halted way frame.new (mind_of run.new.process)) result
+        (λ opened. opened_at opened (mind_of run.new.process)) result
         run.old.journal run.new.journal (D.told run.old.outside) (D.told run.new.outside) }
-    ensures falls { IfOk result (λ way. way ≡ Resumes →
-        left_over run.new.process.openings frame.new + 1 ≤ left_over run.old.process.openings frame.old) }
+    ensures counted { IfOk result (λ opened.
+        is_read opened ≡ true → run.old.process.openings < run.new.process.openings) }
+    ensures most { IfOk result (λ opened. is_read opened ≡ true → run.new.process.openings ≤ 256) }
 {
     leave_blocks(alloc, run, frame, end)?;
     match end {
-        End::HostOff => open_later(alloc, run, frame),
-        _ => Ok(Halted::Over(Some(end))),
+        End::HostOff => open_later(alloc, run),
+        _ => Ok(Opened::Ended(end)),
     }
 }
 

@@ -6,8 +6,6 @@ use Rattle.pm_meaning.specs.Judging.{judge_first}
 use Rattle.pm_meaning.specs.Minds.{Mind, mind_of}
 use Rattle.pm_meaning.specs.Turns.{Turn}
 use Rattle.pm_perform.specs.Names.{top_of}
-use Rattle.std.proofs.Common.{refl}
-use Rattle.pm_run.proofs.GateLemmas.{gate_of_end}
 use Rattle.pm_run.proofs.JudgeLemmas.{acts_on}
 use Rattle.pm_run.proofs.gates.pass_gate.Goals as goal
 
@@ -18,21 +16,19 @@ returns-in_err-come_to g c = record {
       (search rules, on_err _ _ (c.in_err-come_to.ensures.memory acts)));
 }
 
-pub returns-in-Acts : goal.returns-in-Acts
-returns-in-Acts g c = record {
+pub returns-then-not-branch : goal.returns-then-not-branch
+returns-then-not-branch g c = record {
   carries = (
-      let top = top_of c.args.recipe.now in
-      let acts : Mind → Plan Turn = λ q. enter_block top q in
-      let comes = rw c.in-Acts.is at c.in_ok-come_to.ensures.comes in
-      acts_on (judge_first top acts (mind_of c.args.run.now.process)) (acts (mind_of c.come_to.new.run.process)) _ _ _ _ _ _ _ _ (comes acts) c.enter_block.ensures.carries);
+      let acts : Mind → Plan Turn = λ q. enter_block (top_of c.args.recipe.now) q in
+      let comes = rw c.if-not-branch.true at c.in_ok-come_to.ensures.comes in
+      (comes acts, tt));
 }
 
-pub returns-in-Ended : goal.returns-in-Ended
-returns-in-Ended g c = record {
+pub returns : goal.returns
+returns g c = record {
   carries = (
       let top = top_of c.args.recipe.now in
       let acts : Mind → Plan Turn = λ q. enter_block top q in
-      let comes = rw c.in-Ended.is at c.in_ok-come_to.ensures.comes in
-      let plan = judge_first top acts (mind_of c.args.run.now.process) in
-      (gate_of_end plan plan c.in-Ended.end c.gate_by.result (mind_of c.come_to.new.run.process) _ _ _ _ refl c.gate_by.ensures (comes acts), tt));
+      let comes = rw c.if-not-branch.false at c.in_ok-come_to.ensures.comes in
+      acts_on (judge_first top acts (mind_of c.args.run.now.process)) (acts (mind_of c.come_to.new.run.process)) _ _ _ _ _ _ _ _ (comes acts) c.enter_block.ensures.carries);
 }

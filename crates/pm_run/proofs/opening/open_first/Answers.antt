@@ -15,36 +15,36 @@ returns-in-Err-clause-memory g c =
     let start = Opening o (reverse c.args.names.items) (mind_of c.args.run.now.process) in
     opening_wants start o (reverse c.loop-name.names.items) (reverse c.pop.new.self.items) c.in-Some.name (mind_of c.loop-name.run.process) (mind_of c.open_one.new.run.process) c.args.run.now.journal c.loop-name.run.journal c.open_one.new.run.journal _ _ _ (last_first c.loop-name.names.items c.pop.new.self.items c.in-Some.name c.in-Some.ensures.items) c.loop-name.invariant.reaches c.in-Err.ensures.memory
 
-pub returns-in-Content-clause-opens : goal.returns-in-Content-clause-opens
-returns-in-Content-clause-opens g c =
+pub returns-in-Read-clause-opens : goal.returns-in-Read-clause-opens
+returns-in-Read-clause-opens g c =
     let o = rule_of_opening c.args.rule in
     let start = Opening o (reverse c.args.names.items) (mind_of c.args.run.now.process) in
-    let opens = rw c.in-Content.is at c.in-Ok.ensures.opens in
+    let opens = rw c.in-Read.is at c.in-Ok.ensures.opens in
     opening_reads start o (reverse c.loop-name.names.items) (reverse c.pop.new.self.items) c.in-Some.name (mind_of c.loop-name.run.process) (mind_of c.open_one.new.run.process) c.args.run.now.journal c.loop-name.run.journal c.open_one.new.run.journal _ _ _ (last_first c.loop-name.names.items c.pop.new.self.items c.in-Some.name c.in-Some.ensures.items) c.loop-name.invariant.reaches
-    c.in-Content.code _ opens (search rules)
+    c.in-Read.code _ opens (search rules)
 
-pub returns-in-Content-clause-counted : goal.returns-in-Content-clause-counted
-returns-in-Content-clause-counted g c =
-    let opens = rw c.in-Content.is at c.in-Ok.ensures.opens in
-    λ e. omega (arith, c.loop-name.invariant.counted, openings_read (rule_of_opening c.args.rule) c.in-Some.name c.in-Content.code (mind_of c.loop-name.run.process) (mind_of c.open_one.new.run.process) _ _ _ _ opens)
+pub returns-in-Read-clause-counted : goal.returns-in-Read-clause-counted
+returns-in-Read-clause-counted g c =
+    let opens = rw c.in-Read.is at c.in-Ok.ensures.opens in
+    λ e. omega (arith, c.loop-name.invariant.counted, openings_read (rule_of_opening c.args.rule) c.in-Some.name c.in-Read.code (mind_of c.loop-name.run.process) (mind_of c.open_one.new.run.process) _ _ _ _ opens)
 
-pub returns-in-Content-clause-most : goal.returns-in-Content-clause-most
-returns-in-Content-clause-most g c =
-    let opens = rw c.in-Content.is at c.in-Ok.ensures.opens in
-    λ e. omega (arith, opens.few, openings_read (rule_of_opening c.args.rule) c.in-Some.name c.in-Content.code (mind_of c.loop-name.run.process) (mind_of c.open_one.new.run.process) _ _ _ _ opens)
+pub returns-in-Read-clause-most : goal.returns-in-Read-clause-most
+returns-in-Read-clause-most g c =
+    let opens = rw c.in-Read.is at c.in-Ok.ensures.opens in
+    λ e. omega (arith, opens.few, openings_read (rule_of_opening c.args.rule) c.in-Some.name c.in-Read.code (mind_of c.loop-name.run.process) (mind_of c.open_one.new.run.process) _ _ _ _ opens)
 
-pub returns-in-Ends-clause-opens : goal.returns-in-Ends-clause-opens
-returns-in-Ends-clause-opens g c =
+pub returns-in-Ended-clause-opens : goal.returns-in-Ended-clause-opens
+returns-in-Ended-clause-opens g c =
     let o = rule_of_opening c.args.rule in
     let start = Opening o (reverse c.args.names.items) (mind_of c.args.run.now.process) in
-    let opens = rw c.in-Ends.is at c.in-Ok.ensures.opens in
-    opening_ends start o (reverse c.loop-name.names.items) (reverse c.pop.new.self.items) c.in-Some.name (mind_of c.loop-name.run.process) (mind_of c.open_one.new.run.process) c.args.run.now.journal c.loop-name.run.journal c.open_one.new.run.journal _ _ _ (last_first c.loop-name.names.items c.pop.new.self.items c.in-Some.name c.in-Some.ensures.items) c.loop-name.invariant.reaches opens
+    let opens = rw c.in-Ended.is at c.in-Ok.ensures.opens in
+    opening_ends start o (reverse c.loop-name.names.items) (reverse c.pop.new.self.items) c.in-Some.name (mind_of c.loop-name.run.process) (mind_of c.open_one.new.run.process) c.args.run.now.journal c.loop-name.run.journal c.open_one.new.run.journal _ _ _ (last_first c.loop-name.names.items c.pop.new.self.items c.in-Some.name c.in-Some.ensures.items) c.loop-name.invariant.reaches c.in-Ended.end opens
 
 pub loop-name-preserved : goal.loop-name-preserved
 loop-name-preserved g c =
     let o = rule_of_opening c.args.rule in
     let start = Opening o (reverse c.args.names.items) (mind_of c.args.run.now.process) in
-    let opens = rw c.in-Passed.is at c.in-Ok.ensures.opens in
+    let opens = rw c.in-Nothing.is at c.in-Ok.ensures.opens in
     record {
       reaches = opening_on start o (reverse c.loop-name.names.items) (reverse c.pop.new.self.items) c.in-Some.name (mind_of c.loop-name.run.process) (mind_of c.open_one.new.run.process) c.args.run.now.journal c.loop-name.run.journal c.open_one.new.run.journal _ _ _ (last_first c.loop-name.names.items c.pop.new.self.items c.in-Some.name c.in-Some.ensures.items) c.loop-name.invariant.reaches opens;
       counted = omega (arith, c.loop-name.invariant.counted, opens.counted);

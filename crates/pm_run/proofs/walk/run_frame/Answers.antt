@@ -1,10 +1,10 @@
-use Rattle.std.proofs.Common.{[], rules, arith}
+use Rattle.std.proofs.Common.{[], rules, arith, refl}
 use Rattle.pm_journal.proofs.WantsMemory.{on_err}
 use Rattle.pm_meaning.specs.Minds.{mind_of}
-use Rattle.pm_meaning.specs.Running.{Running, Including, Switching, LeavingFile, Cloning, Leaving}
+use Rattle.pm_meaning.specs.Running.{Running, Over, Including, Switching, LeavingFile, Cloning, Leaving}
 use Rattle.pm_run.specs.Copies.{block_at}
 use Rattle.pm_run.specs.Frames.{items_of, outer_items, block_locks, all_locks}
-use Rattle.pm_run.specs.Ends.{stands_at}
+use Rattle.pm_run.proofs.OpeningLemmas.{begun_frame, later_falls}
 use Rattle.pm_run.proofs.RunLemmas.{runs_itself, runs_run, runs_break, runs_walk, runs_out}
 use Rattle.pm_run.proofs.walk.run_frame.Goals as goal
 
@@ -34,37 +34,52 @@ returns-in-Over-clause-proceeds g c =
     let next = Running [] (mind_of c.step_frame.new.run.process) in
     λ first. (runs_walk c.args.queue.now c.loop-end.queue start now next _ _ _ _ _ _ c.loop-end.invariant.runs (rw c.in-Over.is at c.in_ok-step_frame.ensures.walks.0) first, tt)
 
-pub returns-in_err-end-in-Halts-clause-proceeds : goal.returns-in_err-end-in-Halts-clause-proceeds
-returns-in_err-end-in-Halts-clause-proceeds g c =
+pub returns-in_err-code-in-Halts-clause-proceeds : goal.returns-in_err-code-in-Halts-clause-proceeds
+returns-in_err-code-in-Halts-clause-proceeds g c =
     let start = Running (items_of c.args.frame.now) (mind_of c.args.run.now.process) in
     let now = Running (items_of c.loop-end.frame) (mind_of c.loop-end.run.process) in
     let next = Leaving (all_locks c.step_frame.new.frame) c.in-Halts.end (mind_of c.step_frame.new.run.process) in
     let asked = runs_walk c.args.queue.now c.loop-end.queue start now next _ _ _ _ _ _ c.loop-end.invariant.runs (rw c.in-Halts.is at c.in_ok-step_frame.ensures.walks.0) in
-    λ first. (search rules, on_err _ _ (runs_out c.args.queue.now c.loop-end.queue start next _ _ _ _ _ _ asked c.in_err-end-in-Halts.ensures.walks.1 first))
+    λ first. (search rules, on_err _ _ (runs_out c.args.queue.now c.loop-end.queue start next _ _ _ _ _ _ asked c.in_err-code-in-Halts.ensures.walks.1 first))
 
-pub returns-in-Over-2-clause-proceeds : goal.returns-in-Over-2-clause-proceeds
-returns-in-Over-2-clause-proceeds g c =
+pub returns-in-Ended-clause-proceeds : goal.returns-in-Ended-clause-proceeds
+returns-in-Ended-clause-proceeds g c =
     let start = Running (items_of c.args.frame.now) (mind_of c.args.run.now.process) in
     let now = Running (items_of c.loop-end.frame) (mind_of c.loop-end.run.process) in
     let next = Leaving (all_locks c.step_frame.new.frame) c.in-Halts.end (mind_of c.step_frame.new.run.process) in
     let asked = runs_walk c.args.queue.now c.loop-end.queue start now next _ _ _ _ _ _ c.loop-end.invariant.runs (rw c.in-Halts.is at c.in_ok-step_frame.ensures.walks.0) in
-    λ first. (runs_walk c.args.queue.now c.loop-end.queue start next (stands_at c.in-Over-2.end (mind_of c.halt.new.run.process)) _ _ _ _ _ _ asked (rw c.in-Over-2.is at c.in_ok-end-in-Halts.ensures.walks.0) first, tt)
+    let after = Over c.in-Ended.end (mind_of c.halt.new.run.process) in
+    λ first. (runs_walk c.args.queue.now c.loop-end.queue start next after _ _ _ _ _ _ asked (rw c.in-Ended.is at c.in_ok-code-in-Halts.ensures.walks.0) first, tt)
 
-pub loop-end-smaller-in-Resumes : goal.loop-end-smaller-in-Resumes
-loop-end-smaller-in-Resumes g c =
+pub returns-in-Nothing-clause-proceeds : goal.returns-in-Nothing-clause-proceeds
+returns-in-Nothing-clause-proceeds g c =
+    let start = Running (items_of c.args.frame.now) (mind_of c.args.run.now.process) in
+    let now = Running (items_of c.loop-end.frame) (mind_of c.loop-end.run.process) in
+    let next = Leaving (all_locks c.step_frame.new.frame) c.in-Halts.end (mind_of c.step_frame.new.run.process) in
+    let asked = runs_walk c.args.queue.now c.loop-end.queue start now next _ _ _ _ _ _ c.loop-end.invariant.runs (rw c.in-Halts.is at c.in_ok-step_frame.ensures.walks.0) in
+    let after = Running [] (mind_of c.halt.new.run.process) in
+    λ first. (runs_walk c.args.queue.now c.loop-end.queue start next after _ _ _ _ _ _ asked (rw c.in-Nothing.is at c.in_ok-code-in-Halts.ensures.walks.0) first, tt)
+
+pub loop-end-smaller-in-Read : goal.loop-end-smaller-in-Read
+loop-end-smaller-in-Read g c =
     let stepped = rw c.in-Halts.is at c.in_ok-step_frame.ensures.falls in
-    let resumed = c.in_ok-end-in-Halts.ensures.falls c.in-Resumes.is in
-    omega (arith, stepped, resumed)
+    let counted = rw c.in-Read.is at c.in_ok-code-in-Halts.ensures.counted in
+    let most = rw c.in-Read.is at c.in_ok-code-in-Halts.ensures.most in
+    let fresh = c.begin_frame.ensures in
+    let falls = later_falls c.step_frame.new.run.process.openings c.halt.new.run.process.openings c.step_frame.new.frame c.begin_frame.result (counted refl) (most refl) fresh.place fresh.blocks fresh.outer in
+    omega (arith, stepped, falls)
 
-pub loop-end-preserved-in-Resumes : goal.loop-end-preserved-in-Resumes
-loop-end-preserved-in-Resumes g c =
+pub loop-end-preserved-in-Read : goal.loop-end-preserved-in-Read
+loop-end-preserved-in-Read g c =
     let start = Running (items_of c.args.frame.now) (mind_of c.args.run.now.process) in
     let now = Running (items_of c.loop-end.frame) (mind_of c.loop-end.run.process) in
     let next = Leaving (all_locks c.step_frame.new.frame) c.in-Halts.end (mind_of c.step_frame.new.run.process) in
     let asked = runs_walk c.args.queue.now c.loop-end.queue start now next _ _ _ _ _ _ c.loop-end.invariant.runs (rw c.in-Halts.is at c.in_ok-step_frame.ensures.walks.0) in
-    let after = Running (items_of c.halt.new.frame) (mind_of c.halt.new.run.process) in
+    let fresh = c.begin_frame.ensures in
+    let after = Running (items_of c.begin_frame.result) (mind_of c.halt.new.run.process) in
+    let read = rw (← begun_frame c.begin_frame.result c.in-Read.code fresh.place fresh.code fresh.blocks fresh.outer) at (rw c.in-Read.is at c.in_ok-code-in-Halts.ensures.walks.0) in
     record {
-      runs = runs_walk c.args.queue.now c.loop-end.queue start next after _ _ _ _ _ _ asked (rw c.in-Resumes.is at c.in_ok-end-in-Halts.ensures.walks.0);
+      runs = runs_walk c.args.queue.now c.loop-end.queue start next after _ _ _ _ _ _ asked read;
       few = c.loop-end.invariant.few;
     }
 
