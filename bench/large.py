@@ -53,7 +53,7 @@ def row(label, rcfile, mail):
         for program in programs:
             runs[program].append(measure(program, rcfile, mail))
     size = os.path.getsize(mail)
-    told = [f"{label:38}"]
+    told = [f"{label:46}"]
     medians = []
     for program in programs:
         time = statistics.median(run[0] for run in runs[program])
@@ -104,7 +104,13 @@ def main():
             row(label + " to a mailbox", one, mail)
         copies = "".join(f":0 c\nbox{number}\n\n" for number in range(20))
         row("50 MiB to 20 mailboxes", rcfile("twenty", copies + ":0\n/dev/null\n"), "m50")
-        row("50 MiB through 5 filters", rcfile("filters", ":0 fw\n| cat\n\n" * 5 + ":0\nmbox\n"), "m50")
+        for label, flags, filter in (
+            ("5 filters that change nothing", "fw", "cat"),
+            ("5 filters of its header", "fhw", "sed '2iX-Seen: yes'"),
+            ("5 filters that add a line", "fw", "sed '2iX-Seen: yes'"),
+        ):
+            text = f":0 {flags}\n| {filter}\n\n" * 5 + ":0\nmbox\n"
+            row("50 MiB through " + label, rcfile("filters", text), "m50")
         row("50 MiB captured", rcfile("capture", ":0 cw\nX=| cat > /dev/null\n\n:0\n/dev/null\n"), "m50")
         row("4 KiB to a maildir", rcfile("maildir", ":0\nfolder/\n"), "small")
         names = "".join(f"V{number}=value\n" for number in range(1000))
