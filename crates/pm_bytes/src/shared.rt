@@ -71,7 +71,7 @@ impl Shared {
         Ok(both)
     }
 
-    /// Takes in the bytes that stand after these in the vector, where they are `more`, and answers whether they are.
+    /// Takes in the bytes that follow these in the vector, if they are `more`, and answers whether they are.
     pub fn widen(&mut self, more: &[u8]) -> bool
         ensures yes { result ≡ true → self.new ≡ self.old ++ more.now }
         ensures no { result ≡ false → self.new ≡ self.old }

@@ -68,8 +68,8 @@ impl Mail {
     }
 
     /// The mail that `split` gives. The newlines that end it in a mailbox are put behind its bytes, so that a mailbox
-    /// gets the mail's own memory if no line is escaped. Bytes that share their memory are copied for that, unless the
-    /// newlines stand behind them in it.
+    /// gets the mail's own memory if no line is escaped. Bytes that share their memory are copied for that, unless
+    /// those newlines follow them in it.
     pub fn split_own(alloc: Global, mut bytes: Blob) -> Result<Mail, Memory>
         ensures { IfOk result (λ mail. mail ≡ split_of bytes) }
     {
@@ -170,7 +170,7 @@ impl Mail {
         }
     }
 
-    // The head, in memory of its own where the body is large, which then goes before what keeps the head does.
+    // The head. Where the body is large it is copied, so that what keeps the head doesn't keep the body.
     fn head(&self, alloc: Global) -> Result<Blob, Memory>
         ensures { IfOk result (λ head. head ≡ self.now.head) }
     {

@@ -100,8 +100,8 @@ fn shared(alloc: Global, mut output: Blob, input: &Blob) -> Blob
     output
 }
 
-// Copies of the output get its memory, in which the newlines stand behind it that end a mail in a mailbox. Where memory
-// is wanting for that, they will have their own.
+// The newlines that end a mail in a mailbox are put after the output in its memory, which copies share from now on. If
+// memory runs out for that, each copy has its own.
 fn share_ended(output: &mut Blob)
     ensures { output.new ≡ output.old }
 {
