@@ -5,6 +5,7 @@ mod feeding;
 mod filtering;
 mod fronts;
 mod laws;
+mod options;
 mod outputs;
 mod request;
 mod settings;
