@@ -23,7 +23,7 @@ pub fn do_jobs<D: Effects>(
     mut jobs: VecDeque<Job>,
     mut made: Vec<Name>,
     outside: &mut D,
-    journal: &mut Journal,
+    journal: &mut Journal<D::Kept>,
 ) -> Ending
     requires ready { AllReady jobs.items }
     requires space { length made.items + length jobs.items ≤ vec_capacity made }
@@ -53,7 +53,7 @@ fn do_task<D: Effects>(
     forcing: Blob,
     made: &mut Vec<Name>,
     outside: &mut D,
-    journal: &mut Journal,
+    journal: &mut Journal<D::Kept>,
 ) -> bool
     requires again { again ≡ name_of task }
     requires forcing { forcing ≡ forcing_line (name_of task) }
@@ -80,7 +80,7 @@ fn take<D: Effects>(
     forcing: Blob,
     made: &mut Vec<Name>,
     outside: &mut D,
-    journal: &mut Journal,
+    journal: &mut Journal<D::Kept>,
 ) -> bool
     requires again { again ≡ name }
     requires forcing { forcing ≡ forcing_line name }
@@ -106,7 +106,7 @@ fn take<D: Effects>(
 }
 
 // Says the line where a lock file was removed by force.
-fn tell_force<D: Effects>(forced: u32, line: Blob, outside: &mut D, journal: &mut Journal)
+fn tell_force<D: Effects>(forced: u32, line: Blob, outside: &mut D, journal: &mut Journal<D::Kept>)
     requires { 1 ≤ journal.old.room }
     ensures says { (names : Option (List (List ℕ))) →
         Executes (if nat_eq forced 0 then Ends names else say_then line names) names
@@ -123,7 +123,7 @@ fn give<D: Effects>(
     again: Name,
     made: &mut Vec<Name>,
     outside: &mut D,
-    journal: &mut Journal,
+    journal: &mut Journal<D::Kept>,
 ) -> bool
     requires again { again ≡ name }
     requires room { 1 ≤ journal.old.room }
@@ -165,7 +165,12 @@ fn forget(made: &mut Vec<Name>, name: &Name)
 }
 
 // Removes each lock file that was made, the last one first, and says the line.
-fn give_up<D: Effects>(mut made: Vec<Name>, sorry: Blob, outside: &mut D, journal: &mut Journal)
+fn give_up<D: Effects>(
+    mut made: Vec<Name>,
+    sorry: Blob,
+    outside: &mut D,
+    journal: &mut Journal<D::Kept>,
+)
     requires { length made.items + 1 ≤ journal.old.room }
     ensures { Executes (remove_each (reverse made.items) (say_then sorry Ending.GaveUp)) Ending.GaveUp
         journal.old journal.new (D.told outside.old) (D.told outside.new) }

@@ -16,6 +16,7 @@ use pm_meaning::{Mind, Shared};
 use pm_objects::{Objects, Untouched, lend};
 use pm_recipe::Recipe;
 use std::alloc::Global;
+use std::marker::PhantomData;
 
 /// Does the action of a recipe whose flags and conditions admit it. One with a block isn't done here: nothing is done
 /// then, and the answer is `Went`. After `Memory` the mail wasn't delivered for good, but for what `Undelivered` names.
@@ -93,6 +94,7 @@ pub fn deliver_default<H: Host, E: Sink>(
         host,
         out: Untouched { faults: out },
         err,
+        kept: PhantomData,
     };
     deliver_lent(alloc, mind, shared, &mut objects, journal)
 }

@@ -10,7 +10,7 @@ ghost use Rattle.pm_actions.specs.Works.{work_of, alone, flags_of};
 
 use core::mem::replace_with;
 use pm_bytes::Memory;
-use pm_journal::{Effects, Journal};
+use pm_journal::{Effects, Entries, Journal};
 use pm_meaning::{Acted, Mind, Process, Run, Shared};
 use pm_recipe::Recipe;
 use std::alloc::Global;
@@ -30,7 +30,7 @@ pub fn do_work<D: Effects>(
     mind: &mut Mind,
     shared: &mut Shared,
     outside: &mut D,
-    journal: &mut Journal,
+    journal: &mut Journal<D::Kept>,
 ) -> Result<Acted, Memory>
     requires keeping { Keeping journal.old mind.old.locks.names }
     ensures carries { Carries (alone (work_of work.entry) (state_in mind.old shared.old))
@@ -62,7 +62,7 @@ fn work_apart<D: Effects>(
     work: Work<'_>,
     process: Process,
     outside: &mut D,
-    journal: &mut Journal,
+    journal: &mut Journal<D::Kept>,
 ) -> Worked
     requires keeping { Keeping journal.old process.locks.names }
     ensures carries { Carries (work_of work.entry (mind_of process))
@@ -71,7 +71,7 @@ fn work_apart<D: Effects>(
     ensures sure { OnErr result.acted (Undelivered (flags_of work.entry) journal.old journal.new) }
     ensures keeping { Keeping journal.new result.process.locks.names }
 {
-    let begun = mem::replace(journal, Journal::new(alloc));
+    let begun = mem::replace(journal, Journal::empty(alloc));
     let working = Working {
         alloc,
         work,
@@ -88,22 +88,22 @@ fn work_apart<D: Effects>(
 }
 
 // What is done, and for which process.
-struct Working<'a> {
+struct Working<'a, K: Entries> {
     alloc: Global,
     work: Work<'a>,
     process: Process,
-    journal: Journal,
+    journal: Journal<K>,
 }
 
 // What came of it, with the process and the journal afterwards.
-struct Done {
+struct Done<K: Entries> {
     acted: Result<Acted, Memory>,
     process: Process,
-    journal: Journal,
+    journal: Journal<K>,
 }
 
 // The same, while what does the acts is the run's own.
-fn work_all<D: Effects>(outside: D, working: Working<'_>) -> (D, Done)
+fn work_all<D: Effects>(outside: D, working: Working<'_, D::Kept>) -> (D, Done<D::Kept>)
     requires keeping { Keeping working.journal working.process.locks.names }
     ensures carries { Carries (work_of working.entry.work (mind_of working.entry.process))
         (λ acted. acted_with acted (mind_of result.1.process)) result.1.acted

@@ -4,7 +4,7 @@ ghost use Rattle.pm_conds.specs.Asked.{silent};
 use pm_append::say;
 use pm_bytes::{Blob, Memory, Name};
 use pm_host::{Command, Host, Sink};
-use pm_journal::{Asks, Journal, RunEnd};
+use pm_journal::{AllEntries, Asks, Journal, RunEnd};
 use pm_pipe::{SinkFaults, run_noted};
 use std::alloc::Global;
 
@@ -17,6 +17,8 @@ pub struct Asked<'a, H: Host, E: Sink> {
 }
 
 impl<'a, H: Host, E: Sink> Asks for Asked<'a, H, E> {
+    type Kept = AllEntries;
+
     ghost use Rattle.std.specs.Prelude.{[], ◌∷◌};
     ghost use Rattle.pm_journal.specs.Entries.{seen_by};
 

@@ -50,7 +50,7 @@ pub fn judge<D: Asks, N: Observer>(
         let outcome = outcome(alloc, run, condition, flags)?;
         let text = &condition.text;
         let ended = judge_one(alloc, text, &outcome, &mut total, &mut run.process.vars)?;
-        observer.judged(&outcome, total, run.journal.entries().len())?;
+        observer.judged(&outcome, total, run.journal.len())?;
         if let Some(end) = ended {
             note_score(weighted, total, &mut run.process.vars);
             return Ok(end);

@@ -19,7 +19,7 @@ use crate::observer::{NoObserver, Observer};
 use core::mem::replace_with;
 use pm_bytes::{Blob, Memory, Name};
 use pm_host::{Host, Sink};
-use pm_journal::{Asks, Journal, defective_condition, value_too_long};
+use pm_journal::{Asks, Entries, Journal, defective_condition, value_too_long};
 use pm_meaning::question::Judgement;
 use pm_meaning::{Mind, Process, Run, tell};
 use pm_recipe::{Condition, Flags};
@@ -96,7 +96,7 @@ fn hold_mind<D: Asks>(
     flags: Flags,
     mind: &mut Mind,
     outside: &mut D,
-    journal: &mut Journal,
+    journal: &mut Journal<D::Kept>,
 ) -> Result<bool, Memory>
     requires keeping { Keeping journal.old mind.old.locks.names }
     ensures carries { Carries (holding_alone conditions.now flags (judged_of mind.old))
@@ -119,7 +119,7 @@ fn hold_parts<D: Asks>(
     flags: Flags,
     mind: &mut Process,
     outside: &mut D,
-    journal: &mut Journal,
+    journal: &mut Journal<D::Kept>,
 ) -> Result<bool, Memory>
     requires keeping { Keeping journal.old mind.old.locks.names }
     ensures carries { Carries (holding conditions.now flags (mind_of mind.old))
@@ -133,7 +133,7 @@ fn hold_parts<D: Asks>(
         conditions,
         flags,
         process: mem::replace(mind, blank),
-        journal: mem::replace(journal, Journal::new(alloc)),
+        journal: mem::replace(journal, Journal::empty(alloc)),
     };
     let Held {
         held,
@@ -146,23 +146,23 @@ fn hold_parts<D: Asks>(
 }
 
 // What is asked of a process.
-struct Asking<'a> {
+struct Asking<'a, K: Entries> {
     alloc: Global,
     conditions: &'a [Condition],
     flags: Flags,
     process: Process,
-    journal: Journal,
+    journal: Journal<K>,
 }
 
 // Whether the conditions hold, with the process and the journal afterwards.
-struct Held {
+struct Held<K: Entries> {
     held: Result<bool, Memory>,
     process: Process,
-    journal: Journal,
+    journal: Journal<K>,
 }
 
 // The same, while what does the acts is the run's own.
-fn hold_all<D: Asks>(outside: D, asking: Asking<'_>) -> (D, Held)
+fn hold_all<D: Asks>(outside: D, asking: Asking<'_, D::Kept>) -> (D, Held<D::Kept>)
     requires keeping { Keeping asking.journal asking.process.locks.names }
     ensures carries { Carries
         (holding asking.entry.conditions.now asking.entry.flags (mind_of asking.entry.process))

@@ -1,13 +1,13 @@
 -- A machine that carries a process out within it, step by step.
-use Rattle.std.proofs.Common.{◌≡◌, ◌⊎◌, ℕ, zero, suc, List, [], ◌∷◌, ◌++◌, Option, Some, None, inl, inr, refl, sym, ap, ◌∙◌, subst, append_assoc, append-nil}
+use Rattle.std.proofs.Common.{◌≡◌, ℕ, zero, suc, List, [], ◌∷◌, ◌++◌, Option, Some, None, inl, inr, refl, sym, ap, ◌∙◌, subst, append_assoc, append-nil}
 use Rattle.pm_journal.specs.JournalState.{JournalState}
 use Rattle.pm_journal.specs.Entries.{View}
 use Rattle.pm_journal.specs.Plan.{Plan, Ends, Asks, and_then, Plays, Wants}
-use Rattle.pm_journal.specs.Executed.{WantsAct, HasEnded, UnfinishedCalls}
+use Rattle.pm_journal.specs.Executed.{WantsAct, UnfinishedCalls}
 use Rattle.pm_journal.specs.Walking.{Next, Stop, Go, walk, reach, Means, IsUnfinished, ArrivesAt, Reaches, Interrupted}
 use Rattle.pm_journal.proofs.PlanJoin.{plays_then}
 use Rattle.pm_journal.proofs.WantsMemory.{wants_front}
-use Rattle.pm_journal.proofs.WalkJoin.{Parts, parts_of, on_to, never_some, arrives_go, arrives_here, means_go, unfinished_go, unfinished_here}
+use Rattle.pm_journal.proofs.WalkJoin.{parts_of, on_to, never_some, arrives_go, arrives_here, means_go, unfinished_go, unfinished_here}
 use Rattle.pm_journal.specs.declared.acts.Act.{Act}
 use Rattle.pm_journal.specs.declared.acts.Entry.{Entry}
 use Rattle.pm_journal.specs.declared.acts.Reply.{Reply}

@@ -34,6 +34,12 @@ file_in (Placed name) = Some name
 file_in (TornAt name taken) = Some name
 file_in other = None
 
+-- the reply of the last entry
+abbrev pub last_reply : List Entry → Option Reply
+last_reply [] = None
+last_reply (e ∷ []) = Some e.reply
+last_reply (e ∷ (f ∷ fs)) = last_reply (f ∷ fs)
+
 -- the output of the program whose run is the last entry
 abbrev pub last_output : List Entry → Option (List ℕ)
 last_output [] = None

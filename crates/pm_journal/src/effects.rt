@@ -10,8 +10,8 @@ ghost use Rattle.pm_journal.specs.declared.acts.Act.TheVariants.{ReadFile, Run};
 ghost use Rattle.pm_journal.specs.Acts.{NotesRead, NotesPlace, NotesRun, LeavesAct, place_act};
 
 use crate::{
-    Act, AppendEnd, FolderEnd, FolderKind, Journal, LockEnd, LockRule, Reply, RunEnd, Stamp,
-    WriteEnd,
+    Act, AppendEnd, Entries, FolderEnd, FolderKind, Journal, LockEnd, LockRule, Reply, RunEnd,
+    Stamp, WriteEnd,
 };
 use pm_bytes::{Blob, Memory, Name};
 use pm_host::{Command, Looked, Removed};
@@ -31,12 +31,15 @@ pub struct Filing {
 /// Says lines and runs programs, which is all that conditions and the commands of texts ask for. Each is noted in the
 /// journal as the one new entry. Only a `run` whose output is wanted takes memory.
 pub trait Asks {
+    /// What the journal keeps of its entries.
+    type Kept: Entries;
+
     /// What the host and the sinks tell.
     ghost told: { Self → View };
 
     /// Adds the text at the end of the file `to`, or writes it to `err` where there is none. A text that can't be
     /// said changes nothing else.
-    fn say(&mut self, journal: &mut Journal, to: Option<Name>, text: Blob)
+    fn say(&mut self, journal: &mut Journal<Self::Kept>, to: Option<Name>, text: Blob)
         requires { 0 < journal.old.room }
         ensures { NotesSaid to text journal.old journal.new (told self.old) (told self.new) };
 
@@ -45,7 +48,7 @@ pub trait Asks {
     fn run(
         &mut self,
         alloc: Global,
-        journal: &mut Journal,
+        journal: &mut Journal<Self::Kept>,
         command: Command,
         input: Blob,
         want: bool,
@@ -62,7 +65,7 @@ pub trait Asks {
 /// memory.
 pub trait Effects: Asks {
     /// Appends the piece to the file, whole and synced to disk, or cut back.
-    fn append(&mut self, journal: &mut Journal, name: Name, piece: Blob) -> AppendEnd
+    fn append(&mut self, journal: &mut Journal<Self::Kept>, name: Name, piece: Blob) -> AppendEnd
         requires { 0 < journal.old.room }
         ensures { NotesAct (Act.Append name piece) (append_reply result)
             journal.old journal.new (Self.told self.old) (Self.told self.new) };
@@ -72,7 +75,7 @@ pub trait Effects: Asks {
     fn place(
         &mut self,
         alloc: Global,
-        journal: &mut Journal,
+        journal: &mut Journal<Self::Kept>,
         filing: Filing,
     ) -> Result<FolderEnd, Memory>
         requires { 0 < journal.old.room }
@@ -82,7 +85,7 @@ pub trait Effects: Asks {
         ensures same { OnErr result (journal.new ≡ journal.old) };
 
     /// Writes the piece to the run's standard output.
-    fn write_out(&mut self, journal: &mut Journal, piece: Blob) -> WriteEnd
+    fn write_out(&mut self, journal: &mut Journal<Self::Kept>, piece: Blob) -> WriteEnd
         requires { 0 < journal.old.room }
         ensures { NotesAct (Act.WriteOut piece) (say_reply result)
             journal.old journal.new (Self.told self.old) (Self.told self.new) };
@@ -92,7 +95,7 @@ pub trait Effects: Asks {
     fn read(
         &mut self,
         alloc: Global,
-        journal: &mut Journal,
+        journal: &mut Journal<Self::Kept>,
         name: Name,
     ) -> Result<Option<Blob>, Memory>
         requires { 0 < journal.old.room }
@@ -103,19 +106,19 @@ pub trait Effects: Asks {
         ensures same { OnErr result (journal.new ≡ journal.old) };
 
     /// Asks what stands at the name.
-    fn probe(&mut self, journal: &mut Journal, name: Name) -> Looked
+    fn probe(&mut self, journal: &mut Journal<Self::Kept>, name: Name) -> Looked
         requires { 0 < journal.old.room }
         ensures { NotesAct (Act.Probe name) (Reply.Found result)
             journal.old journal.new (Self.told self.old) (Self.told self.new) };
 
     /// Asks the moment, in seconds since 1970 in UTC.
-    fn moment(&mut self, journal: &mut Journal) -> i64
+    fn moment(&mut self, journal: &mut Journal<Self::Kept>) -> i64
         requires { 0 < journal.old.room }
         ensures { NotesAct Act.Moment (Reply.Now result)
             journal.old journal.new (Self.told self.old) (Self.told self.new) };
 
     /// Takes a lock by the rule.
-    fn lock(&mut self, journal: &mut Journal, name: Name, rule: LockRule) -> LockEnd
+    fn lock(&mut self, journal: &mut Journal<Self::Kept>, name: Name, rule: LockRule) -> LockEnd
         requires room { 0 < journal.old.room }
         requires some { 1 ≤ rule.tries }
         requires few { rule.tries ≤ 1000000 }
@@ -123,7 +126,7 @@ pub trait Effects: Asks {
             journal.old journal.new (Self.told self.old) (Self.told self.new) };
 
     /// Removes a lock file.
-    fn unlock(&mut self, journal: &mut Journal, name: Name) -> Removed
+    fn unlock(&mut self, journal: &mut Journal<Self::Kept>, name: Name) -> Removed
         requires { 0 < journal.old.room }
         ensures { NotesAct (Act.Unlock name) (unlock_reply result)
             journal.old journal.new (Self.told self.old) (Self.told self.new) };

@@ -27,7 +27,7 @@ pub fn say<D: Asks>(
     held: &HeldLocks,
     line: Blob,
     outside: &mut D,
-    journal: &mut Journal,
+    journal: &mut Journal<D::Kept>,
 ) -> Result<(), Memory>
     requires keeping { Keeping journal.old held.now.names }
     ensures ok { IfOk result (λ _. Says line
@@ -48,7 +48,7 @@ pub fn say_to<D: Asks>(
     to: Option<Name>,
     line: Blob,
     outside: &mut D,
-    journal: &mut Journal,
+    journal: &mut Journal<D::Kept>,
 ) -> Result<(), Memory>
     requires keeping { Keeping journal.old held.now.names }
     ensures ok { IfOk result (λ _. SaysTo to line
@@ -68,7 +68,7 @@ pub fn probe<D: Effects>(
     held: &HeldLocks,
     name: Name,
     outside: &mut D,
-    journal: &mut Journal,
+    journal: &mut Journal<D::Kept>,
 ) -> Result<Looked, Memory>
     requires keeping { Keeping journal.old held.now.names }
     ensures carries { Carries (ask (Probe name)) (λ looked. Found looked) result
@@ -84,7 +84,7 @@ pub fn probe<D: Effects>(
 pub fn ask_moment<D: Effects>(
     held: &HeldLocks,
     outside: &mut D,
-    journal: &mut Journal,
+    journal: &mut Journal<D::Kept>,
 ) -> Result<i64, Memory>
     requires keeping { Keeping journal.old held.now.names }
     ensures carries { Carries (ask Moment) (λ moment. Now moment) result
@@ -102,7 +102,7 @@ pub fn read<D: Effects>(
     held: &HeldLocks,
     name: Name,
     outside: &mut D,
-    journal: &mut Journal,
+    journal: &mut Journal<D::Kept>,
 ) -> Result<Option<Blob>, Memory>
     requires keeping { Keeping journal.old held.now.names }
     ensures ok { IfOk result (λ content. ReadsWhole name content
@@ -123,7 +123,7 @@ pub fn place<D: Effects>(
     held: &HeldLocks,
     filing: Filing,
     outside: &mut D,
-    journal: &mut Journal,
+    journal: &mut Journal<D::Kept>,
 ) -> Result<FolderEnd, Memory>
     requires keeping { Keeping journal.old held.now.names }
     ensures ok { IfOk result (λ end. Places filing end
@@ -145,7 +145,7 @@ pub fn run<D: Asks>(
     input: Blob,
     want: bool,
     outside: &mut D,
-    journal: &mut Journal,
+    journal: &mut Journal<D::Kept>,
 ) -> Result<RunEnd, Memory>
     requires keeping { Keeping journal.old held.now.names }
     ensures ok { IfOk result (λ end. Runs command input want end
@@ -164,7 +164,7 @@ pub fn write_out<D: Effects>(
     held: &HeldLocks,
     piece: Blob,
     outside: &mut D,
-    journal: &mut Journal,
+    journal: &mut Journal<D::Kept>,
 ) -> Result<WriteEnd, Memory>
     requires keeping { Keeping journal.old held.now.names }
     ensures carries { Carries (ask (WriteOut piece)) (λ end. say_reply end) result
@@ -183,7 +183,7 @@ pub fn take<D: Effects>(
     again: Name,
     rule: LockRule,
     outside: &mut D,
-    journal: &mut Journal,
+    journal: &mut Journal<D::Kept>,
 ) -> LockEnd
     requires some { 1 ≤ rule.tries }
     requires few { rule.tries ≤ 1000000 }
@@ -217,7 +217,7 @@ pub fn give<D: Effects>(
     held: &mut HeldLocks,
     name: &Name,
     outside: &mut D,
-    journal: &mut Journal,
+    journal: &mut Journal<D::Kept>,
 ) -> Removed
     requires held { holds_name held.old.names name.now ≡ true }
     requires keeping { Keeping journal.old held.old.names }
@@ -233,7 +233,7 @@ pub fn give<D: Effects>(
 }
 
 /// Gives each held lock back, the last taken first: its removal is tried once. It takes no memory.
-pub fn give_all<D: Effects>(held: &mut HeldLocks, outside: &mut D, journal: &mut Journal)
+pub fn give_all<D: Effects>(held: &mut HeldLocks, outside: &mut D, journal: &mut Journal<D::Kept>)
     requires keeping { Keeping journal.old held.old.names }
     ensures gives { GivesEach held.old.names
         journal.old journal.new (D.told outside.old) (D.told outside.new) }

@@ -19,7 +19,7 @@ use crate::{ProgramLine, Run};
 use pm_bytes::{Blob, Memory};
 use pm_host::Command;
 use pm_journal::{
-    Asks, Journal, RunEnd, couldnt_start, lost_contact, output_too_long, unusable_name,
+    Asks, Entries, Journal, RunEnd, couldnt_start, lost_contact, output_too_long, unusable_name,
     value_too_long,
 };
 use pm_subst::{Mode, commands};
@@ -149,7 +149,7 @@ fn run_command<D: Asks>(
 }
 
 // What a text gets of the output of the program that ran last.
-fn taken_output(alloc: Global, journal: &Journal) -> Result<Blob, Memory>
+fn taken_output<K: Entries>(alloc: Global, journal: &Journal<K>) -> Result<Blob, Memory>
     ensures { IfOk result (λ output. output ≡ Outputs.taken_output (Outcomes.last_output journal.now.entries)) }
 {
     match journal.last_output() {

@@ -11,7 +11,7 @@ use pm_journal::{Asks, Journal};
 #[derive(Drop)]
 pub struct Run<D: Asks> {
     pub process: Process,
-    pub journal: Journal,
+    pub journal: Journal<D::Kept>,
     pub outside: D,
     ghost keeps: { Keeps [] journal.entries process.locks.names } by { Keeps-prop _ _ _ },
     ghost room: { length process.locks.names ≤ journal.room },

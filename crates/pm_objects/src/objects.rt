@@ -15,34 +15,43 @@ use pm_bytes::{Blob, Memory, Name};
 use pm_folders::{PlaceEnd, place};
 use pm_host::{Command, Host, Looked, Removed, Sink};
 use pm_journal::{
-    Act, Asks, Counts, Effects, Entry, Filing, FolderEnd, Journal, LockEnd, LockRule, Reply, RunEnd,
+    Act, AllEntries, Asks, Counts, Effects, Entries, Entry, Filing, FolderEnd, Journal, LockEnd,
+    LockRule, Reply, RunEnd,
 };
 use pm_locks::take_lock;
 use pm_pipe::{SinkFaults, run_noted};
 use std::alloc::Global;
+use std::marker::PhantomData;
 
-/// A host, what a run has for its standard output, and the sink for errors.
+/// A host, what a run has for its standard output, and the sink for errors. The acts are noted in a journal that keeps
+/// `K` of its entries.
 #[derive(Drop)]
-pub struct Objects<'a, H: Host, O: Output, E: Sink> {
+pub struct Objects<'a, H: Host, O: Output, E: Sink, K: Entries = AllEntries> {
     pub host: &'a mut H,
     pub out: O,
     pub err: &'a mut E,
+    pub kept: PhantomData<K>,
 }
 
 /// Lends a host and two sinks to the acts of a run. The caller gets the three objects back.
-pub fn lend<'a, H: Host, O: Sink, E: Sink>(
+pub fn lend<'a, H: Host, O: Sink, E: Sink, K: Entries>(
     host: &'a mut H,
     out: &'a mut O,
     err: &'a mut E,
-) -> Objects<'a, H, &'a mut O, E>
+) -> Objects<'a, H, &'a mut O, E, K>
     ensures host { (result.host.ghost_name ≡ host.entry.ghost_name) × (result.host.now ≡ host.old) }
     ensures out { (result.out.ghost_name ≡ out.entry.ghost_name) × (result.out.now ≡ out.old) }
     ensures err { (result.err.ghost_name ≡ err.entry.ghost_name) × (result.err.now ≡ err.old) }
 {
-    Objects { host, out, err }
+    Objects {
+        host,
+        out,
+        err,
+        kept: PhantomData,
+    }
 }
 
-impl<'a, H: Host, O: Output, E: Sink> Objects<'a, H, O, E> {
+impl<'a, H: Host, O: Output, E: Sink, K: Entries> Objects<'a, H, O, E, K> {
     // The counts of faults at this moment.
     fn counts(&self) -> Counts
         ensures { result ≡ counts_of (view_of
@@ -56,14 +65,16 @@ impl<'a, H: Host, O: Output, E: Sink> Objects<'a, H, O, E> {
     }
 }
 
-impl<'a, H: Host, O: Output, E: Sink> Asks for Objects<'a, H, O, E> {
+impl<'a, H: Host, O: Output, E: Sink, K: Entries> Asks for Objects<'a, H, O, E, K> {
+    type Kept = K;
+
     ghost use Rattle.std.specs.Prelude.{[], ◌∷◌};
     ghost use Rattle.pm_journal.specs.Entries.{seen_by};
 
     ghost told = { λ o. seen_by (o.host.ghost_name ∷ O.held o.out ∷ o.err.ghost_name ∷ [])
         (H.told o.host.now) (O.told o.out) (E.told o.err.now) };
 
-    fn say(&mut self, journal: &mut Journal, to: Option<Name>, text: Blob) {
+    fn say(&mut self, journal: &mut Journal<K>, to: Option<Name>, text: Blob) {
         let before = self.counts();
         match to {
             Some(name) => {
@@ -92,7 +103,7 @@ impl<'a, H: Host, O: Output, E: Sink> Asks for Objects<'a, H, O, E> {
     fn run(
         &mut self,
         alloc: Global,
-        journal: &mut Journal,
+        journal: &mut Journal<K>,
         command: Command,
         input: Blob,
         want: bool,
@@ -105,8 +116,8 @@ impl<'a, H: Host, O: Output, E: Sink> Asks for Objects<'a, H, O, E> {
     }
 }
 
-impl<'a, H: Host, O: Output, E: Sink> Effects for Objects<'a, H, O, E> {
-    fn append(&mut self, journal: &mut Journal, name: Name, piece: Blob) -> AppendEnd {
+impl<'a, H: Host, O: Output, E: Sink, K: Entries> Effects for Objects<'a, H, O, E, K> {
+    fn append(&mut self, journal: &mut Journal<K>, name: Name, piece: Blob) -> AppendEnd {
         let before = self.counts();
         let end = append_whole(&mut *self.host, &name, piece.as_slice());
         let after = self.counts();
@@ -122,7 +133,7 @@ impl<'a, H: Host, O: Output, E: Sink> Effects for Objects<'a, H, O, E> {
     fn place(
         &mut self,
         alloc: Global,
-        journal: &mut Journal,
+        journal: &mut Journal<K>,
         filing: Filing,
     ) -> Result<FolderEnd, Memory> {
         let before = self.counts();
@@ -160,7 +171,7 @@ impl<'a, H: Host, O: Output, E: Sink> Effects for Objects<'a, H, O, E> {
         Ok(end)
     }
 
-    fn write_out(&mut self, journal: &mut Journal, piece: Blob) -> WriteEnd {
+    fn write_out(&mut self, journal: &mut Journal<K>, piece: Blob) -> WriteEnd {
         let before = self.counts();
         let end = self.out.write_text(piece.as_slice());
         let after = self.counts();
@@ -176,7 +187,7 @@ impl<'a, H: Host, O: Output, E: Sink> Effects for Objects<'a, H, O, E> {
     fn read(
         &mut self,
         alloc: Global,
-        journal: &mut Journal,
+        journal: &mut Journal<K>,
         name: Name,
     ) -> Result<Option<Blob>, Memory> {
         let before = self.counts();
@@ -192,7 +203,7 @@ impl<'a, H: Host, O: Output, E: Sink> Effects for Objects<'a, H, O, E> {
         Ok(content)
     }
 
-    fn probe(&mut self, journal: &mut Journal, name: Name) -> Looked {
+    fn probe(&mut self, journal: &mut Journal<K>, name: Name) -> Looked {
         let before = self.counts();
         let looked = self.host.look(name.as_str());
         let after = self.counts();
@@ -205,7 +216,7 @@ impl<'a, H: Host, O: Output, E: Sink> Effects for Objects<'a, H, O, E> {
         looked
     }
 
-    fn moment(&mut self, journal: &mut Journal) -> i64 {
+    fn moment(&mut self, journal: &mut Journal<K>) -> i64 {
         let before = self.counts();
         let moment = self.host.now();
         let after = self.counts();
@@ -218,7 +229,7 @@ impl<'a, H: Host, O: Output, E: Sink> Effects for Objects<'a, H, O, E> {
         moment
     }
 
-    fn lock(&mut self, journal: &mut Journal, name: Name, rule: LockRule) -> LockEnd {
+    fn lock(&mut self, journal: &mut Journal<K>, name: Name, rule: LockRule) -> LockEnd {
         let before = self.counts();
         let end = take_lock(
             &mut *self.host,
@@ -244,7 +255,7 @@ impl<'a, H: Host, O: Output, E: Sink> Effects for Objects<'a, H, O, E> {
         end
     }
 
-    fn unlock(&mut self, journal: &mut Journal, name: Name) -> Removed {
+    fn unlock(&mut self, journal: &mut Journal<K>, name: Name) -> Removed {
         let before = self.counts();
         let removed = self.host.remove(name.as_str());
         let after = self.counts();

@@ -16,7 +16,7 @@ use crate::ends::{end_outcome, feed_outcome, is_fine};
 use crate::filing::fed_parts;
 use pm_bytes::{Blob, Memory};
 use pm_host::Command;
-use pm_journal::{Effects, Journal, RunEnd};
+use pm_journal::{Effects, Entries, Journal, RunEnd};
 use pm_meaning::{Outcome, Process, Run, note_code};
 use pm_message::{Feed, Mail, Message};
 use pm_recipe::Flags;
@@ -94,7 +94,7 @@ pub fn capture<D: Effects>(
 }
 
 // The output of the program that ran last, or nothing where none came.
-fn last_output(journal: &Journal) -> &[u8]
+fn last_output<K: Entries>(journal: &Journal<K>) -> &[u8]
     ensures { result.now ≡ text_or [] (Outcomes.last_output journal.now.entries) }
 {
     match journal.last_output() {
@@ -104,7 +104,7 @@ fn last_output(journal: &Journal) -> &[u8]
 }
 
 // The same, in the memory of the entry.
-fn output_copy(alloc: Global, journal: &Journal) -> Result<Blob, Memory>
+fn output_copy<K: Entries>(alloc: Global, journal: &Journal<K>) -> Result<Blob, Memory>
     ensures { IfOk result (λ output. output ≡ text_or [] (Outcomes.last_output journal.now.entries)) }
 {
     match journal.last_output() {
@@ -114,11 +114,11 @@ fn output_copy(alloc: Global, journal: &Journal) -> Result<Blob, Memory>
 }
 
 // Where the program did well, its output takes its place in the mail, unless that is too long then.
-fn take_mail(
+fn take_mail<K: Entries>(
     alloc: Global,
     flags: Flags,
     fed: Outcome,
-    journal: &Journal,
+    journal: &Journal<K>,
     process: &mut Process,
 ) -> Result<Outcome, Memory>
     ensures outcome { let output = text_or [] (Outcomes.last_output journal.now.entries) in

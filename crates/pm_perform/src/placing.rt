@@ -11,7 +11,7 @@ ghost use Rattle.pm_perform.specs.Filing.{HasMet};
 ghost use Rattle.pm_perform.specs.Placing.{HasFile, placed_as};
 
 use pm_bytes::{Blob, Memory, Name};
-use pm_journal::{Effects, Filing, FolderEnd, FolderKind, Journal, Stamp};
+use pm_journal::{Effects, Entries, Filing, FolderEnd, FolderKind, Journal, Stamp};
 use pm_meaning::{Filed, Process, Run, Stored};
 use std::alloc::Global;
 
@@ -81,13 +81,13 @@ fn next_serial(process: &Process) -> Result<u64, Memory>
 }
 
 // What came of a filing of so many bytes that is the last entry. The name of its file is copied out of that entry.
-fn conclude(
+fn conclude<K: Entries>(
     alloc: Global,
     end: FolderEnd,
     folder: Name,
     size: u64,
     process: &mut Process,
-    journal: &Journal,
+    journal: &Journal<K>,
 ) -> Result<Filed, Memory>
     requires file { HasFile end (Outcomes.last_file journal.now.entries) }
     ensures filed { IfOk result (λ filed. filing_of filed (mind_of process.new)
@@ -109,11 +109,11 @@ fn conclude(
 }
 
 // LASTFOLDER is the file of the last entry, which has so many bytes.
-fn remember_file(
+fn remember_file<K: Entries>(
     alloc: Global,
     size: u64,
     process: &mut Process,
-    journal: &Journal,
+    journal: &Journal<K>,
 ) -> Result<(), Memory>
     requires file { is_some (Outcomes.last_file journal.now.entries) ≡ true }
     ensures mind { IfOk result (λ _. mind_of process.new
@@ -128,7 +128,7 @@ fn remember_file(
     Ok(())
 }
 
-fn last_file(journal: &Journal) -> &Name
+fn last_file<K: Entries>(journal: &Journal<K>) -> &Name
     requires { is_some (Outcomes.last_file journal.now.entries) ≡ true }
     ensures { result.now ≡ text_or [] (Outcomes.last_file journal.now.entries) }
 {

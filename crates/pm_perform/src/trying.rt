@@ -17,7 +17,7 @@ use crate::errands::{Errand, carry};
 use crate::locks::lock_rule;
 use crate::tasks::{Purpose, Task};
 use pm_bytes::{Memory, Name};
-use pm_journal::{Effects, HeldLocks, Journal, LockEnd, give, take};
+use pm_journal::{Effects, Entries, HeldLocks, Journal, LockEnd, give, take};
 use pm_meaning::{Acted, Cause, Outcome, Process, Run, Trial, succeed};
 use pm_recipe::Flags;
 use std::alloc::Global;
@@ -76,11 +76,11 @@ fn try_free<D: Effects>(
 }
 
 // Copies the lock's name; its entry, that of its removal and that of an abstract have room too.
-fn lock_request(
+fn lock_request<K: Entries>(
     alloc: Global,
     name: Name,
     locks: &mut HeldLocks,
-    journal: &mut Journal,
+    journal: &mut Journal<K>,
 ) -> Result<LockRequest, Memory>
     requires fits { length locks.old.names ≤ journal.old.room }
     ensures name { IfOk result (λ request. request.name ≡ name) }

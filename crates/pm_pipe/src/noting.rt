@@ -11,7 +11,7 @@ ghost use Rattle.pm_pipe.specs.Runs.{child_reply};
 use crate::{ChildEnd, run_child};
 use pm_bytes::{Blob, Memory};
 use pm_host::{Command, Host};
-use pm_journal::{Act, Counts, Entry, Journal, Reply, RunEnd};
+use pm_journal::{Act, Counts, Entries, Entry, Journal, Reply, RunEnd};
 use std::alloc::Global;
 
 /// The counts of faults of a run's two sinks, which the run of a program doesn't touch.
@@ -24,10 +24,10 @@ pub struct SinkFaults {
 /// Runs a program as `run_child` does, and notes it. The journal's last entry then has its output, where that is
 /// wanted. After want of memory nothing is noted, and the program was waited for; without a wanted output there is
 /// none.
-pub fn run_noted<H: Host>(
+pub fn run_noted<H: Host, K: Entries>(
     alloc: Global,
     host: &mut H,
-    journal: &mut Journal,
+    journal: &mut Journal<K>,
     command: Command,
     input: Blob,
     want: bool,
@@ -44,7 +44,7 @@ pub fn run_noted<H: Host>(
 {
     let before = counts(host, sinks);
     let end = run_child(alloc, host, &command, input.as_slice(), want);
-    let reply = child_reply_of(alloc, end, &input)?;
+    let reply = child_reply_of(end)?;
     let end = run_end_of(&reply);
     let after = counts(host, sinks);
     journal.note(Entry {
@@ -70,34 +70,24 @@ fn counts<H: Host>(host: &H, sinks: SinkFaults) -> Counts
     }
 }
 
-// The reply of the run of a program with this input, unless memory was wanting.
-fn child_reply_of(alloc: Global, end: ChildEnd, input: &Blob) -> Result<Reply, Memory>
+// The reply of the run of a program, unless memory was wanting.
+fn child_reply_of(end: ChildEnd) -> Result<Reply, Memory>
     ensures { AreReply (child_reply end) result }
 {
     match end {
-        ChildEnd::Ended { code, took, output } => Ok(Reply::Ended {
+        ChildEnd::Ended {
             code,
             took,
-            output: shared(alloc, output, input),
-        }),
+            mut output,
+        } => {
+            share_ended(&mut output);
+            Ok(Reply::Ended { code, took, output })
+        }
         ChildEnd::NotStarted => Ok(Reply::NotStarted),
         ChildEnd::Broken { took } => Ok(Reply::Broken { took }),
         ChildEnd::TooLong(count) => Ok(Reply::TooLong(count)),
         ChildEnd::Memory => Err(Memory),
     }
-}
-
-// The output, in the memory of the input where the program handed that on as it was.
-fn shared(alloc: Global, mut output: Blob, input: &Blob) -> Blob
-    ensures { result ≡ output }
-{
-    if output.as_slice() == input.as_slice() {
-        if let Ok(copy) = input.copy(alloc) {
-            return copy;
-        }
-    }
-    share_ended(&mut output);
-    output
 }
 
 // The newlines that end a mail in a mailbox are put after the output in its memory, which copies share from now on. If

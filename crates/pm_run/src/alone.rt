@@ -17,7 +17,7 @@ use crate::task::Task;
 use core::mem::replace_with;
 use pm_bytes::{Memory, Name};
 use pm_conds::NoObserver;
-use pm_journal::{Effects, Journal, give_all};
+use pm_journal::{Effects, Entries, Journal, give_all};
 use pm_meaning::{End, Mind, Opening, Process, Run, Shared};
 use std::alloc::Global;
 use std::mem;
@@ -29,7 +29,7 @@ pub fn run_task<D: Effects>(
     queue: &mut Queue,
     shared: &mut Shared,
     outside: &mut D,
-    journal: &mut Journal,
+    journal: &mut Journal<D::Kept>,
 ) -> ProcessEnd
     requires keeping { Keeping journal.old task.mind.locks.names }
     ensures processes { Processes result (begins task shared.old)
@@ -158,7 +158,7 @@ fn run_apart<D: Effects>(
     process: Process,
     queue: &mut Queue,
     outside: &mut D,
-    journal: &mut Journal,
+    journal: &mut Journal<D::Kept>,
 ) -> Worked
     requires keeping { Keeping journal.old process.locks.names }
     requires nested { AreBegun begun }
@@ -172,7 +172,7 @@ fn run_apart<D: Effects>(
         begun,
         process,
         queue: mem::replace(queue, Queue::new(alloc)),
-        journal: mem::replace(journal, Journal::new(alloc)),
+        journal: mem::replace(journal, Journal::empty(alloc)),
     };
     let Done {
         ended,
@@ -186,24 +186,24 @@ fn run_apart<D: Effects>(
 }
 
 // What a process begins with.
-struct Working {
+struct Working<K: Entries> {
     alloc: Global,
     begun: Begun,
     process: Process,
     queue: Queue,
-    journal: Journal,
+    journal: Journal<K>,
 }
 
 // How it ended, and what is left of it.
-struct Done {
+struct Done<K: Entries> {
     ended: Result<End, Memory>,
     process: Process,
     queue: Queue,
-    journal: Journal,
+    journal: Journal<K>,
 }
 
 // The same, while what does the acts is the run's own.
-fn run_all<D: Effects>(outside: D, working: Working) -> (D, Done)
+fn run_all<D: Effects>(outside: D, working: Working<D::Kept>) -> (D, Done<D::Kept>)
     requires keeping { Keeping working.journal working.process.locks.names }
     requires nested { AreBegun working.begun }
     ensures proceeds { Proceeds working.queue result.1.queue (begun_at working.begun (mind_of working.process))

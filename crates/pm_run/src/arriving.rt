@@ -34,7 +34,7 @@ pub fn arrive<D: Effects>(
     env: &Environ,
     bytes: Blob,
     outside: &mut D,
-    journal: &mut Journal,
+    journal: &mut Journal<D::Kept>,
 ) -> Result<Process, Memory>
     requires keeping { Keeping journal.old [] }
     ensures carries { let home = Running.home_by line.now.values (home_folder env.now) in

@@ -46,7 +46,7 @@ pub fn come_to<D: Effects, N: Observer>(
 {
     let flags = recipe.flags;
     let admitted = admits(&flags, &run.process.chain);
-    let entries = run.journal.entries().len();
+    let entries = run.journal.len();
     observer.came_to(&run.process.rcfile, place, admitted, entries)?;
     if !admitted {
         pass(&flags, &mut run.process);

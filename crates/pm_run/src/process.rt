@@ -21,7 +21,7 @@ use crate::task::Copy;
 use core::mem::replace_with;
 use pm_bytes::{Blob, Environ, Memory};
 use pm_conds::{NoObserver, Observer};
-use pm_journal::{Effects, Journal, give_all};
+use pm_journal::{Effects, Entries, Journal, give_all};
 use pm_meaning::{CommandLine, Ending, Process, Run};
 use std::alloc::Global;
 use std::mem;
@@ -41,17 +41,17 @@ pub struct Arrival<'a> {
 }
 
 /// What a whole run is given besides what does its acts.
-pub struct Start<'a, N: Observer> {
+pub struct Start<'a, N: Observer, K: Entries> {
     pub alloc: Global,
     pub arrival: Arrival<'a>,
-    pub journal: Journal,
+    pub journal: Journal<K>,
     pub observer: &'a mut N,
 }
 
 /// How the first process of a run ended, and the journal of all.
-pub struct Ran {
+pub struct Ran<K: Entries> {
     pub ended: Result<Ending, Memory>,
-    pub journal: Journal,
+    pub journal: Journal<K>,
 }
 
 /// Runs the process that delivers this mail, and then the copies of it that were made for blocks, one after the other.
@@ -61,7 +61,7 @@ pub fn run_processes<D: Effects>(
     alloc: Global,
     arrival: Arrival<'_>,
     outside: &mut D,
-    journal: &mut Journal,
+    journal: &mut Journal<D::Kept>,
 ) -> Result<Ending, Memory>
     requires keeping { Keeping journal.old [] }
     ensures ok { IfOk result (λ ending.
@@ -80,7 +80,7 @@ pub fn run_observed<D: Effects, N: Observer>(
     alloc: Global,
     arrival: Arrival<'_>,
     outside: &mut D,
-    journal: &mut Journal,
+    journal: &mut Journal<D::Kept>,
     observer: &mut N,
 ) -> Result<Ending, Memory>
     requires keeping { Keeping journal.old [] }
@@ -91,7 +91,7 @@ pub fn run_observed<D: Effects, N: Observer>(
         journal.old journal.new (D.told outside.old) (D.told outside.new)) }
     ensures keeping { Keeping journal.new [] }
 {
-    let begun = mem::replace(journal, Journal::new(alloc));
+    let begun = mem::replace(journal, Journal::empty(alloc));
     let start = Start {
         alloc,
         arrival,
@@ -107,7 +107,10 @@ pub fn run_observed<D: Effects, N: Observer>(
 }
 
 // The processes, while what does their acts is theirs.
-fn run_all<D: Effects, N: Observer>(mut outside: D, start: Start<'_, N>) -> (D, Ran)
+fn run_all<D: Effects, N: Observer>(
+    mut outside: D,
+    start: Start<'_, N, D::Kept>,
+) -> (D, Ran<D::Kept>)
     requires keeping { Keeping start.journal [] }
     ensures ok { IfOk result.1.ended (λ ending.
         Completes advance (run_of start.entry.arrival.line start.entry.arrival.env.now start.entry.arrival.bytes) ending
@@ -241,9 +244,9 @@ fn run_copies<D: Effects, N: Observer>(
     alloc: Global,
     others: Others,
     mut outside: D,
-    mut journal: Journal,
+    mut journal: Journal<D::Kept>,
     observer: &mut N,
-) -> (D, Ran)
+) -> (D, Ran<D::Kept>)
     requires keeping { Keeping journal [] }
     ensures ok { IfOk result.1.ended (λ ending. GoesOn (next_in others.queue others.first others.counts) (Stop ending)
         journal result.1.journal (D.told outside) (D.told result.0)) }

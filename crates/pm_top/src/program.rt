@@ -12,7 +12,7 @@ use pm_append::{WriteEnd, write_text};
 use pm_bytes::{Environ, Memory};
 use pm_conds::{NoObserver, Observer};
 use pm_host::{Host, Sink, Source};
-use pm_journal::Journal;
+use pm_journal::{Entries, Journal};
 use pm_meaning::Status;
 use std::alloc::Global;
 
@@ -56,7 +56,7 @@ pub fn procmail<S: Source, H: Host, O: Sink, E: Sink>(
 
 /// The same as [`procmail`]. In the run of one message the observer hears of the recipes that it comes to, and of the
 /// conditions that are judged; of a trial it hears nothing.
-pub fn procmail_observed<S: Source, H: Host, O: Sink, E: Sink, N: Observer>(
+pub fn procmail_observed<S: Source, H: Host, O: Sink, E: Sink, K: Entries, N: Observer>(
     alloc: Global,
     words: &[String],
     env: &Environ,
@@ -64,7 +64,7 @@ pub fn procmail_observed<S: Source, H: Host, O: Sink, E: Sink, N: Observer>(
     host: &mut H,
     out: &mut O,
     err: &mut E,
-    journal: &mut Journal,
+    journal: &mut Journal<K>,
     observer: &mut N,
 ) -> u8
     requires empty { journal.old.entries ≡ [] }

@@ -15,7 +15,7 @@ use pm_append::write_text;
 use pm_bytes::{Environ, Memory};
 use pm_conds::{NoObserver, Observer};
 use pm_host::{Child, Host, Sink, Source};
-use pm_journal::Journal;
+use pm_journal::{Entries, Journal};
 use pm_meaning::{CommandLine, End, Ending, Status};
 use pm_objects::{Objects, lend};
 use pm_run::{Arrival, run_observed};
@@ -62,7 +62,7 @@ pub fn deliver_mail<S: Source, H: Host, O: Sink, E: Sink>(
 
 /// The same as [`deliver_mail`]. The observer hears of the recipes that the run comes to, and of the conditions that
 /// are judged.
-pub fn deliver_observed<S: Source, H: Host, O: Sink, E: Sink, N: Observer>(
+pub fn deliver_observed<S: Source, H: Host, O: Sink, E: Sink, K: Entries, N: Observer>(
     alloc: Global,
     words: &[String],
     env: &Environ,
@@ -70,7 +70,7 @@ pub fn deliver_observed<S: Source, H: Host, O: Sink, E: Sink, N: Observer>(
     host: &mut H,
     out: &mut O,
     err: &mut E,
-    journal: &mut Journal,
+    journal: &mut Journal<K>,
     observer: &mut N,
 ) -> u8
     requires empty { journal.old.entries ≡ [] }
@@ -98,12 +98,12 @@ struct Call<'a> {
     env: &'a Environ,
 }
 
-fn run_words<'a, S: Source, H: Host, O: Sink, E: Sink, N: Observer>(
+fn run_words<'a, S: Source, H: Host, O: Sink, E: Sink, K: Entries, N: Observer>(
     alloc: Global,
     call: Call<'_>,
     source: &mut S,
-    objects: &mut Objects<'a, H, &'a mut O, E>,
-    journal: &mut Journal,
+    objects: &mut Objects<'a, H, &'a mut O, E, K>,
+    journal: &mut Journal<K>,
     observer: &mut N,
 ) -> u8
     requires empty { journal.old.entries ≡ [] }
@@ -144,12 +144,12 @@ struct Request<'a> {
     env: &'a Environ,
 }
 
-fn run_line<'a, S: Source, H: Host, O: Sink, E: Sink, N: Observer>(
+fn run_line<'a, S: Source, H: Host, O: Sink, E: Sink, K: Entries, N: Observer>(
     alloc: Global,
     request: Request<'_>,
     source: &mut S,
-    objects: &mut Objects<'a, H, &'a mut O, E>,
-    journal: &mut Journal,
+    objects: &mut Objects<'a, H, &'a mut O, E, K>,
+    journal: &mut Journal<K>,
     observer: &mut N,
 ) -> u8
     requires empty { journal.old.entries ≡ [] }
@@ -182,11 +182,11 @@ fn run_line<'a, S: Source, H: Host, O: Sink, E: Sink, N: Observer>(
     }
 }
 
-fn run_mail<'a, H: Host, O: Sink, E: Sink, N: Observer>(
+fn run_mail<'a, H: Host, O: Sink, E: Sink, K: Entries, N: Observer>(
     alloc: Global,
     arrival: Arrival<'_>,
-    objects: &mut Objects<'a, H, &'a mut O, E>,
-    journal: &mut Journal,
+    objects: &mut Objects<'a, H, &'a mut O, E, K>,
+    journal: &mut Journal<K>,
     observer: &mut N,
 ) -> u8
     requires empty { journal.old.entries ≡ [] }
@@ -214,11 +214,11 @@ fn run_mail<'a, H: Host, O: Sink, E: Sink, N: Observer>(
 }
 
 // The processes, after which the objects are the same ones.
-fn run_objects<'a, H: Host, O: Sink, E: Sink, N: Observer>(
+fn run_objects<'a, H: Host, O: Sink, E: Sink, K: Entries, N: Observer>(
     alloc: Global,
     arrival: Arrival<'_>,
-    objects: &mut Objects<'a, H, &'a mut O, E>,
-    journal: &mut Journal,
+    objects: &mut Objects<'a, H, &'a mut O, E, K>,
+    journal: &mut Journal<K>,
     observer: &mut N,
 ) -> Result<Ending, Memory>
     requires keeping { Keeping journal.old [] }

@@ -3,11 +3,12 @@
 #![tactic(auto)]
 
 use pm_bytes::{Environ, Memory, Name};
-use pm_journal::Journal;
+use pm_conds::NoObserver;
+use pm_journal::{Journal, LastReply};
 use pm_meaning::Status;
 use pm_real::{RealHost, RealSink, RealSource, Setup, can_be_host_name, read_regular};
 use pm_start::{Words, first_line, machine_name, read_environment, read_words};
-use pm_top::{procmail, refuse};
+use pm_top::{procmail_observed, refuse};
 use std::fs::File;
 use std::io::Stderr;
 use std::process::ExitCode;
@@ -50,8 +51,8 @@ fn deliver(
     let mut source = RealSource::stdin(rt, alloc)?;
     let mut host = RealHost::new(rt, alloc, env.pid, setup)?;
     let mut out = RealSink::stdout(rt, alloc, setup)?;
-    let mut journal = Journal::new(alloc);
-    Ok(procmail(
+    let mut journal = Journal::<LastReply>::empty(alloc);
+    Ok(procmail_observed(
         alloc,
         words,
         &env,
@@ -60,6 +61,7 @@ fn deliver(
         &mut out,
         err,
         &mut journal,
+        &mut NoObserver,
     ))
 }
 

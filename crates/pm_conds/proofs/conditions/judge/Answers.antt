@@ -68,7 +68,7 @@ returns-in-Some g c =
     let fs : SFits w32 score = search rules in
     let noted = simp to_z-of_z at c.note_score.ensures in
     let r = record q { vars = c.note_score.new.vars } in
-    let heard = simp (to_z-of_z, c.entries.ensures) at c.in_ok-judged.ensures in
+    let heard = simp (to_z-of_z, c.len.ensures) at c.in_ok-judged.ensures in
     record {
       carries = (
         condition_ends _ weighted c.args.flags conditions i _ item total p c.in_ok-outcome.outcome q item.text c.in_ok-ended.ended score c.judge_one.new.vars (c.condition-item.is, c.loop-condition-test.true) (refl, c.in_ok-ended.ensures.course)
@@ -93,7 +93,7 @@ loop-condition-preserved g c =
     let fs : SFits w32 score = search rules in
     let low = c.in_ok-ended.ensures.low in
     let high = c.in_ok-ended.ensures.high in
-    let heard = simp (to_z-of_z, c.entries.ensures) at c.in_ok-judged.ensures in
+    let heard = simp (to_z-of_z, c.len.ensures) at c.in_ok-judged.ensures in
     let led = condition_on _ weighted c.args.flags conditions i _ item total p c.in_ok-outcome.outcome q item.text c.in_ok-ended.ended score c.judge_one.new.vars (c.condition-item.is, c.loop-condition-test.true) (refl, c.in_ok-ended.ensures.course)
     _ _ _ _ _ _ c.loop-condition.invariant.leads c.in_ok-outcome.ensures.carries.0 c.in_default.is in
     let hears = hearing_on _ weighted c.args.flags conditions i _ item total p item.text c.in_ok-outcome.outcome q c.in_ok-ended.ended score c.judge_one.new.vars (c.condition-item.is, c.loop-condition-test.true) (refl, c.in_ok-ended.ensures.course)

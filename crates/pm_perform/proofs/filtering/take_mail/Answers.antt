@@ -1,7 +1,7 @@
 use Rattle.pm_perform.proofs.filtering.take_mail.Goals as goal
 
 pub returns-clause-outcome : goal.returns-clause-outcome
-returns-clause-outcome c = rw c.in_ok-output.ensures at c.take_output.ensures.outcome
+returns-clause-outcome g c = rw c.in_ok-output.ensures at c.take_output.ensures.outcome
 
 pub returns-clause-mind : goal.returns-clause-mind
-returns-clause-mind c = rw c.in_ok-output.ensures at c.take_output.ensures.mind
+returns-clause-mind g c = rw c.in_ok-output.ensures at c.take_output.ensures.mind

@@ -20,7 +20,7 @@ returns-in_err-came_to-clause-memory g c =
 
 pub returns-then-not-admitted-clause-hears : goal.returns-then-not-admitted-clause-hears
 returns-then-not-admitted-clause-hears g c =
-    hears_no_more (top_of c.args.recipe.now) c.args.place (mind_of c.args.run.now.process) _ _ _ _ (c.admits-admitted.ensures, rw c.entries-entries.ensures at c.in_ok-came_to.ensures) c.if-not-admitted.true
+    hears_no_more (top_of c.args.recipe.now) c.args.place (mind_of c.args.run.now.process) _ _ _ _ (c.admits-admitted.ensures, rw c.len-entries.ensures at c.in_ok-came_to.ensures) c.if-not-admitted.true
 
 pub returns-then-not-admitted-clause-comes : goal.returns-then-not-admitted-clause-comes
 returns-then-not-admitted-clause-comes g c = λ acts.
@@ -47,10 +47,10 @@ returns-clause-comes g c = λ acts.
 
 pub returns-then-branch-clause-hears : goal.returns-then-branch-clause-hears
 returns-then-branch-clause-hears g c =
-    hears_conditions (top_of c.args.recipe.now) c.args.place (mind_of c.args.run.now.process) _ _ _ c.as_slice-conditions.result.now _ _ _ _ (c.admits-admitted.ensures, rw c.entries-entries.ensures at c.in_ok-came_to.ensures) c.if-not-admitted.false c.as_slice-conditions.ensures.value
+    hears_conditions (top_of c.args.recipe.now) c.args.place (mind_of c.args.run.now.process) _ _ _ c.as_slice-conditions.result.now _ _ _ _ (c.admits-admitted.ensures, rw c.len-entries.ensures at c.in_ok-came_to.ensures) c.if-not-admitted.false c.as_slice-conditions.ensures.value
     c.in_ok-conditions_hold.ensures.hears
 
 pub returns-clause-hears : goal.returns-clause-hears
 returns-clause-hears g c =
-    hears_conditions (top_of c.args.recipe.now) c.args.place (mind_of c.args.run.now.process) _ _ _ c.as_slice-conditions.result.now _ _ _ _ (c.admits-admitted.ensures, rw c.entries-entries.ensures at c.in_ok-came_to.ensures) c.if-not-admitted.false c.as_slice-conditions.ensures.value
+    hears_conditions (top_of c.args.recipe.now) c.args.place (mind_of c.args.run.now.process) _ _ _ c.as_slice-conditions.result.now _ _ _ _ (c.admits-admitted.ensures, rw c.len-entries.ensures at c.in_ok-came_to.ensures) c.if-not-admitted.false c.as_slice-conditions.ensures.value
     c.in_ok-conditions_hold.ensures.hears

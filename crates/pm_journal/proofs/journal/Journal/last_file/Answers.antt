@@ -1,8 +1,10 @@
-use Rattle.std.proofs.Common.{sym, ◌∙◌}
-use Rattle.pm_journal.proofs.LastEntry.{file_of_last}
+use Rattle.std.proofs.Common.{◌∙◌}
+use Rattle.pm_journal.proofs.LastEntry.{file_of_last, no_file}
 use Rattle.pm_journal.proofs.journal.Journal.last_file.Goals as goal
 
 pub returns-in-Some : goal.returns-in-Some
-returns-in-Some c =
-    let h = rw c.entries.ensures at c.in-Some.ensures.value in
-    c.file_of.ensures ∙ file_of_last c.args.self.now.entries _ (sym h)
+returns-in-Some g c =
+    rw (← c.self.view_is) (c.file_of.ensures ∙ file_of_last (g.K.Entries.state c.self.inside.kept).entries _ (rw c.in-Some.is at c.last_reply.ensures))
+
+pub returns-in-None : goal.returns-in-None
+returns-in-None g c = rw (← c.self.view_is) (no_file (g.K.Entries.state c.self.inside.kept).entries (rw c.in-None.is at c.last_reply.ensures))
