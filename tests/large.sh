@@ -1,6 +1,6 @@
 #!/usr/bin/env bash
 # A large mail is delivered, byte for byte, where the address space is bounded by some times its size: to mailboxes, and
-# through filters that change nothing or get its header alone, however many there are. No contract speaks of memory.
+# through filters of the whole mail, of its header or of its body, however many there are. No contract speaks of memory.
 set -eu
 . "$(dirname "$0")/common.bash"
 
@@ -42,11 +42,18 @@ last=$':0\nmbox\n'
 within 22 whole "$last" "a mailbox"
 within 22 whole "$(times ':0 c\nother' 3)"$'\n'"$last" "four mailboxes"
 within 50 whole "$(times ':0 fw\n| cat' 6)"$'\n'"$last" "six filters that change nothing"
-sed '2iX-Seen: yes' whole > seen
-within 50 seen "$(times ":0 fhw\n| sed '2iX-Seen: yes'" 1)"$'\n'"$last" "a filter of the header"
-for ((count = 0; count < 5; count++)); do
-    sed '2iX-Seen: yes' seen > next
-    mv next seen
-done
-within 50 seen "$(times ":0 fhw\n| sed '2iX-Seen: yes'" 6)"$'\n'"$last" "six filters of the header"
+# The file seen has $1 lines more than the mail after its line $2, as so many filters add them.
+seen() {
+    head -n "$2" whole > seen
+    for ((count = 0; count < $1; count++)); do
+        echo 'X-Seen: yes' >> seen
+    done
+    tail -n "+$(($2 + 1))" whole >> seen
+}
+
+seen 6 1
+within 50 seen "$(times ":0 fhw\n| sed '1aX-Seen: yes'" 6)"$'\n'"$last" "six filters of the header"
+within 50 seen "$(times ":0 fw\n| sed '1aX-Seen: yes'" 6)"$'\n'"$last" "six filters that add a line"
+seen 3 4
+within 60 seen "$(times ":0 fbw\n| sed '1aX-Seen: yes'" 3)"$'\n'"$last" "three filters of the body"
 echo "large: passed"
