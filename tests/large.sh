@@ -1,6 +1,7 @@
 #!/usr/bin/env bash
 # A large mail is delivered, byte for byte, where the address space is bounded by some times its size: to mailboxes, and
-# through filters of the whole mail, of its header or of its body, however many there are. No contract speaks of memory.
+# through filters of the whole mail, of its header or of its body and after captures, however many there are. No contract
+# speaks of memory.
 set -eu
 . "$(dirname "$0")/common.bash"
 
@@ -54,6 +55,7 @@ seen() {
 seen 6 1
 within 50 seen "$(times ":0 fhw\n| sed '1aX-Seen: yes'" 6)"$'\n'"$last" "six filters of the header"
 within 50 seen "$(times ":0 fw\n| sed '1aX-Seen: yes'" 6)"$'\n'"$last" "six filters that add a line"
+within 50 whole "$(times ':0 cw\nX=| cat' 6)"$'\n'"$last" "six captures, each too long for its variable"
 seen 3 4
 within 60 seen "$(times ":0 fbw\n| sed '1aX-Seen: yes'" 3)"$'\n'"$last" "three filters of the body"
 echo "large: passed"
