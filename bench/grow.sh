@@ -28,13 +28,12 @@ done
 bound() {
     case $1 in
         # The variables behind one that goes move up, and so do the arguments behind one that is shifted.
-        unset | shift) echo 2.1 ;;
+        unset) echo 1.7 ;;
+        shift) echo 1.4 ;;
         # A variable of the environment is asked for by its number, and the library counts to it.
-        environment) echo 2.1 ;;
+        environment) echo 1.7 ;;
         # A lock is looked for among all that are held.
-        held_locks) echo 2.1 ;;
-        # The names in a folder are sorted.
-        mh_folder) echo 1.3 ;;
+        held_locks) echo 1.2 ;;
         *) echo 1.1 ;;
     esac
 }
