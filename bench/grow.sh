@@ -27,9 +27,8 @@ done
 # What is known to grow faster, with the most that it may: `bound DIMENSION`.
 bound() {
     case $1 in
-        # The variables behind one that goes move up, and so do the arguments behind one that is shifted.
+        # The variables behind one that goes move up.
         unset) echo 1.7 ;;
-        shift) echo 1.4 ;;
         # A variable of the environment is asked for by its number, and the library counts to it.
         environment) echo 1.7 ;;
         # A lock is looked for among all that are held.

@@ -7,6 +7,7 @@ use crate::Marks;
 use crate::values::Values;
 use pm_bytes::{Blob, Memory, Name, Pair};
 use std::alloc::Global;
+use std::collections::VecDeque;
 use std::marker::Model;
 
 /// The variables, the arguments and the marks of a process.
@@ -14,7 +15,7 @@ use std::marker::Model;
 pub struct Vars {
     alloc: Global,
     variables: Values,
-    arguments: Vec<Blob>,
+    arguments: VecDeque<Blob>,
     marks: Marks,
 }
 
@@ -41,7 +42,7 @@ impl Vars {
         Vars {
             alloc,
             variables: Values::new(alloc),
-            arguments: Vec::new(alloc),
+            arguments: VecDeque::new(alloc),
             marks: Marks {
                 pid,
                 code: 0,
@@ -99,7 +100,7 @@ impl Vars {
         ensures ok { OnOk result (self.new ≡ record self.old { arguments = self.old.arguments ++ value ∷ [] }) }
         ensures err { OnErr result (self.new ≡ self.old) }
     {
-        self.arguments.push(value)?;
+        self.arguments.push_back(value)?;
         Ok(())
     }
 
@@ -165,12 +166,12 @@ impl Vars {
     }
 }
 
-fn copy_all(alloc: Global, blobs: &[Blob]) -> Result<Vec<Blob>, Memory>
-    ensures { IfOk result (λ copies. copies.items ≡ blobs.now) }
+fn copy_all(alloc: Global, blobs: &VecDeque<Blob>) -> Result<VecDeque<Blob>, Memory>
+    ensures { IfOk result (λ copies. copies.items ≡ blobs.now.items) }
 {
-    let mut copies = Vec::new(alloc);
+    let mut copies = VecDeque::new(alloc);
     for blob in blobs {
-        copies.push(blob.copy(alloc)?)?;
+        copies.push_back(blob.copy(alloc)?)?;
     }
     Ok(copies)
 }

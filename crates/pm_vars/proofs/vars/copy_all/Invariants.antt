@@ -1,5 +1,6 @@
-use Rattle.std.proofs.Common.{◌≡◌, take}
+use Rattle.std.proofs.Common.{◌≡◌, ◌++◌}
+use Rattle.std.specs.VecDeque.Iter.{deque_iter_rest}
 use Rattle.pm_vars.proofs.vars.copy_all.Given as goal
 
 abbrev pub invariant-loop-blob : goal.invariant-loop-blob
-invariant-loop-blob l = l.copies.items ≡ take l.blob-index l.blobs
+invariant-loop-blob l = l.copies.items ++ deque_iter_rest l.blob-iterator ≡ l.blobs.items
