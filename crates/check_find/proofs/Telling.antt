@@ -4,7 +4,6 @@ use Rattle.std.proofs.lemmas.List.{take_more}
 use Rattle.pm_recipe.specs.declared.spans.Span.{Span}
 use Rattle.check_find.specs.declared.codes.Code.TheVariants as code
 use Rattle.check_find.specs.declared.codes.Fault.{Fault}
-use Rattle.check_find.specs.declared.codes.Mistake.{Mistake}
 use Rattle.check_find.specs.declared.finding.Finding.{Finding}
 use Rattle.check_find.specs.Reports.{is_defect, lines_of, Unread, put_unread, told_fault, unread_in, fault_at, unread_of}
 
@@ -39,22 +38,3 @@ unread_of-more old now new spans i d h e k =
     let one = unread_of (get_or spans i d ∷ []) in
     k ∙ ap (λ l. l ++ one) e ∙ append_assoc old (unread_of (take i spans)) one
     ∙ ap (λ l. old ++ l) (sym (ap unread_of (take_more spans i d h) ∙ unread_of-append (take i spans) (get_or spans i d ∷ [])))
-
--- a finding of a condition alone
-pub tells-condition : (f : Finding) (span : Span) (fault : Fault) → f.code ≡ code.Condition fault → f.line ≡ span.line → f.first ≡ span.first
-    → fault_at span.kind span.text.now ≡ Some fault → unread_in (f ∷ []) ≡ unread_of (span ∷ [])
-tells-condition f span fault code_is line_is first_is fault_is =
-    ap (λ c. put_unread f.line f.first (told_fault c) []) code_is
-    ∙ ap (λ n. put_unread n f.first (Some fault) []) line_is ∙ ap (λ n. put_unread span.line n (Some fault) []) first_is
-    ∙ ap (λ o. put_unread span.line span.first o []) (sym fault_is)
-
--- a finding of a mistake alone
-pub tells-no_line : (f : Finding) (mistake : Mistake) → f.code ≡ code.Mistake mistake → lines_of (f ∷ []) ≡ []
-tells-no_line f mistake code_is = ap (λ c. if is_defect c then f.line ∷ [] else []) code_is
-
-pub tells-no_condition : (f : Finding) (mistake : Mistake) → f.code ≡ code.Mistake mistake → unread_in (f ∷ []) ≡ []
-tells-no_condition f mistake code_is = ap (λ c. put_unread f.line f.first (told_fault c) []) code_is
-
--- a finding of a condition tells of no line
-pub condition-no_line : (f : Finding) (fault : Fault) → f.code ≡ code.Condition fault → lines_of (f ∷ []) ≡ []
-condition-no_line f fault code_is = ap (λ c. if is_defect c then f.line ∷ [] else []) code_is

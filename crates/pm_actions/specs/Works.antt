@@ -1,5 +1,5 @@
 -- What is asked for an action, or for a delivery to a default mailbox, of a process that is given apart.
-use Rattle.pm_recipe.specs.View.{act_of}
+use Rattle.pm_recipe.specs.View.{act_of, top_of}
 use Rattle.pm_recipe.specs.declared.tree.Flags.{Flags}
 use Rattle.pm_recipe.specs.declared.tree.Recipe.{Recipe}
 use Rattle.pm_journal.specs.Plan.{Plan, Ends, and_then}
@@ -9,7 +9,6 @@ use Rattle.pm_meaning.specs.Delivering.{no_flags}
 use Rattle.pm_meaning.specs.Minds.{Mind}
 use Rattle.pm_meaning.specs.Running.{fall_back}
 use Rattle.pm_meaning.specs.Turns.{ActEnd}
-use Rattle.pm_perform.specs.Names.{top_of}
 use Rattle.pm_actions.specs.declared.work.Work.{Work}
 use Rattle.pm_actions.specs.declared.work.Work.TheVariants as work
 

@@ -43,40 +43,11 @@ pub fn do_work<D: Effects>(
 {
     let host_name = shared.host_name.copy(alloc)?;
     let process = mind.take(alloc, host_name, shared.placed)?;
-    let Worked { acted, process } = work_apart(alloc, work, process, outside, journal);
-    let (host_name, placed) = mind.restore(process);
-    shared.host_name = host_name;
-    shared.placed = placed;
-    acted
-}
-
-// What came of it, and the process afterwards.
-struct Worked {
-    acted: Result<Acted, Memory>,
-    process: Process,
-}
-
-// Does it for a process.
-fn work_apart<D: Effects>(
-    alloc: Global,
-    work: Work<'_>,
-    process: Process,
-    outside: &mut D,
-    journal: &mut Journal<D::Kept>,
-) -> Worked
-    requires keeping { Keeping journal.old process.locks.names }
-    ensures carries { Carries (work_of work.entry (mind_of process))
-        (λ acted. acted_with acted (mind_of result.process)) result.acted
-        journal.old journal.new (D.told outside.old) (D.told outside.new) }
-    ensures sure { OnErr result.acted (Undelivered (flags_of work.entry) journal.old journal.new) }
-    ensures keeping { Keeping journal.new result.process.locks.names }
-{
-    let begun = mem::replace(journal, Journal::empty(alloc));
     let working = Working {
         alloc,
         work,
         process,
-        journal: begun,
+        journal: mem::replace(journal, Journal::empty(alloc)),
     };
     let Done {
         acted,
@@ -84,7 +55,10 @@ fn work_apart<D: Effects>(
         journal: noted,
     } = replace_with(outside, working, work_all);
     *journal = noted;
-    Worked { acted, process }
+    let (host_name, placed) = mind.restore(process);
+    shared.host_name = host_name;
+    shared.placed = placed;
+    acted
 }
 
 // What is done, and for which process.

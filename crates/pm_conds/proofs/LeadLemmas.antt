@@ -8,9 +8,6 @@ pub record IsPassed (start now : Asking) : Type 0 where
   pub room : steps + length now.text ≤ length start.text
   pub goes : (n : ℕ) → asked_within (n + steps) start ≡ asked_within n now
 
-pub passed_none : (start : Asking) → IsPassed start start
-passed_none start = record { steps = 0; room = omega arith; goes = λ n. ap (λ k. asked_within k start) (let e : n + 0 ≡ n = omega arith in e) }
-
 one_step : (n : ℕ) (now next : Asking) → next_asking now ≡ Some next → asked_within (suc n) now ≡ asked_within n next
 one_step n now next is = ap (λ o. elim o [ Some x ↦ asked_within n x | None ↦ now ]) is
 

@@ -180,15 +180,7 @@ fn ask_program<D: Asks>(
 {
     let scope = &question.scope;
     let input = program_input(alloc, scope, flags, &run.process.message, &run.process.vars)?;
-    let end = pm_journal::run(
-        alloc,
-        &run.process.locks,
-        command,
-        input,
-        false,
-        &mut run.outside,
-        &mut run.journal,
-    )?;
+    let end = run.run_program(alloc, command, input, false)?;
     note_code(end, &mut run.process);
     tell_run(alloc, run, end, line)?;
     Ok(exited(question, code_of(end)))

@@ -106,33 +106,12 @@ fn hold_mind<D: Asks>(
     ensures rcfiles { mind.new.rcfiles ≡ mind.old.rcfiles }
 {
     let nowhere = Name::from_text(String::new(alloc));
-    let mut process = mind.take(alloc, nowhere, 0)?;
-    let held = hold_parts(alloc, conditions, flags, &mut process, outside, journal);
-    mind.restore(process);
-    held
-}
-
-// Whether the conditions hold, by the parts of a run.
-fn hold_parts<D: Asks>(
-    alloc: Global,
-    conditions: &[Condition],
-    flags: Flags,
-    mind: &mut Process,
-    outside: &mut D,
-    journal: &mut Journal<D::Kept>,
-) -> Result<bool, Memory>
-    requires keeping { Keeping journal.old mind.old.locks.names }
-    ensures carries { Carries (holding conditions.now flags (mind_of mind.old))
-        (λ held. held_with held (mind_of mind.new)) result
-        journal.old journal.new (D.told outside.old) (D.told outside.new) }
-    ensures keeping { Keeping journal.new mind.new.locks.names }
-{
-    let blank = Process::blank(alloc)?;
+    let process = mind.take(alloc, nowhere, 0)?;
     let asking = Asking {
         alloc,
         conditions,
         flags,
-        process: mem::replace(mind, blank),
+        process,
         journal: mem::replace(journal, Journal::empty(alloc)),
     };
     let Held {
@@ -140,8 +119,8 @@ fn hold_parts<D: Asks>(
         process,
         journal: noted,
     } = replace_with(outside, asking, hold_all);
-    drop(mem::replace(mind, process));
     *journal = noted;
+    mind.restore(process);
     held
 }
 

@@ -1,5 +1,5 @@
 -- Acts after room was made, a file that was read in one act or in part, and locks that are given back.
-use Rattle.std.proofs.Common.{◌≡◌, ◌≤◌, ◌+◌, List, [], ◌∷◌, ◌++◌, ℕ, Bool, length, Option, Some, None, Result, Ok, Err, IfOk, OnErr, refl, sym, ap, ◌∙◌, subst, append_assoc, append-nil, arith}
+use Rattle.std.proofs.Common.{◌≡◌, ◌≤◌, ◌+◌, List, [], ◌∷◌, ◌++◌, ℕ, length, Option, Some, None, Result, Ok, Err, IfOk, OnErr, refl, sym, ap, ◌∙◌, subst, append_assoc, append-nil, arith}
 use Rattle.pm_bytes.specs.declared.error.Memory.{Memory}
 use Rattle.pm_journal.specs.JournalState.{JournalState}
 use Rattle.pm_journal.specs.Entries.{View, Accounts}
@@ -13,12 +13,8 @@ use Rattle.pm_journal.specs.declared.locking.LockRule.{LockRule}
 use Rattle.pm_journal.specs.declared.locking.LockEnd.{LockEnd}
 use Rattle.pm_journal.specs.declared.locking.LockEnd.TheVariants.{Held, Busy, Failed}
 use Rattle.pm_journal.specs.declared.acts.Reply.{Reply}
-use Rattle.pm_journal.specs.declared.acts.Act.{Act}
-use Rattle.pm_journal.specs.declared.acts.Act.TheVariants.{ReadFile, Run, Unlock}
-use Rattle.pm_journal.specs.Outcomes.{output_in, last_output, file_in, last_file, is_missing, last_missing}
-use Rattle.pm_journal.specs.declared.children.RunEnd.{RunEnd}
-use Rattle.pm_journal.specs.declared.placing.FolderEnd.{FolderEnd}
-use Rattle.pm_host.specs.declared.command.Command.{Command}
+use Rattle.pm_journal.specs.declared.acts.Act.TheVariants.{ReadFile, Unlock}
+use Rattle.pm_journal.specs.Outcomes.{is_missing, last_missing}
 use Rattle.pm_journal.specs.declared.acts.Entry.{Entry}
 use Rattle.pm_journal.proofs.AccountsJoin.{accounts_join, accounts_none}
 use Rattle.pm_journal.proofs.FirstActs.{act_after_room}
@@ -26,8 +22,7 @@ use Rattle.pm_journal.proofs.KeepingActs.{IsPlain, keeping_plain, keeping_unlock
 use Rattle.pm_journal.proofs.KeepsJoin.{keeping_same}
 use Rattle.pm_journal.proofs.WantsMemory.{out_left_off}
 use Rattle.pm_journal.specs.Sayings.{say_act}
-use Rattle.pm_journal.specs.Acts.{NotesRead, ReadsWhole, LeavesAct, NotesPlace, Places, NotesRun, Runs, place_act, after_taking}
-use Rattle.pm_journal.specs.declared.effects.Filing.{Filing}
+use Rattle.pm_journal.specs.Acts.{NotesRead, ReadsWhole, LeavesAct, after_taking}
 
 last_missing-end : (es : List Entry) (e : Entry) → last_missing (es ++ e ∷ []) ≡ is_missing e.reply
 last_missing-end [] e = refl
@@ -59,61 +54,6 @@ pub read_keeps : (name : List ℕ) (result : Result (Option (List ℕ)) Memory) 
     → IfOk result (λ content. NotesRead name content w y a b) → OnErr result (y ≡ w) → Keeping y names
 read_keeps name (Ok content) x w y names a b h e room n same = keeping_plain (ReadFile name) n.reply x w y names a b tt h e room n.notes
 read_keeps name (Err f) x w y names a b h e room n same =
-    let kept = keeping_same x w names h e (omega arith) in subst (λ j. Keeping j names) (sym same) kept
-
--- an act was done after room was made for it, or left off
-pub act_left : {A : Type 0} (act : Act) (result : Result A Memory) (x w y : JournalState) (a b : View) → w.entries ≡ x.entries → OnErr result (LeavesAct act a b) → OnErr result (y ≡ w)
-    → OnErr result (OutOfMemory (ask act) x y a b)
-act_left act (Ok end) x w y a b e h k = tt
-act_left act (Err f) x w y a b e h k = out_left_off act (λ reply. Ends reply) x y a b h.calls (ap (λ j. j.entries) k ∙ e) h.unfinished h.took
-
--- nothing was noted where it was left off
-pub untouched_left : {A : Type 0} (result : Result A Memory) (x w y : JournalState) → w.entries ≡ x.entries → OnErr result (y ≡ w) → OnErr result (y.entries ≡ x.entries)
-untouched_left (Ok end) x w y e k = tt
-untouched_left (Err f) x w y e k = ap (λ j. j.entries) k ∙ e
-
-last_output-end : (es : List Entry) (e : Entry) → last_output (es ++ e ∷ []) ≡ output_in e.reply
-last_output-end [] e = refl
-last_output-end (x ∷ []) e = refl
-last_output-end (x ∷ (y ∷ ys)) e = last_output-end (y ∷ ys) e
-
-last_file-end : (es : List Entry) (e : Entry) → last_file (es ++ e ∷ []) ≡ file_in e.reply
-last_file-end [] e = refl
-last_file-end (x ∷ []) e = refl
-last_file-end (x ∷ (y ∷ ys)) e = last_file-end (y ∷ ys) e
-
-pub piece_placed : (filing : Filing) (result : Result FolderEnd Memory) (x w y : JournalState) (a b : View) → w.entries ≡ x.entries
-    → IfOk result (λ end. NotesPlace filing end w y a b) → IfOk result (λ end. Places filing end x y a b)
-piece_placed filing (Ok end) x w y a b e h = record {
-  reply = h.reply;
-  end_is = h.end_is;
-  file = ap last_file h.notes.entries ∙ last_file-end w.entries h.notes.entry ∙ ap file_in h.notes.reply_is;
-  executes = act_after_room (place_act filing) h.reply x w y a b e h.notes;
-}
-piece_placed filing (Err f) x w y a b e h = tt
-
--- the locks are held as before, whether the piece was filed or not
-pub place_keeps : (filing : Filing) (result : Result FolderEnd Memory) (x w y : JournalState) (names : List (List ℕ)) (a b : View) → Keeping x names → w.entries ≡ x.entries → length names + 1 ≤ w.room
-    → IfOk result (λ end. NotesPlace filing end w y a b) → OnErr result (y ≡ w) → Keeping y names
-place_keeps filing (Ok end) x w y names a b h e room n same = keeping_plain (place_act filing) n.reply x w y names a b tt h e room n.notes
-place_keeps filing (Err f) x w y names a b h e room n same =
-    let kept = keeping_same x w names h e (omega arith) in subst (λ j. Keeping j names) (sym same) kept
-
-pub program_run : (command : Command) (input : List ℕ) (want : Bool) (result : Result RunEnd Memory) (x w y : JournalState) (a b : View) → w.entries ≡ x.entries
-    → IfOk result (λ end. NotesRun command input want end w y a b) → IfOk result (λ end. Runs command input want end x y a b)
-program_run command input want (Ok end) x w y a b e h = record {
-  reply = h.reply;
-  end_is = h.end_is;
-  output = ap last_output h.notes.entries ∙ last_output-end w.entries h.notes.entry ∙ ap output_in h.notes.reply_is;
-  executes = act_after_room (Run command input want) h.reply x w y a b e h.notes;
-}
-program_run command input want (Err f) x w y a b e h = tt
-
--- the locks are held as before, whether the program was run or left off
-pub run_keeps : (command : Command) (input : List ℕ) (want : Bool) (result : Result RunEnd Memory) (x w y : JournalState) (names : List (List ℕ)) (a b : View) → Keeping x names → w.entries ≡ x.entries
-    → length names + 1 ≤ w.room → IfOk result (λ end. NotesRun command input want end w y a b) → OnErr result (y ≡ w) → Keeping y names
-run_keeps command input want (Ok end) x w y names a b h e room n same = keeping_plain (Run command input want) n.reply x w y names a b tt h e room n.notes
-run_keeps command input want (Err f) x w y names a b h e room n same =
     let kept = keeping_same x w names h e (omega arith) in subst (λ j. Keeping j names) (sym same) kept
 
 -- some of the locks were given back, and these are left

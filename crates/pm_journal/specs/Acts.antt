@@ -7,14 +7,14 @@ use Rattle.pm_journal.specs.Executed.{Executes, UnfinishedCalls, TakesCalls}
 use Rattle.pm_journal.specs.Noted.{NotesAct}
 use Rattle.pm_journal.specs.Plan.{ask}
 use Rattle.pm_journal.specs.declared.acts.Act.{Act}
-use Rattle.pm_journal.specs.declared.acts.Act.TheVariants.{ReadFile, Place, Run, SayErr}
+use Rattle.pm_journal.specs.declared.acts.Act.TheVariants.{ReadFile, Place, Run}
 use Rattle.pm_journal.specs.declared.acts.Reply.{Reply}
 use Rattle.pm_journal.specs.declared.locking.LockEnd.{LockEnd}
 use Rattle.pm_journal.specs.declared.locking.LockEnd.TheVariants.{Held}
 use Rattle.pm_journal.specs.Contents.{content_of}
 use Rattle.pm_journal.specs.Sayings.{say_act}
 use Rattle.pm_host.specs.declared.command.Command.{Command}
-use Rattle.pm_journal.specs.Outcomes.{run_end, output_in, last_output, folder_end, file_in, last_file, is_missing, last_missing}
+use Rattle.pm_journal.specs.Outcomes.{run_end, folder_end, is_missing, last_missing}
 use Rattle.pm_journal.specs.declared.children.RunEnd.{RunEnd}
 use Rattle.pm_journal.specs.declared.placing.FolderEnd.{FolderEnd}
 use Rattle.pm_journal.specs.declared.effects.Filing.{Filing}
@@ -24,11 +24,6 @@ pub record NotesRead (name : List ℕ) (content : Option (List ℕ)) (old new : 
   pub reply : Reply
   pub content_is : content ≡ content_of reply
   pub notes : NotesAct (ReadFile name) reply old new before after
-
--- the text was said on `err`, with some reply
-pub record Says (text : List ℕ) (old new : JournalState) (before after : View) : Type 0 where
-  pub reply : Reply
-  pub executes : Executes (ask (SayErr text)) reply old new before after
 
 -- the text was said in a file, or on `err`, with some reply
 pub record SaysTo (to : Option (List ℕ)) (text : List ℕ) (old new : JournalState) (before after : View) : Type 0 where
@@ -52,25 +47,11 @@ pub record NotesPlace (f : Filing) (end : FolderEnd) (old new : JournalState) (b
   pub end_is : end ≡ folder_end reply
   pub notes : NotesAct (place_act f) reply old new before after
 
--- the same, as a plan that was carried out: the entry of the reply is the journal's last one
-pub record Places (f : Filing) (end : FolderEnd) (old new : JournalState) (before after : View) : Type 0 where
-  pub reply : Reply
-  pub end_is : end ≡ folder_end reply
-  pub file : last_file new.entries ≡ file_in reply
-  pub executes : Executes (ask (place_act f)) reply old new before after
-
 -- the program was run, with some reply that has this end, and noted
 pub record NotesRun (command : Command) (input : List ℕ) (want : Bool) (end : RunEnd) (old new : JournalState) (before after : View) : Type 0 where
   pub reply : Reply
   pub end_is : end ≡ run_end reply
   pub notes : NotesAct (Run command input want) reply old new before after
-
--- the same, as a plan that was carried out: the entry of the reply is the journal's last one
-pub record Runs (command : Command) (input : List ℕ) (want : Bool) (end : RunEnd) (old new : JournalState) (before after : View) : Type 0 where
-  pub reply : Reply
-  pub end_is : end ≡ run_end reply
-  pub output : last_output new.entries ≡ output_in reply
-  pub executes : Executes (ask (Run command input want)) reply old new before after
 
 -- an act was left off after these calls
 pub record LeavesAct (act : Act) (before after : View) : Type 0 where

@@ -33,3 +33,6 @@ pub mod OutputLemmas
 mod ProgramLemmas
 pub mod Beside
 pub mod QuietLines
+mod ActLemmas
+pub mod DestinationLemmas
+mod ForwardLemmas

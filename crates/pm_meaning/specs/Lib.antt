@@ -33,6 +33,9 @@ pub mod ActExamples
 -- What the code that logs, expands and runs commands answers.
 pub mod KeepsProp
 pub mod UsableNames
+pub mod DestinationTexts
+pub mod AbstractParts
+pub mod ForwardWords
 pub mod Expanding
 pub mod Telling
 pub mod Turning
@@ -46,3 +49,4 @@ pub mod RunLaws
 pub mod EndStatus
 pub mod Completeness
 pub mod Clones
+pub mod Acts

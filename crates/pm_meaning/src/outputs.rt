@@ -133,15 +133,7 @@ fn run_command<D: Asks>(
         run.old.journal run.new.journal (D.told run.old.outside) (D.told run.new.outside) }
 {
     let input = run.process.message.whole(alloc)?;
-    let end = pm_journal::run(
-        alloc,
-        &run.process.locks,
-        command,
-        input,
-        true,
-        &mut run.outside,
-        &mut run.journal,
-    )?;
+    let end = run.run_program(alloc, command, input, true)?;
     note_code(end, &mut run.process);
     let output = taken_output(alloc, &run.journal)?;
     tell_run(alloc, run, end, text)?;

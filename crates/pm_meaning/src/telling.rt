@@ -11,7 +11,7 @@ use crate::names::{file_name, is_nothing};
 use crate::programs::value_or;
 use crate::{Process, Run};
 use pm_bytes::{Blob, Memory, Name, full};
-use pm_journal::{Asks, HeldLocks, say_to};
+use pm_journal::{Asks, HeldLocks};
 use std::alloc::Global;
 
 /// Logs the line in LOGFILE's file, or on `err` where LOGFILE names none, no usable one or a held lock. `/dev/null`
@@ -48,13 +48,7 @@ pub fn tell_in<D: Asks>(run: &mut Run<D>, name: Option<Name>, line: Blob) -> Res
     if is_nowhere(&to) {
         return Ok(());
     }
-    say_to(
-        &run.process.locks,
-        to,
-        line,
-        &mut run.outside,
-        &mut run.journal,
-    )
+    run.say(to, line)
 }
 
 // A held lock's file isn't written to.

@@ -62,13 +62,6 @@ pub record Calm (flags : Flags) (x y : JournalState) : Type 0 where
 pub calm_none : (flags : Flags) (x y : JournalState) → y.entries ≡ x.entries → Calm flags x y
 calm_none flags x y e = record { more = []; entries = e ∙ sym (append-nil x.entries); none = refl }
 
-pub calm_on : (flags : Flags) (x y z : JournalState) → Calm flags x y → Calm flags y z → Calm flags x z
-calm_on flags x y z h k = record {
-  more = h.more ++ k.more;
-  entries = k.entries ∙ (ap (λ l. l ++ k.more) h.entries ∙ append_assoc x.entries h.more k.more);
-  none = any_none (λ e. delivers flags e.act e.reply) h.more k.more h.none k.none;
-}
-
 -- no act that the plan asks for delivers, whatever the replies
 abbrev pub IsCalm : {R : Type 0} → Flags → Plan R → Type 0
 IsCalm flags (Ends r) = Unit {0}

@@ -99,12 +99,6 @@ lock_expands flags lock value text r short is =
     ∙ if_no (is_too_long One (text_or [] lock) r.mind.vars r.lock_outputs) (skip_act One (text_or [] lock) r.lock_outputs r.mind)
     (deliver_text flags lock (value_in r.mind.vars r.lock_outputs (text_or [] lock)) text r.outputs r.mind) short
 
--- the action's text expands to too much, or to these words
-pub text_too_long : (flags : Flags) (lock : Option (List ℕ)) (value text : List ℕ) (outputs : List (List ℕ)) (p : Mind) → is_too_long Many text p.vars outputs ≡ true
-    → skip_act Many text outputs p ≡ deliver_text flags lock value text outputs p
-text_too_long flags lock value text outputs p long =
-    if_yes (is_too_long Many text p.vars outputs) (skip_act Many text outputs p) (deliver_to flags lock value text (words_in Many p.vars outputs text) p) long
-
 pub text_expands : (flags : Flags) (lock : Option (List ℕ)) (value text : List ℕ) (outputs words : List (List ℕ)) (p : Mind) → is_too_long Many text p.vars outputs ≡ false → words ≡ words_in Many p.vars outputs text
     → deliver_to flags lock value text words p ≡ deliver_text flags lock value text outputs p
 text_expands flags lock value text outputs words p short is =
@@ -134,10 +128,6 @@ lock_usable flags lock value text word name words p e is good same =
     ∙ (if_no (not (is_lock_word (lock_word lock value words p))) (refuse_act cause.BadName (blamed_text lock text) p) (deliver_named flags (lock_word lock value words p) (blamed_text lock text) text words p)
     (ap (λ w. not (is_lock_word w)) (sym is) ∙ ap not good) ∙ if_no (is_without words) (refuse_act cause.NoWords text p) (after_some flags lock value text words p) e)
 
--- the destinations' names can't be used, or can
-pub texts_unusable : (flags : Flags) (word : Option (List ℕ)) (blamed text : List ℕ) (words : List (List ℕ)) (p : Mind) → are_file_texts words ≡ false → refuse_act cause.BadName text p ≡ deliver_named flags word blamed text words p
-texts_unusable flags word blamed text words p e = if_yes (not (are_file_texts words)) (refuse_act cause.BadName text p) (deliver_at flags (full_lock p.base word) blamed text (map destination_of words) p) (ap not e)
-
 pub texts_usable : (flags : Flags) (word lock : Option (List ℕ)) (blamed text : List ℕ) (words : List (List ℕ)) (ds : List Destination) (p : Mind) → are_file_texts words ≡ true → ds ≡ map destination_of words → lock ≡ full_lock p.base word
     → deliver_at flags lock blamed text ds p ≡ deliver_named flags word blamed text words p
 texts_usable flags word lock blamed text words ds p e same is =
@@ -153,18 +143,6 @@ pub lock_taken : (flags : Flags) (lock : Option (List ℕ)) (blamed shown text :
 lock_taken flags lock blamed shown text ds files p is e same =
     ap (λ t. refuse_act cause.NameIsLock t p) same
     ∙ if_yes (is_taken lock (map (full_of p.base) ds) p.locks) (refuse_act cause.NameIsLock blamed p) (after_taken flags lock text ds p) (ap (λ l. is_taken lock l p.locks) (sym is) ∙ e)
-
-pub destination_held : (flags : Flags) (lock : Option (List ℕ)) (blamed text : List ℕ) (ds : List Destination) (files : List (List ℕ)) (p : Mind) → files ≡ map (full_of p.base) ds → is_taken lock files p.locks ≡ false
-    → any_held files p.locks ≡ true → refuse_act cause.NameIsLock text p ≡ deliver_at flags lock blamed text ds p
-destination_held flags lock blamed text ds files p is e held =
-    if_yes (any_held (map (full_of p.base) ds) p.locks) (refuse_act cause.NameIsLock text p) (file_and_say flags lock text ds p) (ap (λ l. any_held l p.locks) (sym is) ∙ held)
-    ∙ if_no (is_taken lock (map (full_of p.base) ds) p.locks) (refuse_act cause.NameIsLock blamed p) (after_taken flags lock text ds p) (ap (λ l. is_taken lock l p.locks) (sym is) ∙ e)
-
-pub all_free : (flags : Flags) (lock : Option (List ℕ)) (blamed text : List ℕ) (ds : List Destination) (files : List (List ℕ)) (p : Mind) → files ≡ map (full_of p.base) ds → is_taken lock files p.locks ≡ false
-    → any_held files p.locks ≡ false → file_and_say flags lock text ds p ≡ deliver_at flags lock blamed text ds p
-all_free flags lock blamed text ds files p is e held =
-    if_no (any_held (map (full_of p.base) ds) p.locks) (refuse_act cause.NameIsLock text p) (file_and_say flags lock text ds p) (ap (λ l. any_held l p.locks) (sym is) ∙ held)
-    ∙ if_no (is_taken lock (map (full_of p.base) ds) p.locks) (refuse_act cause.NameIsLock blamed p) (after_taken flags lock text ds p) (ap (λ l. is_taken lock l p.locks) (sym is) ∙ e)
 
 right_false : (b c : Bool) → (b || c) ≡ false → c ≡ false
 right_false true c e = let f : true ≡ false = e in absurd (cc)

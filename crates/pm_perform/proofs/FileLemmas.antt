@@ -29,12 +29,12 @@ use Rattle.pm_meaning.specs.declared.process.Filed.TheVariants.{Stored, Unnamed}
 use Rattle.pm_meaning.proofs.OneFiled.{StaysSo, one_filed}
 use Rattle.pm_perform.specs.Copies.{copy_as, copy_for, file_copy, filing_of, with_kept, IsShown, AllShown}
 use Rattle.pm_perform.specs.Filing.{is_folder_there, filed_by, mind_after}
-use Rattle.pm_perform.specs.Names.{prefix_of}
+use Rattle.pm_meaning.specs.DestinationTexts.{prefix_of}
 use Rattle.pm_perform.specs.declared.kept.Kept.{Kept}
 use Rattle.pm_perform.specs.declared.filing.Copy.{Copy}
 use Rattle.pm_perform.specs.declared.filing.Copy.TheVariants.{ToFile, ToFolder}
 use Rattle.pm_meaning.proofs.Choices.{choose_then, choose_else, then_out, else_out}
-use Rattle.pm_perform.proofs.NameLemmas.{some_if, none_if}
+use Rattle.pm_meaning.proofs.DestinationLemmas.{some_if, none_if}
 
 -- what is written to `/dev/null` doesn't matter
 nothing_asked : (yes : Bool) (flags : Flags) (name piece : List ℕ) (stored p : Mind) → is_nothing name ≡ yes

@@ -3,7 +3,6 @@ mod FoundLemmas
 pub mod CalmLemmas
 mod SureLemmas
 mod PlaceLemmas
-mod NameLemmas
 pub mod DeliverLemmas
 mod AttemptLemmas
 mod SayingLemmas
@@ -14,4 +13,3 @@ mod FilterLemmas
 mod TryLemmas
 mod TaskLemmas
 mod PipeLemmas
-mod ForwardLemmas

@@ -1,5 +1,5 @@
 -- Actions that hand the mail on, in plans: what each of them asks for, and all their commands first.
-use Rattle.std.proofs.Common.{◌≡◌, true, false, List, ℕ, [], ◌++◌, Option, ap, ◌∙◌}
+use Rattle.std.proofs.Common.{◌≡◌, List, ℕ, [], ◌++◌, Option, ap, ◌∙◌}
 use Rattle.std.specs.Prelude.{codes}
 use Rattle.pm_recipe.specs.declared.tree.Flags.{Flags}
 use Rattle.pm_journal.specs.Plan.{Plan, and_then}
@@ -7,9 +7,8 @@ use Rattle.pm_meaning.specs.Delivering.{Ready, make_ready}
 use Rattle.pm_meaning.specs.Forwards.{forward_reading}
 use Rattle.pm_meaning.specs.Minds.{Mind}
 use Rattle.pm_meaning.specs.ProgramActions.{Purpose, Delivers, Captures, Task, appended_name, lock_commands, program_with, do_program, pipe_purpose, pipe, capture_line, forward, write_task, write_with, write_out}
-use Rattle.pm_meaning.specs.Programs.{Reading, line_reading, shell_reading, plain_reading, needs_shell}
+use Rattle.pm_meaning.specs.Programs.{Reading, line_reading}
 use Rattle.pm_meaning.specs.Turns.{ActEnd}
-use Rattle.pm_meaning.proofs.Choices.{if_yes, if_no}
 
 -- all commands of the texts come first
 abbrev pub with_task : Task → Reading → Ready → Plan ActEnd
@@ -50,10 +49,3 @@ module _ (flags : Flags) (lock : Option (List ℕ)) (line automatic : List ℕ) 
   is_forward none for is =
       ap (λ a. do_program (task_with flags lock line a purpose) reading p) none
       ∙ (ap (λ u. do_program (task_with flags lock line [] u) reading p) for ∙ ap (λ r. do_program (task_with flags lock line [] (Delivers (codes "!" ++ line))) r p) is)
-
--- the shell reads the line, or it doesn't
-pub reads_shell : (line : List ℕ) (p : Mind) → needs_shell line p ≡ true → shell_reading line ≡ line_reading line p
-reads_shell line p e = if_yes (needs_shell line p) (shell_reading line) (plain_reading line) e
-
-pub reads_plain : (line : List ℕ) (p : Mind) → needs_shell line p ≡ false → plain_reading line ≡ line_reading line p
-reads_plain line p e = if_no (needs_shell line p) (shell_reading line) (plain_reading line) e

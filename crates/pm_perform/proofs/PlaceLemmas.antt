@@ -120,6 +120,3 @@ keeping_filed f moment end x y z names a b c h room m n =
 pub keeping_asked : (moment : ℤ) (x y z : JournalState) (names : List (List ℕ)) (a b : View) → Keeping x names → length names + 2 ≤ x.room → NotesAct Moment (Now moment) x y a b → z ≡ y → Keeping z names
 keeping_asked moment x y z names a b h room m same =
     subst (λ j. Keeping j names) (sym same) (keeping_plain Moment (Now moment) x x y names a b tt h refl (omega (arith, room)) m)
-
-pub room_left : (f : Filing) (moment : ℤ) (end : FolderEnd) (x y z : JournalState) (a b c : View) → NotesAct Moment (Now moment) x y a b → NotesPlace f end y z b c → x.room ≤ z.room + 2
-room_left f moment end x y z a b c m n = omega (arith, m.room, n.notes.room)

@@ -17,7 +17,7 @@ use Rattle.pm_meaning.specs.Delivering.{say_each}
 use Rattle.pm_meaning.specs.Locks.{blamed_text, is_lock_word, full_lock, is_taken}
 use Rattle.pm_meaning.specs.Logging.{log, logged}
 use Rattle.pm_meaning.specs.Minds.{Mind}
-use Rattle.pm_meaning.specs.ProgramActions.{Task, Tried, Trying, try_under, trial_lines, settled_by, trial_acted, after_trial, try_and_say, lacks_lock, lock_source, lock_mode, named_lock, told_first, do_under, do_named, unusable_text, do_line, lock_first, is_delivery, is_fine_trial}
+use Rattle.pm_meaning.specs.ProgramActions.{Task, Tried, Trying, try_under, trial_lines, settled_by, trial_acted, after_trial, try_and_say, lacks_lock, lock_source, lock_mode, named_lock, told_first, do_under, do_named, do_line, lock_first, is_delivery, is_fine_trial}
 use Rattle.pm_meaning.specs.Turns.{ActEnd, overflow_act, refuse_act, is_too_long, skip_act}
 use Rattle.pm_meaning.specs.Apart.{acted_with}
 use Rattle.pm_meaning.specs.declared.acted.Acted.{Acted}
@@ -105,11 +105,6 @@ file_is word name p file e h = subst (λ w. IsLockFile w p file) e h
 
 pub taken_refused : (name lock : Option (List ℕ)) (p : Mind) → is_lock_word name ≡ true → lock ≡ full_lock p.base name → is_taken lock [] p.locks ≡ true → IsLockFile name p (Refused cause.NameIsLock)
 taken_refused name lock p fits is e = (fits, ap (λ l. is_taken l [] p.locks) (sym is) ∙ e)
-
--- what is told where a word of the line is unusable
-pub line_blamed : (t : Task) (word : Option (List ℕ)) (fits : Bool) (shown : List ℕ) (p : Mind) → fits ≡ is_lock_word word → shown ≡ (if fits then t.text else blamed_text t.lock t.text)
-    → refuse_act cause.BadName shown p ≡ refuse_act cause.BadName (unusable_text t word) p
-line_blamed t word fits shown p e same = ap (λ l. refuse_act cause.BadName l p) (same ∙ ap (λ b. if b then t.text else blamed_text t.lock t.text) e)
 
 -- the line was read so
 pub read_so : (t : Task) (word : Option (List ℕ)) (work : Command → Mind → Plan Tried) (line shown : ProgramLine) (p : Mind) → shown ≡ line → do_line t word work line p ≡ do_line t word work shown p

@@ -1,9 +1,8 @@
-pub mod Names
+pub mod LockNames
 pub mod Copies
 pub mod Programs
 pub mod Placing
 pub mod Filing
 pub mod Errands
-pub mod AbstractParts
 pub mod Undelivered
 pub mod Examples

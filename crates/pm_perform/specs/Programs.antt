@@ -1,14 +1,9 @@
 -- How the line of a program is read.
-use Rattle.std.specs.Prelude.{ℕ, List, [], ◌∷◌, if◌then◌else◌}
+use Rattle.std.specs.Prelude.{ℕ, List}
 use Rattle.pm_meaning.specs.Forwards.{forward_reading}
 use Rattle.pm_meaning.specs.Programs.{Reading, shell_reading, plain_reading}
-use Rattle.pm_meaning.specs.Texts.{is_empty}
 use Rattle.pm_perform.specs.declared.pipes.Reading.{Reading as CodeReading}
 use Rattle.pm_perform.specs.declared.pipes.Reading.TheVariants.{Shell, Plain, Forward}
-
--- the text as one word, or none where it is empty
-abbrev pub if_any : List ℕ → List (List ℕ)
-if_any text = if is_empty text then [] else text ∷ []
 
 -- how this text is read
 abbrev pub reading_of : CodeReading → List ℕ → Reading

@@ -3,7 +3,7 @@ ghost use Rattle.std.specs.Prelude.{◌≡◌, [], length, OnErr};
 ghost use Rattle.pm_journal.specs.Executed.{Carries};
 ghost use Rattle.pm_subst.specs.Commands.{commands_in};
 ghost use Rattle.pm_subst.specs.declared.kinds.Mode.TheVariants.{One, Many};
-ghost use Rattle.pm_recipe.specs.View.{act_of};
+ghost use Rattle.pm_recipe.specs.View.{act_of, top_of};
 ghost use Rattle.pm_meaning.specs.Acting.{act_on};
 ghost use Rattle.pm_meaning.specs.Locks.{text_or};
 ghost use Rattle.pm_meaning.specs.Locks;
@@ -13,27 +13,24 @@ ghost use Rattle.pm_meaning.specs.Turns.{refuse_name};
 ghost use Rattle.pm_meaning.specs.Delivering.{deliver_with, deliver, deliver_to};
 ghost use Rattle.pm_meaning.specs.Minds.{mind_of};
 ghost use Rattle.pm_perform.specs.Copies.{IsFreeLock};
-ghost use Rattle.pm_perform.specs.Names.{top_of};
 ghost use Rattle.pm_meaning.specs.Ready.{ready_of};
 ghost use Rattle.pm_meaning.specs.Apart.{acted_with};
 ghost use Rattle.pm_meaning.specs.Turning.{turn_of};
 ghost use Rattle.pm_perform.specs.Undelivered.{Undelivered};
 
-use crate::abstracts::push_copy;
 use crate::attempting::attempt;
 use crate::filing::is_stored;
 use crate::locks::{
     any_held, blamed_text, full_lock, full_names, is_taken, lock_name, lock_text, lock_word,
 };
-use crate::names::destinations;
 use crate::pipes::{capture, forward, pipe, write_out};
 use crate::refusing::{overflow, refuse_act};
 use crate::saying::{attempt_lines, say_each};
 use pm_bytes::{Blob, Memory, Name, NameRefused};
 use pm_journal::{Effects, unusable_name};
 use pm_meaning::{
-    Acted, Attempt, Cause, Destination, End, Expansion, Filed, Process, Ready, Run, expand_text,
-    first_word, make_ready, succeed, tell,
+    Acted, Attempt, Cause, Destination, End, Expansion, Filed, Process, Ready, Run, destinations,
+    expand_text, first_word, make_ready, push_copy, succeed, tell,
 };
 use pm_recipe::{Action, Flags, Recipe};
 use pm_subst::{Mode, commands};

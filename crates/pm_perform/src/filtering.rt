@@ -43,16 +43,7 @@ pub fn filter<D: Effects>(
     ensures locks { run.new.process.locks ≡ run.old.process.locks }
 {
     let count = input.len() as u64;
-    let locks = &run.process.locks;
-    let end = pm_journal::run(
-        alloc,
-        locks,
-        command,
-        input,
-        true,
-        &mut run.outside,
-        &mut run.journal,
-    )?;
+    let end = run.run_program(alloc, command, input, true)?;
     note_code(end, &mut run.process);
     let fed = feed_outcome(flags, count, end);
     take_mail(alloc, flags, fed, &run.journal, &mut run.process)
@@ -72,16 +63,7 @@ pub fn capture<D: Effects>(
         run.old.journal run.new.journal (D.told run.old.outside) (D.told run.new.outside) }
     ensures locks { run.new.process.locks ≡ run.old.process.locks }
 {
-    let locks = &run.process.locks;
-    let end = pm_journal::run(
-        alloc,
-        locks,
-        command,
-        input,
-        true,
-        &mut run.outside,
-        &mut run.journal,
-    )?;
+    let end = run.run_program(alloc, command, input, true)?;
     note_code(end, &mut run.process);
     take_value(
         alloc,

@@ -2,8 +2,6 @@
 //! standard output, and to log the result.
 #![tactic(auto)]
 
-pub mod abstracts;
-pub mod appended;
 pub mod attempting;
 pub mod delivering;
 pub mod ends;
@@ -11,12 +9,10 @@ pub mod errands;
 pub mod fallback;
 pub mod filing;
 pub mod filtering;
-pub mod forwards;
 pub mod kept;
 pub mod laws;
 pub mod lock_texts;
 pub mod locks;
-pub mod names;
 pub mod outcomes;
 pub mod pipes;
 pub mod placing;
@@ -25,7 +21,6 @@ pub mod saying;
 pub mod tasks;
 pub mod trying;
 
-pub use abstracts::{abstract_of, logs_last, mail_part, push_folder};
 pub use attempting::is_stuck;
 pub use delivering::{deliver_default, perform, refuse};
 pub use fallback::{default_mailboxes, fall_back, is_delivered};

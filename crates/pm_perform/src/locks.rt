@@ -6,12 +6,11 @@ ghost use Rattle.pm_meaning.specs.Destinations.{full_of};
 ghost use Rattle.pm_meaning.specs.Locks.{rule_of, value_or, text_or};
 ghost use Rattle.pm_meaning.specs.Locks;
 ghost use Rattle.pm_meaning.specs.Minds.{mind_of};
-ghost use Rattle.pm_perform.specs.Names.{IsLockName};
+ghost use Rattle.pm_perform.specs.LockNames.{IsLockName};
 
-use crate::names::without_ending;
 use pm_bytes::{Blob, Memory, Name, NameRefused, full, read_count};
 use pm_journal::{HeldLocks, LockRule};
-use pm_meaning::{Destination, Process, file_name};
+use pm_meaning::{Destination, Process, file_name, without_ending};
 use pm_vars::Vars;
 use std::alloc::Global;
 

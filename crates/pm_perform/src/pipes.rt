@@ -14,17 +14,16 @@ ghost use Rattle.pm_perform.specs.Programs.{reading_of};
 ghost use Rattle.pm_meaning.specs.Apart.{acted_with};
 ghost use Rattle.pm_perform.specs.Undelivered.{Undelivered};
 
-use crate::appended::appended_name;
 use crate::delivering::Order;
 use crate::errands::write_errand;
-use crate::forwards::forward_line;
 use crate::lock_texts::{LockText, lock_commands, lock_word};
 use crate::refusing::overflow;
 use crate::tasks::{Purpose, Task, do_line, do_named};
 use pm_bytes::{Blob, Memory};
 use pm_journal::Effects;
 use pm_meaning::{
-    Acted, Process, ProgramLine, Ready, Run, expanded_line, make_ready, needs_shell, shell_line,
+    Acted, Process, ProgramLine, Ready, Run, appended_name, expanded_line, forward_line,
+    make_ready, needs_shell, shell_line,
 };
 use pm_recipe::Flags;
 use pm_subst::{Mode, commands};

@@ -17,7 +17,6 @@ ghost use Rattle.pm_perform.specs.Errands.{task_of, purpose_of, IsWork, IsLockFi
 ghost use Rattle.pm_meaning.specs.Apart.{acted_with};
 ghost use Rattle.pm_perform.specs.Undelivered.{Undelivered};
 
-use crate::abstracts::push_copy;
 use crate::errands::{Errand, errand_for};
 use crate::lock_texts::lacks_lock;
 use crate::locks::{blamed_text, full_lock, is_taken, lock_name};
@@ -27,7 +26,7 @@ use crate::saying::say_each;
 use crate::trying::{acted_by, is_fine_trial, let_go, settle, try_under};
 use pm_bytes::{Blob, Memory, Name, NameRefused};
 use pm_journal::{Effects, no_lock};
-use pm_meaning::{Acted, Cause, Process, ProgramLine, Run, tell};
+use pm_meaning::{Acted, Cause, Process, ProgramLine, Run, push_copy, tell};
 use pm_recipe::Flags;
 use std::alloc::Global;
 

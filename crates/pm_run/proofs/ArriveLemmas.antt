@@ -149,10 +149,6 @@ home_over items found behind e h = sym (ap (λ l. home_by l found) e) ∙ h
 pub host_set : (pair : Pair) (name value : List ℕ) (p : Mind) (vars : Table) → vars ≡ record p.vars { variables = with_value name value p.vars.variables } → name ≡ pair.name → value ≡ pair.value → record p { vars = vars } ≡ with_variable pair.name pair.value p
 host_set pair name value p vars e n v = ap (λ (t : Table). record p { vars = t }) e ∙ (ap (λ m. with_variable m value p) n ∙ ap (λ w. with_variable pair.name w p) v)
 
--- the rcfiles after the words
-abbrev tried_in : CommandLine → List ℕ → Rule → List (List ℕ) → Mind → State
-tried_in line home rule names p = Opening (rule_of_opening rule) names p
-
 same_rule : (line : CommandLine) (rule : Rule) → rule.is_implied ≡ is_without line.rcfiles → rule.keeps_folder ≡ sets_folder line.values → rule_of_opening rule ≡ opening_of line
 same_rule line rule i k = ap (λ b. record { is_implied = b; keeps_folder = rule.keeps_folder }) i ∙ ap (λ b. record { is_implied = is_without line.rcfiles; keeps_folder = b }) k
 

@@ -1,5 +1,5 @@
 -- Assignments in plans.
-use Rattle.std.proofs.Common.{◌≡◌, ◌≢◌, Bool, true, false, List, ℕ, Some, None, refl, sym, ap, ◌∙◌, subst}
+use Rattle.std.proofs.Common.{◌≡◌, ◌≢◌, Bool, true, false, List, ℕ, Some, None, refl, ap, ◌∙◌, subst}
 use Rattle.std.specs.Prelude.{if◌then◌else◌, bytes_eq, codes}
 use Rattle.pm_bytes.specs.Path.{full_name}
 use Rattle.pm_host.specs.declared.answers.Looked.{Looked}
@@ -12,7 +12,7 @@ use Rattle.pm_journal.specs.declared.acts.Reply.TheVariants.{Found}
 use Rattle.pm_subst.specs.declared.kinds.Mode.TheVariants.{One}
 use Rattle.pm_journal.specs.Plan.{Plan, Ends, and_then, ask}
 use Rattle.pm_journal.specs.Executed.{Executes, OutOfMemory}
-use Rattle.pm_meaning.specs.Changes.{with_variable, without_variable, with_base}
+use Rattle.pm_meaning.specs.Changes.{with_variable, without_variable}
 use Rattle.pm_meaning.specs.Outputs.{Outputs}
 use Rattle.pm_meaning.specs.Turns.{Turn, GoesOn, Halts, EndsFile, say_then, refuse_name, is_too_long, skip_value}
 use Rattle.pm_meaning.specs.Assigning.{value_in, probed, change_folder, include_rcfile, switch_rcfile, change_host, shift_arguments, change_rcfile, change_other, assigned, assign_with, unset}
@@ -32,14 +32,6 @@ probed_other name p (LookedFile n) h = refl
 probed_other name p Folder h = absurd (h refl)
 probed_other name p Nothing h = refl
 probed_other name p LookFailed h = refl
-
--- the folder is there, or something else
-pub folder_found : (name folder : List ℕ) (p : Mind) (looked : Looked) (x y : JournalState) (a b : View) → looked ≡ Folder → folder ≡ name → Executes (ask (Probe name)) (Found looked) x y a b
-    → Executes (and_then (ask (Probe name)) (probed name p)) (GoesOn (with_base folder p)) x y a b
-folder_found name folder p looked x y a b is same h =
-    executes_then (ask (Probe name)) (probed name p) (Found looked) (GoesOn (with_base folder p)) x y y a b b h
-    (subst (λ l. Executes (probed name p (Found l)) (GoesOn (with_base folder p)) y y b b) (sym is)
-    (subst (λ n. Executes (Ends (GoesOn (with_base n p))) (GoesOn (with_base folder p)) y y b b) same (executes_nothing (GoesOn (with_base folder p)) y y b refl)))
 
 pub folder_missed : (name folder line : List ℕ) (p : Mind) (looked : Looked) (x y z : JournalState) (a b c : View) → looked ≢ Folder → folder ≡ name → line ≡ couldnt_chdir_line folder
     → Executes (ask (Probe name)) (Found looked) x y a b → Executes (log line p) logged y z b c → Executes (and_then (ask (Probe name)) (probed name p)) (GoesOn p) x z a c

@@ -85,6 +85,3 @@ nested_last (e ∷ fs) f gs h = goes_last e.back fs f gs h
 -- with the first frame put before it, what waits grows
 pub waits_before : (i : ℕ) (w : Waiting) (ws : List Waiting) → drop i ws ≡ w ∷ drop (i + 1) ws → outer_frames (drop i ws) ≡ frame_waiting w (name_first (drop (i + 1) ws)) ∷ outer_frames (drop (i + 1) ws)
 waits_before i w ws e = ap outer_frames e
-
-pub name_there : (i : ℕ) (w : Waiting) (ws : List Waiting) → drop i ws ≡ w ∷ drop (i + 1) ws → Some w.name ≡ name_first (drop i ws)
-name_there i w ws e = sym (ap name_first e)

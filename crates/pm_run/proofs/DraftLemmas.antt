@@ -5,7 +5,7 @@ use Rattle.std.proofs.lemmas.Slice.Eq.{bytes_eq-Decides}
 use Rattle.pm_meaning.specs.Abstracts.{folder_part, abstract_of}
 use Rattle.pm_meaning.specs.Locks.{value_or}
 use Rattle.pm_meaning.specs.Minds.{Mind}
-use Rattle.pm_perform.specs.AbstractParts.{mail_part}
+use Rattle.pm_meaning.specs.AbstractParts.{mail_part}
 use Rattle.pm_meaning.specs.Telling.{log_name}
 use Rattle.pm_run.specs.Drafts.{is_draft_for}
 use Rattle.pm_run.specs.declared.draft.Draft.{Draft}

@@ -29,11 +29,6 @@ pub weave_enters : (ahead : List Flat) (top : Top) (end : ℕ) (more : List Flat
     → weave (lists_of ahead) blocks rest ≡ Do (Recipe top (Block (first (lists_of more)))) ∷ weave (others (lists_of more)) blocks rest
 weave_enters ahead top end more blocks rest e = ap (λ d. weave (lists_of d) blocks rest) e ∙ weave_put (Recipe top (Block (first (lists_of more)))) (others (lists_of more)) blocks rest
 
--- a block that ends at its step
-pub weave_leaves : (ahead : List Flat) (enter : ℕ) (more : List Flat) (block : Open) (blocks : List Open) (rest : List Item) → ahead ≡ Leaves enter ∷ more
-    → weave (lists_of ahead) (block ∷ blocks) rest ≡ end_of block ∷ weave (lists_of more) blocks rest
-weave_leaves ahead enter more block blocks rest e = ap (λ d. weave (lists_of d) (block ∷ blocks) rest) e
-
 -- a block that ends with the code
 pub weave_stops : (ahead : List Flat) (block : Open) (blocks : List Open) (rest : List Item) → ahead ≡ [] → weave (lists_of ahead) (block ∷ blocks) rest ≡ end_of block ∷ weave (lists_of ahead) blocks rest
 weave_stops ahead block blocks rest e =
@@ -42,9 +37,6 @@ weave_stops ahead block blocks rest e =
 -- without a block the rcfile ends there
 pub weave_over : (ahead : List Flat) (rest : List Item) → ahead ≡ [] → weave (lists_of ahead) [] rest ≡ rest
 weave_over ahead rest e = ap (λ d. weave (lists_of d) [] rest) e
-
-pub weave_left : (ahead : List Flat) (enter : ℕ) (more : List Flat) (rest : List Item) → ahead ≡ Leaves enter ∷ more → weave (lists_of ahead) [] rest ≡ rest
-weave_left ahead enter more rest e = ap (λ d. weave (lists_of d) [] rest) e
 
 locks_ahead : (trees : Trees) (rest : List Item) → locks_of (ahead trees rest) ≡ locks_of rest
 locks_ahead nil rest = refl

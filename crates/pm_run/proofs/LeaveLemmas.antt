@@ -27,7 +27,7 @@ use Rattle.pm_meaning.proofs.Choices.{choose_then, then_out, line_told, line_out
 use Rattle.pm_meaning.proofs.Choices.{if_yes, if_no}
 use Rattle.pm_run.specs.RunningOut.{MayRunOut, RunsOut, HinderedSince}
 use Rattle.pm_run.proofs.RunOutLemmas.{ran_out_then}
-use Rattle.pm_run.specs.Frames.{block_locks, outer_locks, left_outside, left_in, left_over}
+use Rattle.pm_run.specs.Frames.{block_locks, outer_locks, left_outside, left_in}
 use Rattle.pm_run.specs.declared.frames.Open.{Open}
 use Rattle.pm_run.specs.declared.frames.Frames.{Frames}
 use Rattle.pm_run.specs.declared.frames.Waiting.{Waiting}
@@ -157,7 +157,3 @@ halts_over s end q x y a b h k = subst (λ t. Reaches {X = Event} step s t x y a
 
 pub halts_off : (s : State) (end : End) (q : Mind) (x y : JournalState) (a b : View) → end ≡ HostOff → Reaches {X = Event} step s (left_by end q) x y a b → Reaches {X = Event} step s (left_by HostOff q) x y a b
 halts_off s end q x y a b is h = subst (λ e. Reaches {X = Event} step s (left_by e q) x y a b) is h
-
--- what is left over, where no rcfile was opened
-pub same_left : (n m : ℕ) (f g : Frames) → m ≡ n → left_in g ≤ left_in f → left_over m g ≤ left_over n f
-same_left n m f g e h = subst (λ c. left_over c g ≤ left_over n f) (sym e) (omega (arith, h))

@@ -13,9 +13,8 @@ use Rattle.pm_meaning.specs.Courses.{Course, Others, now_at, first_end, next_pro
 use Rattle.pm_meaning.specs.Minds.{Mind}
 use Rattle.pm_meaning.specs.Running.{State, Running, Refusing, Over, Item, Do, BlockEnd, FileEnd, Task, Event, Ended, WantsClone, unlocked, inside, locks_of, clone_of, step}
 use Rattle.pm_meaning.specs.declared.ending.Ending.{Ending}
-use Rattle.pm_meaning.specs.declared.process.End.{End}
-use Rattle.pm_run.specs.HeldLocks.{only, names_of, HeldAre, HoldsRight, BeginsRight, AllRight, RunsRight, HoldsOnly, ComesRight, RunStaysRight, OverHoldsGlobal}
-use Rattle.pm_run.proofs.Always.{Always, always_then, always_so, always_plays}
+use Rattle.pm_run.specs.HeldLocks.{names_of, HeldAre, BeginsRight, AllRight, RunsRight, HoldsOnly, ComesRight, RunStaysRight, OverHoldsGlobal}
+use Rattle.pm_run.proofs.Always.{Always, always_then, always_plays}
 use Rattle.pm_run.proofs.NamesOnce.{none_held, only_global}
 use Rattle.pm_run.proofs.RightSteps.{steps_right}
 
@@ -38,17 +37,6 @@ kept_on {S} {X} step P keeps (suc n) s h =
 
 pub arrives_with : {S X : Type 0} (step : S → Plan (Next S X)) (P : S → Type 0) → ((s : S) → P s → Always (OnGo P) (step s)) → (s t : S) (es : List Entry) → P s → ArrivesAt {X = X} step s es t → P t
 arrives_with {S} {X} step P keeps s t es h k = always_plays (OnSome P) (reach {X = X} step k.steps s) es (Some t) (kept_on {X = X} step P keeps k.steps s h) k.plays
-
-right_go : (next : Next State Event) → ComesRight next → OnGo HoldsRight next
-right_go (Go s) h = h
-right_go (Stop event) h = tt
-
--- a process that went on for some steps
-pub process_arrives : (s t : State) (es : List Entry) → HoldsRight s → ArrivesAt {X = Event} step s es t → HoldsRight t
-process_arrives s t es h k = arrives_with {X = Event} step HoldsRight (λ u l. always_so ComesRight (OnGo HoldsRight) (step u) right_go (steps_right u l)) s t es h k
-
-pub process_reaches : (s t : State) (x y : JournalState) (a b : View) → HoldsRight s → Reaches {X = Event} step s t x y a b → HoldsRight t
-process_reaches s t x y a b h k = process_arrives s t k.more h k.arrives
 
 -- a copy takes no lock of its blocks
 none_unlocked : (items : List Item) → names_of (locks_of (unlocked items)) ≡ []
@@ -88,11 +76,6 @@ run_arrives c d es h k = arrives_with {X = Ending} advance RunsRight run_steps c
 
 pub run_reaches : (c d : Course) (x y : JournalState) (a b : View) → RunsRight c → Reaches {X = Ending} advance c d x y a b → RunsRight d
 run_reaches c d x y a b h k = run_arrives c d k.more h k.arrives
-
--- where a process of it is over, that holds LOCKFILE's lock alone, if any
-pub over_holds : (o others : Others) (s : State) (end : End) (p : Mind) (x y : JournalState) (a b : View) → AllRight o.queue → HoldsRight s
-    → Reaches {X = Ending} advance (now_at o s) (now_at others (Over end p)) x y a b → p.locks ≡ only p.global
-over_holds o others s end p x y a b q h k = only_global p.locks p.global (run_reaches (now_at o s) (now_at others (Over end p)) x y a b (h, q) k).0
 
 -- so it is in each run
 pub run_stays_right : RunStaysRight

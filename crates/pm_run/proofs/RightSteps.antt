@@ -8,10 +8,9 @@ use Rattle.pm_message.specs.FromLine.{makes_line}
 use Rattle.pm_recipe.specs.Listed.{rc_of}
 use Rattle.pm_recipe.specs.Tree.{Trees, nil, cons, Tree}
 use Rattle.pm_journal.specs.LogText.{couldnt_read_line, too_many_rcfiles_line, too_many_clones_line, no_delivery_line}
-use Rattle.pm_journal.specs.Plan.{Ends, and_then, ask, Plays}
+use Rattle.pm_journal.specs.Plan.{Ends, and_then, ask}
 use Rattle.pm_journal.specs.Walking.{Next, Stop, Go}
 use Rattle.pm_journal.specs.declared.acts.Act.TheVariants.{Moment}
-use Rattle.pm_journal.specs.declared.acts.Entry.{Entry}
 use Rattle.pm_journal.specs.declared.acts.Reply.{Reply}
 use Rattle.pm_journal.specs.declared.acts.Reply.TheVariants.{Content, Now}
 use Rattle.pm_meaning.specs.Blocks.{begun_block, closed, give_maybe}
@@ -27,7 +26,7 @@ use Rattle.pm_meaning.specs.declared.command_line.CommandLine.{CommandLine}
 use Rattle.pm_meaning.specs.declared.process.End.{End}
 use Rattle.pm_meaning.specs.declared.process.End.TheVariants.{Delivered, FellOff, NoRc, HostOff}
 use Rattle.pm_run.specs.HeldLocks.{ComesRight, named, names_of, HeldAre, HoldsOnly, HoldsRight}
-use Rattle.pm_run.proofs.Always.{Always, always_then, always_if, always_behind, always_said, always_plays}
+use Rattle.pm_run.proofs.Always.{Always, always_then, always_if, always_behind, always_said}
 use Rattle.pm_run.proofs.Kept.{Kept, kept_if, AfterAct, AfterTrap}
 use Rattle.pm_run.proofs.NamesOnce.{none_held}
 use Rattle.pm_run.proofs.KeptOutputs.{kept_trap}
@@ -180,7 +179,3 @@ steps_right (Trapping end p) h =
 steps_right (Unlocking ending p) h =
     always_then (λ (q : Mind). HeldAre [] q.locks None × (q.global ≡ None)) ComesRight (give_named p.global p) (λ q. Ends (Go (Closing ending q))) (kept_given [] p h) (λ q k. k.0.others)
 steps_right (Closing ending p) h = right_closing p.locks (Stop (Ended ending p)) h
-
--- where a step comes to, after whatever it asked for
-pub keeps_right : (s : State) (next : Next State Event) (es : List Entry) → HoldsRight s → Plays (step s) es next → ComesRight next
-keeps_right s next es h k = always_plays ComesRight (step s) es next (steps_right s h) k

@@ -4,7 +4,7 @@ use Rattle.std.proofs.lemmas.List.{drop_more, length-map, get_or-map}
 use Rattle.pm_recipe.specs.Tree.{Top, Trees, Tree, Assign, Unset, Recipe, Defect, Act, Mailbox, Pipe, Capture, Forward, WriteOut, Block}
 use Rattle.pm_recipe.specs.View.{act_of, top_of}
 use Rattle.pm_recipe.specs.declared.tree.Recipe.{Recipe as CodeRecipe}
-use Rattle.pm_code.specs.Flat.{Flat, Does, Enters, Leaves, flat_of, flats_of, written}
+use Rattle.pm_code.specs.Flat.{Flat, Does, Enters, flat_of, flats_of, written}
 use Rattle.pm_code.specs.Ahead.{first, others, lists_of, is_single, has_no_block}
 use Rattle.pm_code.proofs.Reading.{lists-whole}
 use Rattle.pm_code.specs.declared.steps.Step.{Step}
@@ -42,7 +42,7 @@ use Rattle.pm_run.specs.declared.turned.Turned.{Turned}
 use Rattle.pm_run.specs.declared.turned.Turned.TheVariants as turned
 use Rattle.pm_run.specs.declared.walk.Stepped.{Stepped}
 use Rattle.pm_run.specs.declared.walk.Stepped.TheVariants as stepped
-use Rattle.pm_run.proofs.FrameLemmas.{weave_does, weave_enters, weave_stops, weave_leaves, weave_over, weave_left, locks_all, in_file_woven, behind_woven, Jumps, jumps, single_here}
+use Rattle.pm_run.proofs.FrameLemmas.{weave_does, weave_enters, weave_stops, weave_over, locks_all, in_file_woven, behind_woven, Jumps, jumps, single_here}
 
 abbrev Onward : Type 0
 Onward = Next State Event
@@ -341,13 +341,6 @@ pub ends_stop : (steps : List Flat) (place : ℕ) → drop place steps ≡ [] �
 ends_stop steps place e = record {
   block = λ block blocks rest. weave_stops (drop place steps) block blocks rest e;
   file = λ rest. weave_over (drop place steps) rest e;
-  later = omega arith;
-}
-
-pub ends_leave : (steps : List Flat) (place enter : ℕ) → drop place steps ≡ Leaves enter ∷ drop (place + 1) steps → EndsAt steps place (place + 1)
-ends_leave steps place enter e = record {
-  block = λ block blocks rest. weave_leaves (drop place steps) enter (drop (place + 1) steps) block blocks rest e;
-  file = λ rest. weave_left (drop place steps) enter (drop (place + 1) steps) rest e;
   later = omega arith;
 }
 

@@ -5,7 +5,10 @@ ghost use Rattle.std.specs.Prelude.{if◌then◌else◌};
 ghost use Rattle.pm_bytes.specs.Name.{has_zero};
 ghost use Rattle.pm_journal.specs.Executed.{Carries};
 ghost use Rattle.pm_journal.specs.Held.{Keeping};
+ghost use Rattle.pm_journal.specs.Plan.{ask};
 ghost use Rattle.pm_journal.specs.Walking.{Go};
+ghost use Rattle.pm_journal.specs.declared.acts.Act.TheVariants.{Moment};
+ghost use Rattle.pm_journal.specs.declared.acts.Reply.TheVariants.{Now};
 ghost use Rattle.pm_meaning.specs.Delivering;
 ghost use Rattle.pm_meaning.specs.FirstValues.{home_folder};
 ghost use Rattle.pm_meaning.specs.Minds.{mind_of};
@@ -22,7 +25,7 @@ use crate::first_values::{begin, home, login};
 use crate::opening::{Opened, Rule, open_first};
 use crate::turned::Turned;
 use pm_bytes::{Blob, Environ, Memory, Name, Names, Pair};
-use pm_journal::{Effects, HeldLocks, Journal, ask_moment};
+use pm_journal::{Effects, Journal};
 use pm_meaning::{CommandLine, Process, Run};
 use pm_message::{Mail, needs_line, prepare_mail};
 use std::alloc::Global;
@@ -48,9 +51,20 @@ pub fn arrive<D: Effects>(
         let message = Mail::split_own(alloc, bytes)?;
         return begin(alloc, line, env, message);
     }
-    let moment = ask_moment(&HeldLocks::new(alloc), outside, journal)?;
+    let moment = ask_moment(outside, journal)?;
     let message = prepare_mail(alloc, bytes, &line.renew, login(env).as_bytes(), moment)?;
     begin(alloc, line, env, message)
+}
+
+// The moment, in seconds since 1970 in UTC, while no lock is held.
+fn ask_moment<D: Effects>(outside: &mut D, journal: &mut Journal<D::Kept>) -> Result<i64, Memory>
+    requires keeping { Keeping journal.old [] }
+    ensures carries { Carries (ask Moment) (λ moment. Now moment) result
+        journal.old journal.new (D.told outside.old) (D.told outside.new) }
+    ensures keeping { Keeping journal.new [] }
+{
+    journal.reserve(1)?;
+    Ok(outside.moment(journal))
 }
 
 /// The words of the command line set variables, and its rcfiles are opened in order, up to one that is read.

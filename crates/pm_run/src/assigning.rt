@@ -17,7 +17,7 @@ use crate::global_lock::{change_lock, drop_lock};
 use crate::turned::{Turned, turned_by};
 use pm_bytes::{Blob, Memory, Name, full, read_count};
 use pm_host::Looked;
-use pm_journal::{Effects, couldnt_chdir, host_mismatched, probe, unusable_name};
+use pm_journal::{Effects, couldnt_chdir, host_mismatched, unusable_name};
 use pm_meaning::{
     End, Expansion, Process, Run, expand_text, file_name, first_word, outputs_of, skip_value, tell,
 };
@@ -266,7 +266,7 @@ fn probe_folder<D: Effects>(
         run.old.journal run.new.journal (D.told run.old.outside) (D.told run.new.outside) }
 {
     let folder = name.copy(alloc)?;
-    match probe(&run.process.locks, name, &mut run.outside, &mut run.journal)? {
+    match run.probe(name)? {
         Looked::Folder => {
             run.process.base = folder;
             Ok(None)

@@ -1,6 +1,6 @@
 //! Drafts of abstracts.
 ghost use Rattle.std.specs.Prelude.{◌≡◌};
-ghost use Rattle.pm_perform.specs.AbstractParts.{mail_part};
+ghost use Rattle.pm_meaning.specs.AbstractParts.{mail_part};
 ghost use Rattle.pm_meaning.specs.Telling.{log_name};
 
 use pm_bytes::{Blob, Name};

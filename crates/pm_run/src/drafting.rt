@@ -11,8 +11,7 @@ ghost use Rattle.pm_run.specs.Drafts.{IsDrafted, is_draft_for};
 use crate::draft::Draft;
 use pm_bytes::{Blob, Memory};
 use pm_journal::Effects;
-use pm_meaning::{Process, Run, log_name, tell_in, value_or};
-use pm_perform::{logs_last, mail_part, push_folder};
+use pm_meaning::{Process, Run, log_name, logs_last, mail_part, push_folder, tell_in, value_or};
 use std::alloc::Global;
 use std::mem;
 

@@ -14,7 +14,7 @@ ghost use Rattle.pm_meaning.specs.Turns.{say_then};
 ghost use Rattle.pm_meaning.specs.Ends.{is_delivered};
 ghost use Rattle.pm_meaning.specs.Ends;
 ghost use Rattle.pm_meaning.specs.Ends.{trapped_with};
-ghost use Rattle.pm_meaning.specs.Running.{Over, Closing, ending_of};
+ghost use Rattle.pm_meaning.specs.Running.{Over, Closing};
 ghost use Rattle.pm_meaning.specs.Status.{base_status as status_so_far, with_exit_status, is_set};
 ghost use Rattle.pm_meaning.specs.Status.{is_there_empty, says_delivered};
 ghost use Rattle.pm_meaning.specs.Status.{chosen_status as status_chosen, exit_status as status_at};
@@ -29,10 +29,9 @@ use pm_bytes::{Blob, Memory, read_count};
 use pm_host::Command;
 use pm_journal::{Effects, unusable_name, value_too_long};
 use pm_meaning::{
-    End, Ending, Process, ProgramLine, Run, Status, code_of, note_code, read_line, status_of, tell,
-    tell_run, value_or,
+    End, Ending, Process, ProgramLine, Run, Status, abstract_of, code_of, logs_last, note_code,
+    read_line, status_of, tell, tell_run, value_or,
 };
-use pm_perform::{abstract_of, logs_last};
 use std::alloc::Global;
 
 /// The process is over: the abstract of its delivery, of which there may be a draft, is logged, TRAP's program runs,
@@ -210,15 +209,7 @@ fn run_trap<D: Effects>(
         run.old.journal run.new.journal (D.told run.old.outside) (D.told run.new.outside) }
 {
     let input = run.process.message.whole(alloc)?;
-    let end = pm_journal::run(
-        alloc,
-        &run.process.locks,
-        command,
-        input,
-        false,
-        &mut run.outside,
-        &mut run.journal,
-    )?;
+    let end = run.run_program(alloc, command, input, false)?;
     note_code(end, &mut run.process);
     tell_run(alloc, run, end, text)?;
     Ok(code_of(end))

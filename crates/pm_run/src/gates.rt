@@ -15,7 +15,7 @@ ghost use Rattle.pm_meaning.specs.Minds.{Mind, mind_of};
 ghost use Rattle.pm_meaning.specs.Turns.{GoesOn, Enters, say_then};
 ghost use Rattle.pm_subst.specs.Commands.{commands_in};
 ghost use Rattle.pm_subst.specs.declared.kinds.Mode.TheVariants.{One};
-ghost use Rattle.pm_perform.specs.Names.{top_of};
+ghost use Rattle.pm_recipe.specs.View.{top_of};
 ghost use Rattle.pm_meaning.specs.Turning.{turn_of};
 ghost use Rattle.pm_run.specs.Walk.{gate_turn};
 
@@ -24,7 +24,7 @@ use pm_bytes::{Blob, Memory, Name, full};
 use pm_conds::Observer;
 use pm_journal::{Effects, LockEnd, couldnt_lock, forcing_lock, no_lock, take};
 use pm_meaning::{
-    End, Expansion, Process, Run, expand_text, file_name, first_word, outputs_of, skip_value, tell,
+    End, Expansion, Run, expand_text, file_name, first_word, outputs_of, skip_value, tell,
 };
 use pm_perform::{lock_rule, refuse};
 use pm_recipe::Recipe;

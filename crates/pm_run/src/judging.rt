@@ -3,13 +3,12 @@
 ghost use Rattle.std.specs.Prelude.{◌≡◌, IfOk, OnErr};
 ghost use Rattle.pm_journal.specs.Executed.{Carries, OutOfMemory};
 ghost use Rattle.pm_journal.specs.Plan.{Plan};
-ghost use Rattle.pm_recipe.specs.View.{act_of};
+ghost use Rattle.pm_recipe.specs.View.{act_of, top_of};
 ghost use Rattle.pm_meaning.specs.Acting.{acted_turn, acting};
 ghost use Rattle.pm_meaning.specs.Chains.{passed, executed};
 ghost use Rattle.pm_meaning.specs.Judging.{judge_first};
 ghost use Rattle.pm_meaning.specs.Minds.{Mind, mind_of};
 ghost use Rattle.pm_meaning.specs.Turns.{Turn};
-ghost use Rattle.pm_perform.specs.Names.{top_of};
 ghost use Rattle.pm_perform.specs.Undelivered.{Undelivered};
 ghost use Rattle.pm_meaning.specs.Turning.{turn_of};
 ghost use Rattle.pm_run.specs.Coming.{ComesTo, HearsCome};

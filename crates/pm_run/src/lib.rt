@@ -33,6 +33,6 @@ mod walk;
 
 pub use frames::{Open, RcFrame};
 pub use parts::{ProcessEnd, run_process};
-pub use process::{Arrival, run_observed, run_processes};
+pub use process::{Arrival, run_processes};
 pub use queue::Queue;
 pub use task::Task;

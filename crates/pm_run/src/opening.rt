@@ -19,7 +19,7 @@ use crate::frames::Frames;
 use crate::rcfiles::read_statements;
 use pm_bytes::{Blob, Memory, Name};
 use pm_code::{Code, compile};
-use pm_journal::{Effects, couldnt_read, read, too_many_rcfiles};
+use pm_journal::{Effects, couldnt_read, too_many_rcfiles};
 use pm_meaning::{End, Process, Run, new_chain, tell};
 use pm_recipe::Rc;
 use std::alloc::Global;
@@ -122,13 +122,7 @@ fn read_one<D: Effects>(
         run.old.journal run.new.journal (D.told run.old.outside) (D.told run.new.outside)) }
 {
     let noted = name.copy(alloc)?;
-    match read(
-        alloc,
-        &run.process.locks,
-        noted,
-        &mut run.outside,
-        &mut run.journal,
-    )? {
+    match run.read(alloc, noted)? {
         Some(rc) => {
             let code = code_of(alloc, rc.as_slice())?;
             enter(alloc, rule, &name, &mut run.process)?;

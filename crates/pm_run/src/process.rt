@@ -20,7 +20,7 @@ use crate::remaining::{run_frames, run_opened};
 use crate::task::Copy;
 use core::mem::replace_with;
 use pm_bytes::{Blob, Environ, Memory};
-use pm_conds::{NoObserver, Observer};
+use pm_conds::Observer;
 use pm_journal::{Effects, Entries, Journal, give_all};
 use pm_meaning::{CommandLine, Ending, Process, Run};
 use std::alloc::Global;
@@ -56,27 +56,9 @@ pub struct Ran<K: Entries> {
 
 /// Runs the process that delivers this mail, and then the copies of it that were made for blocks, one after the other.
 /// The answer is how the first process ended. No lock is held afterwards, and after want of memory the removal of each
-/// one that was held has been tried once.
-pub fn run_processes<D: Effects>(
-    alloc: Global,
-    arrival: Arrival<'_>,
-    outside: &mut D,
-    journal: &mut Journal<D::Kept>,
-) -> Result<Ending, Memory>
-    requires keeping { Keeping journal.old [] }
-    ensures ok { IfOk result (λ ending.
-        Completes advance (run_of arrival.entry.line arrival.entry.env.now arrival.entry.bytes) ending
-        journal.old journal.new (D.told outside.old) (D.told outside.new)) }
-    ensures memory { OnErr result (GaveUp (run_of arrival.entry.line arrival.entry.env.now arrival.entry.bytes)
-        journal.old journal.new (D.told outside.old) (D.told outside.new)) }
-    ensures keeping { Keeping journal.new [] }
-{
-    run_observed(alloc, arrival, outside, journal, &mut NoObserver)
-}
-
-/// The same as [`run_processes`]. The observer hears of the recipes that the processes come to, and of the conditions
-/// that are judged.
-pub fn run_observed<D: Effects, N: Observer>(
+/// one that was held has been tried once. The observer hears of the recipes that the processes come to, and of the
+/// conditions that are judged.
+pub fn run_processes<D: Effects, N: Observer>(
     alloc: Global,
     arrival: Arrival<'_>,
     outside: &mut D,

@@ -21,7 +21,7 @@ use crate::frames::{Frames, Waiting};
 use crate::leaving::leave_file;
 use pm_bytes::{Memory, Name};
 use pm_code::{Code, compile};
-use pm_journal::{Effects, couldnt_read, read, too_many_rcfiles};
+use pm_journal::{Effects, couldnt_read, too_many_rcfiles};
 use pm_meaning::{Process, Run, new_chain, tell};
 use pm_recipe::{Rc, RcRefused, Statements, one_rc, read_rc};
 use std::alloc::Global;
@@ -185,13 +185,7 @@ fn read_code<D: Effects>(
         Err(Memory) => return Err(Memory),
         Ok(noted) => noted,
     };
-    match read(
-        alloc,
-        &run.process.locks,
-        noted,
-        &mut run.outside,
-        &mut run.journal,
-    ) {
+    match run.read(alloc, noted) {
         Err(Memory) => Err(Memory),
         Ok(content) => match content {
             None => tell_unread(alloc, run, name),

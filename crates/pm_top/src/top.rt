@@ -18,7 +18,7 @@ use pm_host::{Child, Host, Sink, Source};
 use pm_journal::{Entries, Journal};
 use pm_meaning::{CommandLine, End, Ending, Status};
 use pm_objects::{Objects, lend};
-use pm_run::{Arrival, run_observed};
+use pm_run::{Arrival, run_processes};
 use pm_streams::{Mail, read_mail};
 use std::alloc::Global;
 
@@ -236,7 +236,7 @@ fn run_objects<'a, H: Host, O: Sink, E: Sink, K: Entries, N: Observer>(
     ensures out { objects.new.out.ghost_name ≡ objects.old.out.ghost_name }
     ensures err { objects.new.err.ghost_name ≡ objects.old.err.ghost_name }
 {
-    run_observed(alloc, arrival, objects, journal, observer)
+    run_processes(alloc, arrival, objects, journal, observer)
 }
 
 // The status of a run that ended so; a mail filter without its rcfile says so.

@@ -26,7 +26,10 @@ returns-clause-carries g c =
     let m = c.args.mind.now in
     let s = c.args.shared.now in
     let plan = work_of c.args.work in
-    let q = mind_of c.work_apart-acted.result.process in
+    let q = mind_of c.replace_with-acted.result.process in
     let taken : mind_of c.in_ok-process.process ≡ state_in m s = c.in_ok-process.ensures.state ∙ ap (λ h. state_of m h s.placed) c.in_ok-host_name.ensures in
-    let asked = carried (plan (mind_of c.in_ok-process.process)) (plan (state_in m s)) (λ acted. acted_with acted q) _ _ _ _ _ (ap plan taken) c.work_apart-acted.ensures.carries in
+    let asked = carried (plan (mind_of c.in_ok-process.process)) (plan (state_in m s)) (λ acted. acted_with acted q) _ _ _ _ _ (ap plan taken) (rw c.replace.ensures.value at c.replace_with-acted.ensures.0) in
     carries_seen (plan (state_in m s)) bare_end (λ acted. acted_with acted q) (λ acted. acted_with acted (state_of c.restore-host_name.new.self c.restore-host_name.result.0 c.restore-host_name.result.1)) _ _ _ _ _ (λ acted. ap (acted_with acted) (sym c.restore-host_name.ensures.state)) asked
+
+pub returns-clause-sure : goal.returns-clause-sure
+returns-clause-sure g c = rw c.replace.ensures.value at c.replace_with-acted.ensures.1.0

@@ -21,7 +21,7 @@ returns-in_err-tell_run g c = record {
       let p = mind_of c.args.run.now.process in
       let q = mind_of c.note_code.new.process in
       let ran = c.in_ok-end.ensures.ok in
-      let noted = c.note_code.ensures.mind in (
+      let noted = rw c.run_program.ensures.same at c.note_code.ensures.mind in (
         search rules,
         on_err _ _ (program_then_out c.args.command c.in_ok-input.input c.args.line.now c.args.flags c.args.question.now p ran.reply _ _ _ _ _ _ c.in_ok-input.ensures ran.executes
             (program_untold c.args.line.now c.args.question.now c.in_ok-end.end p q ran.reply (ran.end_is, noted) _ _ _ _ c.in_err-tell_run.ensures.carries.1)),
@@ -34,7 +34,7 @@ returns g c = record {
       let p = mind_of c.args.run.now.process in
       let q = mind_of c.note_code.new.process in
       let ran = c.in_ok-end.ensures.ok in
-      let noted = c.note_code.ensures.mind in
+      let noted = rw c.run_program.ensures.same at c.note_code.ensures.mind in
       rw c.tell_run.ensures.same (
         program_then c.args.command c.in_ok-input.input c.args.line.now c.args.flags c.args.question.now p ran.reply c.exited.result q _ _ _ _ _ _ c.in_ok-input.ensures ran.executes
             (program_told c.args.line.now c.args.question.now c.in_ok-end.end p q ran.reply (ran.end_is, noted) c.exited.result _ _ _ _ (c.exited.ensures ∙ ap (exited c.args.question.now) c.code_of.ensures) c.in_ok-tell_run.ensures.carries.0),

@@ -19,10 +19,10 @@ returns-in_err-process-clause-carries g c = (search rules, on_err _ _ (out_anywh
 pub returns-clause-carries : goal.returns-clause-carries
 returns-clause-carries g c =
     let before = c.args.mind.now in
-    let p = mind_of c.hold_parts-held.new.mind in
+    let p = mind_of c.replace_with-held.result.process in
     let plan : Mind → Plan Held = λ m. holding c.args.conditions.now c.args.flags m in
     let none : c.from_text-nowhere.result ≡ [] = c.from_text-nowhere.ensures ∙ c.new.ensures.bytes in
     let taken : mind_of c.in_ok-process.process ≡ judged_of before = c.in_ok-process.ensures.state ∙ ap (λ h. state_of before h 0) none in
     let back : judged_of c.restore.new.self ≡ seen_alone p = ap alone c.restore.ensures.state in
-    let asked = carried (plan (mind_of c.in_ok-process.process)) (plan (judged_of before)) (λ held. held_with held p) _ _ _ _ _ (ap plan taken) c.hold_parts-held.ensures.carries in
+    let asked = carried (plan (mind_of c.in_ok-process.process)) (plan (judged_of before)) (λ held. held_with held p) _ _ _ _ _ (ap plan taken) (rw c.replace.ensures.value at c.replace_with-held.ensures.0) in
     carries_seen (plan (judged_of before)) held_alone (λ held. held_with held p) (λ held. held_with held (judged_of c.restore.new.self)) _ _ _ _ _ (λ held. ap (held_with held) (sym back)) asked

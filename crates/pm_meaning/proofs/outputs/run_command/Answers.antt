@@ -29,8 +29,8 @@ returns-in_err-tell_run g c = record {
       let p = mind_of c.args.run.now.process in
       let q = mind_of c.note_code.new.process in
       let ran = c.in_ok-end.ensures.ok in
-      let came = last_output c.run.new.journal.entries in
-      let noted = c.note_code.ensures.mind in (
+      let came = last_output c.run_program.new.self.journal.entries in
+      let noted = rw c.run_program.ensures.same at c.note_code.ensures.mind in (
         search rules,
         on_err _ _ (command_then_out c.args.command c.in_ok-input.input c.args.text.now p ran.reply _ _ _ _ _ _ c.in_ok-input.ensures ran.executes
             (untold_behind c.args.command c.in_ok-input.input c.args.text.now c.in_ok-end.end came p q ran.reply (ran.end_is, ran.output, noted) _ _ _ _ c.in_err-tell_run.ensures.carries.1)),
@@ -43,8 +43,8 @@ returns g c = record {
       let p = mind_of c.args.run.now.process in
       let q = mind_of c.note_code.new.process in
       let ran = c.in_ok-end.ensures.ok in
-      let came = last_output c.run.new.journal.entries in
-      let noted = c.note_code.ensures.mind in
+      let came = last_output c.run_program.new.self.journal.entries in
+      let noted = rw c.run_program.ensures.same at c.note_code.ensures.mind in
       rw c.tell_run.ensures.same (
         command_then c.args.command c.in_ok-input.input c.args.text.now p ran.reply c.in_ok-output.output q _ _ _ _ _ _ c.in_ok-input.ensures ran.executes
             (told_behind c.args.command c.in_ok-input.input c.args.text.now c.in_ok-end.end came p q ran.reply (ran.end_is, ran.output, noted) c.in_ok-output.output _ _ _ _ c.in_ok-output.ensures c.in_ok-tell_run.ensures.carries.0),

@@ -15,6 +15,6 @@ returns-clause-carries g c =
     let p = mind_of c.args.run.now.process in
     let is = named_file c.args.name c.unless_held-to.result p c.requires.named c.unless_held-to.ensures in
     let there = sym c.is_nowhere.ensures ∙ c.if-is_nowhere.false in (
-      ok_map c.say_to.result _ _ (λ u h. tells_line c.unless_held-to.result c.args.line p _ _ _ _ is there h) c.say_to.ensures.ok,
-      err_map c.say_to.result _ _ (λ h. tells_none c.unless_held-to.result c.args.line p _ _ _ _ is there h) c.say_to.ensures.memory,
+      ok_map c.say.result _ _ (λ u h. tells_line c.unless_held-to.result c.args.line p _ _ _ _ is there h) c.say.ensures.ok,
+      err_map c.say.result _ _ (λ h. tells_none c.unless_held-to.result c.args.line p _ _ _ _ is there h) c.say.ensures.memory,
     )

@@ -1,8 +1,7 @@
-use Rattle.pm_recipe.specs.View.{act_of}
+use Rattle.pm_recipe.specs.View.{act_of, top_of}
 use Rattle.pm_meaning.specs.Acting.{act_on}
 use Rattle.pm_meaning.specs.ProgramActions.{write_out}
 use Rattle.pm_meaning.specs.Minds.{mind_of}
-use Rattle.pm_perform.specs.Names.{top_of}
 use Rattle.pm_meaning.proofs.Choices.{carried}
 use Rattle.pm_perform.proofs.DeliverLemmas.{goes_on, acts_block, stores, pipes, captures, forwards, writes_out}
 use Rattle.std.proofs.Common.{OnErr, subst}

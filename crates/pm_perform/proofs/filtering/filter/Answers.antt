@@ -15,5 +15,5 @@ returns-clause-carries g c =
     let p = mind_of c.args.run.now.process in
     let q = mind_of c.note_code.new.process in
     let ran = c.in_ok-end.ensures.ok in
-    was_filtered c.args.flags c.args.command c.args.input p _ _ _ _ ran.reply _ c.in_ok-end.end _ (last_output c.run.new.journal.entries) (text_or [] (last_output c.run.new.journal.entries)) q (mind_of c.take_mail.new.process) c.take_mail.result
-    (record { end_is = ran.end_is; output_is = ran.output; mind_is = c.note_code.ensures.mind }) c.len-count.ensures c.feed_outcome-fed.ensures refl ran.executes c.take_mail.ensures.outcome c.take_mail.ensures.mind
+    was_filtered c.args.flags c.args.command c.args.input p _ _ _ _ ran.reply _ c.in_ok-end.end _ (last_output c.run_program.new.self.journal.entries) (text_or [] (last_output c.run_program.new.self.journal.entries)) q (mind_of c.take_mail.new.process) c.take_mail.result
+    (record { end_is = ran.end_is; output_is = ran.output; mind_is = rw c.run_program.ensures.same at c.note_code.ensures.mind }) c.len-count.ensures c.feed_outcome-fed.ensures refl ran.executes c.take_mail.ensures.outcome c.take_mail.ensures.mind

@@ -20,11 +20,11 @@ pub returns-in_err-tell-in_default : goal.returns-in_err-tell-in_default
 returns-in_err-tell-in_default g c = record {
   carries = (
     search rules,
-    on_err _ _ (folder_untold c.args.name _ _ (mind_of c.args.run.now.process) _ c.args.run.now.journal c.probe.new.journal c.tell.new.run.journal _ _ _ c.in_default.not-Folder c.in_ok-folder.ensures c.in_ok-line-in_default.ensures c.in_ok-probe.ensures.carries.0 c.in_err-tell-in_default.ensures.carries.1),
+    on_err _ _ (folder_untold c.args.name _ _ (mind_of c.args.run.now.process) _ c.args.run.now.journal c.probe.new.self.journal c.tell.new.run.journal _ _ _ c.in_default.not-Folder c.in_ok-folder.ensures c.in_ok-line-in_default.ensures c.in_ok-probe.ensures.carries.0 (rw c.probe.ensures.same at c.in_err-tell-in_default.ensures.carries.1)),
   );
 }
 
 pub returns-in_ok-tell-in_default : goal.returns-in_ok-tell-in_default
 returns-in_ok-tell-in_default g c = record {
-  carries = rw c.tell.ensures.same (folder_missed c.args.name _ _ (mind_of c.args.run.now.process) _ c.args.run.now.journal c.probe.new.journal c.tell.new.run.journal _ _ _ c.in_default.not-Folder c.in_ok-folder.ensures c.in_ok-line-in_default.ensures c.in_ok-probe.ensures.carries.0 c.in_ok-tell-in_default.ensures.carries.0, tt);
+  carries = rw (c.tell.ensures.same, c.probe.ensures.same) (folder_missed c.args.name _ _ (mind_of c.args.run.now.process) _ c.args.run.now.journal c.probe.new.self.journal c.tell.new.run.journal _ _ _ c.in_default.not-Folder c.in_ok-folder.ensures c.in_ok-line-in_default.ensures c.in_ok-probe.ensures.carries.0 (rw c.probe.ensures.same at c.in_ok-tell-in_default.ensures.carries.0), tt);
 }

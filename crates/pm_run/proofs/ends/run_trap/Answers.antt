@@ -20,7 +20,7 @@ returns-in_err-tell_run g c = record {
       let p = mind_of c.args.run.now.process in
       let q = mind_of c.note_code.new.process in
       let ran = c.in_ok-end.ensures.ok in
-      let noted = c.note_code.ensures.mind in (
+      let noted = rw c.run_program.ensures.same at c.note_code.ensures.mind in (
         search rules,
         on_err _ _ (trap_then_out c.args.command c.in_ok-input.input c.args.text.now p ran.reply _ _ _ _ _ _ c.in_ok-input.ensures ran.executes
             (untold_behind c.args.text.now c.in_ok-end.end p q ran.reply (ran.end_is, noted) _ _ _ _ c.in_err-tell_run.ensures.carries.1)),
@@ -33,7 +33,7 @@ returns g c = record {
       let p = mind_of c.args.run.now.process in
       let q = mind_of c.note_code.new.process in
       let ran = c.in_ok-end.ensures.ok in
-      let noted = c.note_code.ensures.mind in rw c.tell_run.ensures.same (
+      let noted = rw c.run_program.ensures.same at c.note_code.ensures.mind in rw c.tell_run.ensures.same (
         trap_then c.args.command c.in_ok-input.input c.args.text.now p ran.reply c.code_of.result q _ _ _ _ _ _ c.in_ok-input.ensures ran.executes
             (told_behind c.args.text.now c.in_ok-end.end p q ran.reply (ran.end_is, noted) c.code_of.result _ _ _ _ c.code_of.ensures c.in_ok-tell_run.ensures.carries.0),
         tt,

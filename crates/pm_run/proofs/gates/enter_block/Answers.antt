@@ -2,7 +2,7 @@ use Rattle.std.proofs.Common.{None, Some, ap, ◌∙◌}
 use Rattle.pm_meaning.specs.Blocks.{enter_under, enter_block}
 use Rattle.pm_meaning.specs.Minds.{mind_of}
 use Rattle.pm_meaning.specs.Turns.{Enters, Clones}
-use Rattle.pm_perform.specs.Names.{top_of}
+use Rattle.pm_recipe.specs.View.{top_of}
 use Rattle.pm_meaning.proofs.Choices.{carried}
 use Rattle.pm_run.proofs.GateLemmas.{at_end, copies, enters}
 use Rattle.pm_run.proofs.gates.enter_block.Goals as goal

@@ -5,7 +5,7 @@ use Rattle.pm_meaning.specs.Blocks.{enter_block}
 use Rattle.pm_meaning.specs.Judging.{judge_first}
 use Rattle.pm_meaning.specs.Minds.{Mind, mind_of}
 use Rattle.pm_meaning.specs.Turns.{Turn}
-use Rattle.pm_perform.specs.Names.{top_of}
+use Rattle.pm_recipe.specs.View.{top_of}
 use Rattle.pm_run.proofs.JudgeLemmas.{acts_on}
 use Rattle.pm_run.proofs.gates.pass_gate.Goals as goal
 

@@ -5,7 +5,7 @@ use Rattle.pm_journal.proofs.WantsMemory.{on_err, out_anywhere}
 use Rattle.pm_meaning.specs.Judging.{judge_first}
 use Rattle.pm_meaning.specs.Minds.{Mind, mind_of}
 use Rattle.pm_meaning.specs.Turns.{Turn}
-use Rattle.pm_perform.specs.Names.{top_of}
+use Rattle.pm_recipe.specs.View.{top_of}
 use Rattle.pm_run.proofs.JudgeLemmas.{not_admitted, judging_wants, comes_to_act, comes_to_none, hears_no_more, hears_conditions}
 use Rattle.pm_run.proofs.judging.come_to.Goals as goal
 

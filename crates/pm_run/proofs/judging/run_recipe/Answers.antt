@@ -1,11 +1,10 @@
 use Rattle.std.proofs.Common.{rules}
 use Rattle.pm_journal.proofs.WantsMemory.{on_err}
-use Rattle.pm_recipe.specs.View.{act_of}
+use Rattle.pm_recipe.specs.View.{act_of, top_of}
 use Rattle.pm_meaning.specs.Acting.{acting}
 use Rattle.pm_meaning.specs.Judging.{judge_first}
 use Rattle.pm_meaning.specs.Minds.{Mind, mind_of}
 use Rattle.pm_meaning.specs.Turns.{Turn, GoesOn}
-use Rattle.pm_perform.specs.Names.{top_of}
 use Rattle.pm_meaning.proofs.Choices.{err_map}
 use Rattle.pm_journal.specs.Plan.{Plan, Ends}
 use Rattle.pm_run.proofs.MayLemmas.{judging_may, acting_may}

@@ -19,13 +19,13 @@ returns-in-Err-read-clause-memory g c = λ (rest : List Item) (go : Reading).
 
 pub returns-in-None-clause-reads : goal.returns-in-None-clause-reads
 returns-in-None-clause-reads g c =
-    ok_both c.tell_unread.result _ _ _ (λ code told none. reads_none c.args.name.now c.in-Ok.noted c.in-Ok-read.content (mind_of c.args.run.now.process) c.args.run.now.journal c.read.new.journal _ _ c.in-Ok.ensures c.in-Ok-read.ensures.ok code _ _ c.in-None.is none told)
-    (ok_every c.tell_unread.result _ (λ next. (c.tell_unread.ensures.carries next).0)) c.tell_unread.ensures.none
+    ok_both c.tell_unread.result _ _ _ (λ code told none. reads_none c.args.name.now c.in-Ok.noted c.in-Ok-read.content (mind_of c.args.run.now.process) c.args.run.now.journal c.read.new.self.journal _ _ c.in-Ok.ensures c.in-Ok-read.ensures.ok code _ _ c.in-None.is none told)
+    (ok_every c.tell_unread.result _ (λ next. ((rw c.read.ensures.same at c.tell_unread.ensures.carries) next).0)) c.tell_unread.ensures.none
 
 pub returns-in-None-clause-memory : goal.returns-in-None-clause-memory
 returns-in-None-clause-memory g c =
-    err_map c.tell_unread.result _ _ (λ told (rest : List Item) (go : Reading). reads_none_out c.args.name.now c.in-Ok.noted c.in-Ok-read.content (mind_of c.args.run.now.process) c.args.run.now.journal c.read.new.journal _ _ c.in-Ok.ensures c.in-Ok-read.ensures.ok rest go _ _ c.in-None.is (told_for rest (mind_of c.args.run.now.process) (couldnt_read_line c.args.name.now) c.read.new.journal c.tell_unread.new.run.journal _ _ told))
-    (err_every c.tell_unread.result _ (λ next. (c.tell_unread.ensures.carries next).1))
+    err_map c.tell_unread.result _ _ (λ told (rest : List Item) (go : Reading). reads_none_out c.args.name.now c.in-Ok.noted c.in-Ok-read.content (mind_of c.args.run.now.process) c.args.run.now.journal c.read.new.self.journal _ _ c.in-Ok.ensures c.in-Ok-read.ensures.ok rest go _ _ c.in-None.is (told_for rest (mind_of c.args.run.now.process) (couldnt_read_line c.args.name.now) c.read.new.self.journal c.tell_unread.new.run.journal _ _ told))
+    (err_every c.tell_unread.result _ (λ next. ((rw c.read.ensures.same at c.tell_unread.ensures.carries) next).1))
 
 pub returns-in-Some-clause-reads : goal.returns-in-Some-clause-reads
 returns-in-Some-clause-reads g c =

@@ -1,0 +1,18 @@
+use Rattle.std.proofs.Common.{rules}
+use Rattle.pm_journal.proofs.ActLemmas.{file_read, file_left, read_keeps}
+use Rattle.pm_journal.proofs.WantsMemory.{on_err, out_anywhere}
+use Rattle.pm_meaning.proofs.run.Run.read.Goals as goal
+
+pub returns-in_err-reserve-clause-memory : goal.returns-in_err-reserve-clause-memory
+returns-in_err-reserve-clause-memory g c = on_err _ _ (out_anywhere _ _ _ _ c.reserve.ensures.same)
+
+pub returns-clause-ok : goal.returns-clause-ok
+returns-clause-ok g c = file_read _ _ c.args.self.now.journal c.reserve.new.self c.read.new.journal _ _ c.reserve.ensures.same c.read.ensures.ok
+
+pub returns-clause-memory : goal.returns-clause-memory
+returns-clause-memory g c = file_left _ _ c.args.self.now.journal c.reserve.new.self c.read.new.journal _ _ c.reserve.ensures.same c.read.ensures.left c.read.ensures.same
+
+pub invariant_of-self-2 : goal.invariant_of-self-2
+invariant_of-self-2 g c =
+    let kept = read_keeps _ _ c.args.self.now.journal c.reserve.new.self c.read.new.journal _ _ _ (record { keeps = c.args.self.now.keeps; room = c.args.self.now.room }) c.reserve.ensures.same (search rules) c.read.ensures.ok c.read.ensures.same in
+    record { keeps = kept.keeps; room = kept.room }
