@@ -29,7 +29,7 @@ pub struct Run<D: Asks> {
 }
 
 impl<D: Asks> Run<D> {
-    /// Says a line in the file `to`, or on `err` where there is none. After want of memory nothing was noted.
+    /// Says a line in the file `to`, or on `err` where there is none.
     pub fn say(&mut self, to: Option<Name>, line: Blob) -> Result<(), Memory>
         ensures ok { IfOk result (λ _. SaysTo to line
             self.old.journal self.new.journal (D.told self.old.outside) (D.told self.new.outside)) }
@@ -42,8 +42,7 @@ impl<D: Asks> Run<D> {
         Ok(())
     }
 
-    /// Runs a program and waits for it. The journal's last entry then has its output, where that is wanted. After want
-    /// of memory nothing was noted.
+    /// Runs a program and waits for it. The journal's last entry then has its output, where that is wanted.
     pub fn run_program(
         &mut self,
         alloc: Global,
@@ -64,7 +63,7 @@ impl<D: Asks> Run<D> {
 }
 
 impl<D: Effects> Run<D> {
-    /// Looks at a name. After want of memory nothing was noted.
+    /// Looks at a name.
     pub fn probe(&mut self, name: Name) -> Result<Looked, Memory>
         ensures carries { Carries (ask (Probe name)) (λ looked. Found looked) result
             self.old.journal self.new.journal (D.told self.old.outside) (D.told self.new.outside) }
@@ -74,7 +73,7 @@ impl<D: Effects> Run<D> {
         Ok(self.outside.probe(&mut self.journal, name))
     }
 
-    /// Reads a whole file; `None` where the reply isn't its content. After want of memory nothing was noted.
+    /// Reads a whole file; `None` where the reply isn't its content.
     pub fn read(&mut self, alloc: Global, name: Name) -> Result<Option<Blob>, Memory>
         ensures ok { IfOk result (λ content. ReadsWhole name content
             self.old.journal self.new.journal (D.told self.old.outside) (D.told self.new.outside)) }
