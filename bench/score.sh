@@ -3,19 +3,19 @@
 # time of a delivery to /dev/null by turns, the median of five, and how the instructions grow from 16 KiB to 1 MiB, by
 # valgrind (exponent 1: in proportion to the mail). It isn't part of the check.
 #
-#     bench/score.sh              with bin/procmail
-#     bench/score.sh PROGRAM      with another build of procmail
-#     bench/score.sh bench_parts  with bin/bench_parts, which counts and delivers nothing (bench/egrep.sh builds it)
+#     bench/score.sh          with bin/procmail
+#     bench/score.sh PROGRAM  with another build of procmail
+#     bench/score.sh calls    with bin/calls, which counts and delivers nothing (bench/egrep.sh builds it)
 set -eu
 cd "$(dirname "$0")/.."
 turns=5
 ours=${1:-bin/procmail}
 case $ours in
-    bench_parts) ours=bin/bench_parts counts=yes ;;
+    calls) ours=bin/calls counts=yes ;;
     *) counts=no ;;
 esac
 if [ ! -x "$ours" ]; then
-    echo "score.sh: $ours isn't there: skipped (make builds bin/procmail, bench/egrep.sh bin/bench_parts)"
+    echo "score.sh: $ours isn't there: skipped (make builds bin/procmail, bench/egrep.sh bin/calls)"
     exit 0
 fi
 ours=$(realpath "$ours")
@@ -26,7 +26,7 @@ trap 'rm -rf "$folder"' EXIT
 cd "$folder"
 unset MAILDIR DEFAULT ORGMAIL
 
-# The same texts as in crates/bench_parts/src/area.rt.
+# The same texts as in crates/calls/src/area.rt.
 links='<p>See <a href="https://shop.example/item?id=4711">this offer</a> or '
 links+='<a class="more" href="https://shop.example/list">all of them</a>, <b>today</b> only.</p> '
 prose='thank you for the notes about our meeting on Tuesday. I have read them twice and I '

@@ -57,7 +57,7 @@ fn act(alloc: Global, report: &mut Report, rcfile: &[u8], world: World<'_>) -> R
     let rc = read_rc(alloc, rcfile)?;
     match rc.statements.as_slice().first() {
         Some(Statement::Recipe(recipe)) => act_on(alloc, report, recipe, world),
-        _ => Err(Failed),
+        _ => Err(Failed::Call),
     }
 }
 

@@ -48,7 +48,7 @@ fn judge_first(
 ) -> Result<(), Failed> {
     match statements.first() {
         Some(Statement::Recipe(recipe)) => judge_mail(alloc, report, recipe, mail),
-        _ => Err(Failed),
+        _ => Err(Failed::Call),
     }
 }
 

@@ -1,40 +1,79 @@
-//! Makes public calls of the libraries, each with the types that any other program would give it, and prints a line for
-//! each answer. `stdout` beside it has the answers that the rules of the manuals give. It is safe and total; what it
-//! prints is not stated.
+//! Makes public calls of the libraries and the calls of the real host that standard input lists, and prints their
+//! answers; with words on its command line it does one thing of procmail's once instead, which `bench/` measures.
+//!
+//! The calls of the libraries have the types that any other program would give them, and each answer is a line: the
+//! crate's `stdout` has those that the rules of the manuals give. `listing` says what is printed of the host's calls,
+//! and `measured` has the words. The status is 0 only if each call was answered, and each of the host's as is wanted.
+//! It is safe and total; what it prints is not stated.
 #![tactic(auto)]
 
 mod actions;
+mod answers;
 mod appends;
+mod area;
 mod caches;
+mod children;
 mod conditions;
 mod edits;
 mod failed;
+mod host_calls;
+mod listing;
 mod locks;
 mod mailboxes;
 mod mails;
+mod measured;
 mod minds;
+mod others;
 mod processes;
 mod rcfiles;
+mod reading;
 mod report;
 mod scores;
 mod searches;
+mod searching;
+mod session;
 mod turns;
 mod world;
 
+use failed::Failed;
+use listing::make_listed;
+use measured::measure;
+use pm_start::{Words, read_words};
 use report::Report;
 use std::alloc::Global;
 use std::process::ExitCode;
 
-const FAILED: u8 = 1;
-
 fn main(rt: HostRuntime) -> ExitCode {
+    match run(&rt) {
+        Ok(()) => ExitCode::SUCCESS,
+        Err(failed) => ExitCode::from(failed.status()),
+    }
+}
+
+fn run(rt: &HostRuntime) -> Result<(), Failed> {
+    match read_words(rt.alloc(), rt) {
+        Words::Read(words) => run_by(rt, words.as_slice()),
+        Words::NoText | Words::Memory => Err(Failed::Call),
+    }
+}
+
+// Without words all calls are made.
+fn run_by(rt: &HostRuntime, words: &[String]) -> Result<(), Failed> {
+    if words.is_empty() {
+        print_report(rt)?;
+        return make_listed(rt);
+    }
+    measure(rt, words)
+}
+
+fn print_report(rt: &HostRuntime) -> Result<(), Failed> {
     let report = make_report(rt.alloc());
     if report.is_lost() {
-        return ExitCode::from(FAILED);
+        return Err(Failed::Call);
     }
     match print!(rt; "{}", report.text()) {
-        Ok(()) => ExitCode::SUCCESS,
-        Err(_) => ExitCode::from(FAILED),
+        Ok(()) => Ok(()),
+        Err(_) => Err(Failed::Call),
     }
 }
 

@@ -210,7 +210,7 @@ fn first_task(alloc: Global, under_m: bool) -> Result<Task, Failed>
     let mut mind = mind_with(alloc, MAIL)?;
     if name_rcfiles(alloc, &mut mind.rcfiles).is_err() {
         drop(mind);
-        return Err(Failed);
+        return Err(Failed::Call);
     }
     let opening = Opening {
         under_m,

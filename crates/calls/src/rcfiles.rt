@@ -1,7 +1,7 @@
 //! The statements of rcfiles, copies of them, and their flat code (pm_recipe, pm_code).
 use crate::failed::Failed;
 use crate::report::Report;
-use pm_code::{Step, compile};
+use pm_code::{Code, Step, compile};
 use pm_recipe::{Action, Condition, Recipe, Statement, Weight, copy_statements, read_rc};
 use std::alloc::Global;
 
@@ -16,6 +16,8 @@ pub fn show(alloc: Global, report: &mut Report) {
     let shown = show_statements(alloc, report);
     report.lines(shown);
     let shown = show_code(alloc, report);
+    report.lines(shown);
+    let shown = show_deep(alloc, report);
     report.lines(shown);
 }
 
@@ -34,10 +36,33 @@ fn show_copied(alloc: Global, report: &mut Report, statements: &[Statement]) -> 
 fn show_code(alloc: Global, report: &mut Report) -> Result<(), Failed> {
     let rc = read_rc(alloc, BLOCKS)?;
     let code = compile(alloc, &rc)?;
+    let copy = code.copy(alloc)?;
+    print_steps(report, &code);
+    print_steps(report, &copy);
+    Ok(())
+}
+
+// How many steps blocks make that are as deep as they may be.
+fn show_deep(alloc: Global, report: &mut Report) -> Result<(), Failed> {
+    let mut text = Vec::new(alloc);
+    for _ in 0..1000 {
+        text.extend_from_slice(b":0\n{\n")?;
+    }
+    text.extend_from_slice(b":0\nmbox\n")?;
+    for _ in 0..1000 {
+        text.extend_from_slice(b"}\n")?;
+    }
+    let rc = read_rc(alloc, text.as_slice())?;
+    let code = compile(alloc, &rc)?;
+    let copy = code.copy(alloc)?;
+    report.answer("steps", (code.steps.len(), copy.steps.len()));
+    Ok(())
+}
+
+fn print_steps(report: &mut Report, code: &Code) {
     for step in &code.steps {
         print_step(report, step);
     }
-    Ok(())
 }
 
 fn print_statements(report: &mut Report, call: &str, statements: &[Statement]) {

@@ -6,8 +6,6 @@ mod code;
 mod compiling;
 mod laws;
 mod steps;
-#[cfg(test)]
-mod tests;
 
 pub use code::Code;
 pub use compiling::compile;

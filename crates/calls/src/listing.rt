@@ -1,33 +1,20 @@
-//! Makes the calls of the real host that standard input lists, compares their answers with those that are wanted, and
-//! prints each that differs, and last how many passed and failed. docs/CASES.md has the lines. Its status is 0 only if
-//! none failed. It is safe and total; what it prints is not stated.
-#![tactic(auto)]
-
-mod answers;
-mod calls;
-mod children;
-mod others;
-mod session;
-
+//! The calls of the real host that standard input lists. docs/CASES.md has the lines.
+use crate::failed::Failed;
+use crate::session::{Session, Tally};
 use cases::{Refused, read_lines};
 use pm_host::{Sink, Source};
 use pm_real::{RealSink, RealSource, Setup};
 use pm_streams::{Mail, WriteEnd, read_mail, write_text};
-use session::{Session, Tally};
 use std::alloc::Global;
 use std::fs::File;
-use std::process::ExitCode;
 
-// The status where a call failed that shouldn't, and where the lines aren't read (sysexits(3)).
-const FAILED: u8 = 1;
-
-const MISREAD: u8 = 65;
-
-fn main(rt: HostRuntime) -> ExitCode {
-    match run(&rt) {
-        Ok(Tally { failed: 0, .. }) => ExitCode::SUCCESS,
-        Ok(_) => ExitCode::from(FAILED),
-        Err(_) => ExitCode::from(MISREAD),
+/// Makes them, compares their answers with those that are wanted, and prints each that differs, and last how many
+/// passed and failed.
+pub fn make_listed(rt: &HostRuntime) -> Result<(), Failed> {
+    match run(rt) {
+        Ok(Tally { failed: 0, .. }) => Ok(()),
+        Ok(_) => Err(Failed::Call),
+        Err(_) => Err(Failed::Misread),
     }
 }
 

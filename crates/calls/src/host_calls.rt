@@ -1,4 +1,4 @@
-//! One call of the host, and its answer.
+//! One call of the real host, and its answer.
 ghost use Rattle.std.specs.Prelude.{◌<◌, IfOk, vec_len};
 
 use crate::answers::{aged, cut, got, listed, looked, made, moved, removed, synced, took};

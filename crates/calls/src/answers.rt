@@ -1,4 +1,4 @@
-//! The host's answers in words.
+//! The answers of the real host in words.
 use cases::{Words, number_word, one_word, word_of};
 use pm_bytes::Memory;
 use pm_host::{Aged, Cut, Got, Listed, Looked, Made, Moved, Removed, Synced, Took};

@@ -1,4 +1,4 @@
-//! A child of the host from its start to its end.
+//! A child of the real host from its start to its end.
 use crate::answers::shortened;
 use cases::{Refused, Words, number_word, one_word, text_of};
 use pm_bytes::{Name, Names, Pair, Pairs};

@@ -1,14 +1,14 @@
 //! Reads an rcfile once.
 ghost use Rattle.std.specs.Prelude.{◌≡◌, ◌<◌, IfOk, length, vec_len};
 
-use crate::refused::Refused;
+use crate::failed::Failed;
 use pm_recipe::read_rc;
 use std::alloc::{AllocError, Global};
 
 /// Makes an rcfile of this size out of the text, and reads it as the task says.
-pub fn read_rcfile(rt: &HostRuntime, task: &str, text: &[u8], size: usize) -> Result<(), Refused> {
+pub fn read_rcfile(rt: &HostRuntime, task: &str, text: &[u8], size: usize) -> Result<(), Failed> {
     if text.is_empty() {
-        return Err(Refused::Usage);
+        return Err(Failed::Usage);
     }
     let rcfile = filled(rt.alloc(), text, size)?;
     read_once(rt, task, rcfile.as_slice())
@@ -26,14 +26,14 @@ fn filled(alloc: Global, part: &[u8], size: usize) -> Result<Vec<u8>, AllocError
     Ok(rcfile)
 }
 
-fn read_once(rt: &HostRuntime, task: &str, rcfile: &[u8]) -> Result<(), Refused> {
+fn read_once(rt: &HostRuntime, task: &str, rcfile: &[u8]) -> Result<(), Failed> {
     match task {
         "none" => println!(rt; "not read")?,
         "read" => {
             let _rc = read_rc(rt.alloc(), rcfile)?;
             println!(rt; "read")?;
         }
-        _ => return Err(Refused::Usage),
+        _ => return Err(Failed::Usage),
     }
     Ok(())
 }

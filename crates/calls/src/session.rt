@@ -1,7 +1,7 @@
-//! Lines of calls, one after the other, at one host.
-use crate::calls::answer;
+//! Lines of calls of the real host, one after the other.
+use crate::host_calls::answer;
 use crate::{children, others};
-use cases::{Line, Refused, Words, copy_of, show_words, text_of};
+use cases::{Line, Refused, Words, show_words, text_of};
 use pm_real::{RealHost, Setup};
 use std::alloc::Global;
 use std::fmt::Write;

@@ -1,6 +1,6 @@
 //! Searches an area once for an expression.
 use crate::area::{kind_of, make};
-use crate::refused::Refused;
+use crate::failed::Failed;
 use pm_match::Engine;
 use pm_regex::{Found, read};
 
@@ -11,13 +11,13 @@ pub fn search_area(
     text: &[u8],
     kind: &str,
     size: usize,
-) -> Result<(), Refused> {
-    let kind = kind_of(kind).ok_or(Refused::Usage)?;
+) -> Result<(), Failed> {
+    let kind = kind_of(kind).ok_or(Failed::Usage)?;
     let area = make(rt.alloc(), kind, size)?;
     search(rt, task, text, area.as_slice())
 }
 
-fn search(rt: &HostRuntime, task: &str, text: &[u8], area: &[u8]) -> Result<(), Refused> {
+fn search(rt: &HostRuntime, task: &str, text: &[u8], area: &[u8]) -> Result<(), Failed> {
     let expr = read(rt.alloc(), text)?;
     let mut engine = Engine::build(rt.alloc(), &expr, true)?;
     match task {
@@ -33,12 +33,12 @@ fn search(rt: &HostRuntime, task: &str, text: &[u8], area: &[u8]) -> Result<(), 
             let count = engine.count(area);
             println!(rt; "{count}")?;
         }
-        _ => return Err(Refused::Usage),
+        _ => return Err(Failed::Usage),
     }
     Ok(())
 }
 
-fn print_found(rt: &HostRuntime, found: Option<Found>) -> Result<(), Refused> {
+fn print_found(rt: &HostRuntime, found: Option<Found>) -> Result<(), Failed> {
     match found {
         None => println!(rt; "none")?,
         Some(Found { start, cut, end }) => match cut {
