@@ -168,6 +168,12 @@ the header by an empty name: runs
 the body by an empty name: runs
 :0 w\n| formail -I '' >body\n
 :0 w\n| sed -n -e '/^$/,$p' >body\n
+the body alone by an empty name: stays
+:0 bw\n| formail -I '' >body\n:0 wb\n| formail -X "" >header\n
+:0 bw\n| formail -I '' >body\n:0 wb\n| formail -X "" >header\n
+an empty name after a recipe that feeds the body alone: runs
+:0 bcw\n| cat >body\n:0 w\n| formail -X "" >header\n
+:0 bcw\n| cat >body\n:0 w\n| sed -e '/^$/q' >header\n
 a field of a reply: runs
 TO=`formail -rtzxTo:`\n:0 whi\n| echo "$TO" >to\n
 TO=`formail -rt | formail -zxTo:`\n:0 whi\n| echo "$TO" >to\n
@@ -263,7 +269,7 @@ while IFS= read -r title; do
     cmp -s there.tree here.tree || fail "$title (left: 3.22 by the old text): $(diff there.tree here.tree)"
     tried=$((tried + 1))
 done < rows
-[ "$count" -eq 66 ] || fail "only $count rows"
+[ "$count" -eq 68 ] || fail "only $count rows"
 [ -n "$old_procmail" ] || echo "$name: no procmail 3.22 here: what it does with the old texts: skipped"
 
 # What can't be brought over stays, and is reported for the new text; the status says whether anything is left.

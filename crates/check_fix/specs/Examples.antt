@@ -14,6 +14,7 @@ use Rattle.check_fix.specs.Copies.{colon_after, copy_edits, copy_name, gives_cop
 use Rattle.check_fix.specs.Counts.{counted, is_bare, zero_edits}
 use Rattle.check_fix.specs.Locks.{cache_of, without_braces, uses_cache}
 use Rattle.check_fix.specs.Edits.{edit_at}
+use Rattle.check_fix.specs.Fed.{gets_body}
 use Rattle.check_fix.specs.Mailboxes.{several_edits, hash_edits, match_edits}
 use Rattle.check_fix.specs.Numbers.{from_variable, variable_name, is_number, is_past, is_value_of, keeps_value, value_edits, number_edits}
 use Rattle.check_fix.specs.Scores.{is_empty_block, is_greatest, is_plain, is_score, is_weighted}
@@ -325,6 +326,11 @@ pub record OfCalls : Type 0 where
   pub header : line empty_edits (codes "| formail -X \"\"") ≡ codes "| sed -e '/^$/q'"
   pub body : line empty_edits (codes "| $FORMAIL -I ''") ≡ codes "| sed -n -e '/^$/,$p'"
   pub more : line empty_edits (codes "| formail -X \"\" -A x") ≡ codes "| formail -X \"\" -A x"
+  pub body_alone : gets_body (bare Pipe 6 (codes "| x")) (bare Colon 0 (codes ":0 bw\n") ∷ bare Pipe 6 (codes "| x") ∷ []) ≡ true
+  pub both_fed : gets_body (bare Pipe 6 (codes "| x")) (bare Colon 0 (codes ":0 hb\n") ∷ bare Pipe 6 (codes "| x") ∷ []) ≡ false
+  pub last_colon : gets_body (bare Pipe 12 (codes "| x")) (bare Colon 0 (codes ":0 b\n") ∷ bare Colon 6 (codes ":0 w\n") ∷ []) ≡ false
+  pub later_colon : gets_body (bare Pipe 6 (codes "| x")) (bare Colon 0 (codes ":0 w\n") ∷ bare Colon 9 (codes ":0 b\n") ∷ []) ≡ false
+  pub value : gets_body (bare Assign 6 (codes "X=`x`")) (bare Colon 0 (codes ":0 b\n") ∷ []) ≡ false
   pub together : line reply_edits (codes "T=`formail -rtzxTo:`") ≡ codes "T=`formail -rt | formail -zxTo:`"
   pub blank : line reply_edits (codes "| formail -rtzx To:") ≡ codes "| formail -rt | formail -zx To:"
   pub apart : line reply_edits (codes "| $FORMAIL -rt -xTo:") ≡ codes "| $FORMAIL -rt | $FORMAIL -xTo:"

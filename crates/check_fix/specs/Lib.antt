@@ -9,6 +9,7 @@ pub mod Numbers
 pub mod Copies
 pub mod Scores
 pub mod Colons
+pub mod Fed
 pub mod Mailboxes
 pub mod Calls
 pub mod Moved

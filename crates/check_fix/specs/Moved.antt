@@ -1,5 +1,5 @@
 -- What a form that was found is brought over by.
-use Rattle.std.specs.Prelude.{Bool, true, false, List, [], ◌∷◌, ◌++◌}
+use Rattle.std.specs.Prelude.{Bool, true, false, List, [], ◌∷◌, ◌++◌, if◌then◌else◌}
 use Rattle.pm_recipe.specs.Colon.{lock_of}
 use Rattle.pm_recipe.specs.declared.spans.Span.{Span}
 use Rattle.check_moving.specs.declared.form.Form.{Form}
@@ -22,6 +22,7 @@ use Rattle.check_fix.specs.Braces.{brace_edits}
 use Rattle.check_fix.specs.Calls.{empty_edits, reply_edits, removed_edits, length_edits, appended_edits, quiet_edits, trust_edits}
 use Rattle.check_fix.specs.Colons.{automatic_edits, own_lock_edits, cache_lock_edits, lock_wait_edits}
 use Rattle.check_fix.specs.Conditions.{late_edits, supreme_edits, backslash_edits, end_edits, anchor_edits, continued_edits}
+use Rattle.check_fix.specs.Fed.{gets_body}
 use Rattle.check_fix.specs.Locks.{held_edits}
 use Rattle.check_fix.specs.Mailboxes.{several_edits, hash_edits, match_edits}
 use Rattle.check_fix.specs.Numbers.{number_edits}
@@ -70,13 +71,14 @@ program_edits program.FromAppended span = appended_edits span.first span.bytes.n
 program_edits program.OldOption span = quiet_edits span.first span.bytes.now
 program_edits _ span = []
 
--- what a call of formail does with fields
-abbrev pub field_edits : ReplyForm → Span → List Edit
-field_edits reply.ReplyField span = reply_edits span.first span.bytes.now
-field_edits reply.TrustAlone span = trust_edits span.first span.bytes.now
-field_edits reply.EmptyField span = empty_edits span.first span.bytes.now
-field_edits reply.FromRemoved span = removed_edits span.first span.bytes.now
-field_edits _ span = []
+-- what a call of formail does with fields; sed, which takes the text up to the first empty line for the header, is for a program that
+-- gets one
+abbrev pub field_edits : ReplyForm → Span → List Span → List Edit
+field_edits reply.ReplyField span all = reply_edits span.first span.bytes.now
+field_edits reply.TrustAlone span all = trust_edits span.first span.bytes.now
+field_edits reply.EmptyField span all = if gets_body span all then [] else empty_edits span.first span.bytes.now
+field_edits reply.FromRemoved span all = removed_edits span.first span.bytes.now
+field_edits _ span all = []
 
 -- a form, in the span where it was found, with the spans after it and all spans
 abbrev pub form_edits : Form → Span → List Span → List Span → List Edit
@@ -85,7 +87,7 @@ form_edits (any.Condition form) span spans all = condition_edits form span all
 form_edits (any.Search form) span spans all = search_edits form span
 form_edits (any.Mailbox form) span spans all = mailbox_edits form span
 form_edits (any.Program form) span spans all = program_edits form span
-form_edits (any.Reply form) span spans all = field_edits form span
+form_edits (any.Reply form) span spans all = field_edits form span all
 form_edits _ span spans all = []
 
 -- an automatic lock file of a block

@@ -10,6 +10,7 @@ mod conditions;
 mod copies;
 mod counts;
 mod edits;
+mod fed;
 mod fixing;
 mod laws;
 mod locks;

@@ -16,6 +16,7 @@ use crate::calls::{
 use crate::colons::{put_automatic, put_cache_lock, put_lock_wait, put_own_lock};
 use crate::conditions::{put_late, put_supreme};
 use crate::edits::Edit;
+use crate::fed::gets_body;
 use crate::locks::put_held;
 use crate::mailboxes::{put_hash, put_match, put_several};
 use crate::numbers::put_number;
@@ -129,14 +130,19 @@ fn put_field(
     alloc: Global,
     form: ReplyForm,
     span: &Span<'_>,
+    all: &[Span<'_>],
     edits: &mut Vec<Edit>,
 ) -> Result<(), Memory>
-    ensures { OnOk result (edits.new.items ≡ edits.old.items ++ field_edits form span.now) }
+    ensures { OnOk result (edits.new.items ≡ edits.old.items ++ field_edits form span.now all.now) }
 {
     match form {
         ReplyForm::ReplyField => put_reply(alloc, span, edits),
         ReplyForm::TrustAlone => put_trust(alloc, span, edits),
-        ReplyForm::EmptyField => put_empty(alloc, span, edits),
+        ReplyForm::EmptyField => if gets_body(span, all) {
+            Ok(())
+        } else {
+            put_empty(alloc, span, edits)
+        },
         ReplyForm::FromRemoved => put_removed(alloc, span, edits),
         _ => Ok(()),
     }
@@ -158,7 +164,7 @@ fn put_form(
         Form::Search(form) => put_search(alloc, form, span, edits),
         Form::Mailbox(form) => put_mailbox(alloc, form, span, edits),
         Form::Program(form) => put_program(alloc, form, span, edits),
-        Form::Reply(form) => put_field(alloc, form, span, edits),
+        Form::Reply(form) => put_field(alloc, form, span, all, edits),
         _ => Ok(()),
     }
 }
