@@ -24,7 +24,6 @@ use Rattle.pm_meaning.specs.declared.acted.Cause.TheVariants as cause
 use Rattle.pm_meaning.specs.declared.process.Destination.{Destination}
 use Rattle.pm_meaning.proofs.Beside.{WritesNothing, nothing_then}
 use Rattle.pm_meaning.proofs.QuietLines.{quiet_if, quiet_log_to, quiet_say}
-use Rattle.pm_actions.specs.Works.{fallback_alone}
 
 quiet_each : {R : Type 0} (p : Mind) (lines : List (List ℕ)) (next : R) → WritesNothing (say_each p lines next)
 quiet_each p [] next = tt
@@ -97,6 +96,6 @@ quiet_mailboxes (mailbox ∷ mailboxes) last p =
     nothing_then (deliver_default mailbox p) _ (quiet_to no_flags (Some []) [] mailbox (mailbox ∷ []) p)
     (λ came. quiet_if (is_for_good came.acted) (Ends came) (try_each mailboxes came.acted came.mind) tt (quiet_mailboxes mailboxes came.acted came.mind))
 
--- the default mailboxes of a process that is given apart
-pub quiet_fallback : (p : Mind) → WritesNothing (fallback_alone p)
-quiet_fallback p = nothing_then (fall_back p) _ (quiet_mailboxes (default_mailboxes p.vars) (Failed cause.NoName) p) (λ came. tt)
+-- the default mailboxes
+pub quiet_fallback : (p : Mind) → WritesNothing (fall_back p)
+quiet_fallback p = quiet_mailboxes (default_mailboxes p.vars) (Failed cause.NoName) p

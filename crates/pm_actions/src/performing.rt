@@ -1,18 +1,23 @@
 //! Recipes' actions and the default mailboxes, over a host and its sinks (procmailrc(5), "Recipe action line").
-ghost use Rattle.std.specs.Prelude.{◌≡◌};
+ghost use Rattle.std.specs.Prelude.{◌≡◌, OnErr};
 ghost use Rattle.pm_host.specs.Streams.{StreamView};
 ghost use Rattle.pm_journal.specs.Entries.{view_of};
+ghost use Rattle.pm_journal.specs.Executed.{Carries};
 ghost use Rattle.pm_journal.specs.Held.{Keeping};
+ghost use Rattle.pm_meaning.specs.Apart.{acted_with};
 ghost use Rattle.pm_meaning.specs.Delivering.{no_flags};
+ghost use Rattle.pm_meaning.specs.Minds.{mind_of};
+ghost use Rattle.pm_meaning.specs.Running.{fall_back};
 ghost use Rattle.pm_perform.specs.Undelivered.{Undelivered};
 ghost use Rattle.pm_actions.specs.Performing.{Performs, IsMemory, state_in};
-ghost use Rattle.pm_actions.specs.Works.{action_alone, fallback_alone};
+ghost use Rattle.pm_actions.specs.Works.{action_alone, action_of, fallback_alone};
 
 use crate::performed::{Performed, answered};
-use crate::work::{Work, do_work};
+use crate::work::{Done, Work, do_work};
+use pm_bytes::Memory;
 use pm_host::{Host, Sink};
-use pm_journal::Journal;
-use pm_meaning::{Mind, Shared};
+use pm_journal::{AllEntries, Journal};
+use pm_meaning::{Mind, Paused, Shared};
 use pm_objects::{Objects, Untouched, lend};
 use pm_recipe::Recipe;
 use std::alloc::Global;
@@ -40,33 +45,35 @@ pub fn perform<H: Host, O: Sink, E: Sink>(
     ensures rcfiles { mind.new.rcfiles ≡ mind.old.rcfiles }
     ensures counts { (shared.new.openings ≡ shared.old.openings) × (shared.new.clones ≡ shared.old.clones) }
 {
-    let mut objects = lend(host, out, err);
-    perform_lent(alloc, recipe, mind, shared, &mut objects, journal)
+    match mind.pause(alloc, shared, journal) {
+        Err(Memory) => Performed::Memory,
+        Ok(paused) => {
+            let mut objects = lend(host, out, err);
+            let Done { acted, paused } = act_lent(alloc, recipe, paused, &mut objects);
+            mind.resume(paused, shared, journal);
+            answered(acted)
+        }
+    }
 }
 
-// The same over objects that are lent; they are the same ones afterwards.
-fn perform_lent<'a, H: Host, O: Sink, E: Sink>(
+// The recipe's action, over objects that are lent; they are the same ones afterwards.
+fn act_lent<'a, H: Host, O: Sink, E: Sink>(
     alloc: Global,
     recipe: &Recipe,
-    mind: &mut Mind,
-    shared: &mut Shared,
+    paused: Paused<AllEntries>,
     objects: &mut Objects<'a, H, &'a mut O, E>,
-    journal: &mut Journal,
-) -> Performed
-    requires keeping { Keeping journal.old mind.old.locks.names }
-    ensures performs { Performs result (action_alone recipe.now (state_in mind.old shared.old))
-        (state_in mind.new shared.new) journal.old journal.new
+) -> Done<AllEntries>
+    ensures carries { Carries (action_of recipe.now (mind_of paused.process))
+        (λ acted. acted_with acted (mind_of result.paused.process)) result.acted
+        paused.journal result.paused.journal
         (view_of (H.told objects.old.host.now) (O.told objects.old.out.now) (E.told objects.old.err.now))
         (view_of (H.told objects.new.host.now) (O.told objects.new.out.now) (E.told objects.new.err.now)) }
-    ensures sure { IsMemory result → Undelivered recipe.now.flags journal.old journal.new }
-    ensures keeping { Keeping journal.new mind.new.locks.names }
-    ensures rcfiles { mind.new.rcfiles ≡ mind.old.rcfiles }
-    ensures counts { (shared.new.openings ≡ shared.old.openings) × (shared.new.clones ≡ shared.old.clones) }
+    ensures sure { OnErr result.acted (Undelivered recipe.now.flags paused.journal result.paused.journal) }
     ensures host { objects.new.host.ghost_name ≡ objects.old.host.ghost_name }
     ensures out { objects.new.out.ghost_name ≡ objects.old.out.ghost_name }
     ensures err { objects.new.err.ghost_name ≡ objects.old.err.ghost_name }
 {
-    answered(do_work(alloc, Work::Action(recipe), mind, shared, objects, journal))
+    do_work(alloc, Work::Action(recipe), paused, objects)
 }
 
 /// Delivers to DEFAULT, or to ORGMAIL where DEFAULT doesn't get the mail (procmail(1), "DESCRIPTION"). That no mailbox
@@ -90,35 +97,37 @@ pub fn deliver_default<H: Host, E: Sink>(
     ensures rcfiles { mind.new.rcfiles ≡ mind.old.rcfiles }
     ensures counts { (shared.new.openings ≡ shared.old.openings) × (shared.new.clones ≡ shared.old.clones) }
 {
-    let mut objects = Objects {
-        host,
-        out: Untouched { faults: out },
-        err,
-        kept: PhantomData,
-    };
-    deliver_lent(alloc, mind, shared, &mut objects, journal)
+    match mind.pause(alloc, shared, journal) {
+        Err(Memory) => Performed::Memory,
+        Ok(paused) => {
+            let mut objects = Objects {
+                host,
+                out: Untouched { faults: out },
+                err,
+                kept: PhantomData,
+            };
+            let Done { acted, paused } = fall_back_lent(alloc, paused, &mut objects);
+            mind.resume(paused, shared, journal);
+            answered(acted)
+        }
+    }
 }
 
-// The same over objects that are lent; they are the same ones afterwards.
-fn deliver_lent<'a, H: Host, E: Sink>(
+// The default mailboxes, over objects that are lent; they are the same ones afterwards.
+fn fall_back_lent<'a, H: Host, E: Sink>(
     alloc: Global,
-    mind: &mut Mind,
-    shared: &mut Shared,
+    paused: Paused<AllEntries>,
     objects: &mut Objects<'a, H, Untouched, E>,
-    journal: &mut Journal,
-) -> Performed
-    requires keeping { Keeping journal.old mind.old.locks.names }
-    ensures performs { (told : StreamView) → told.faults ≡ objects.old.out.faults →
-        Performs result (fallback_alone (state_in mind.old shared.old))
-        (state_in mind.new shared.new) journal.old journal.new
+) -> Done<AllEntries>
+    ensures carries { (told : StreamView) → told.faults ≡ objects.old.out.faults →
+        Carries (fall_back (mind_of paused.process))
+        (λ acted. acted_with acted (mind_of result.paused.process)) result.acted
+        paused.journal result.paused.journal
         (view_of (H.told objects.old.host.now) told (E.told objects.old.err.now))
         (view_of (H.told objects.new.host.now) told (E.told objects.new.err.now)) }
-    ensures sure { IsMemory result → Undelivered no_flags journal.old journal.new }
-    ensures keeping { Keeping journal.new mind.new.locks.names }
-    ensures rcfiles { mind.new.rcfiles ≡ mind.old.rcfiles }
-    ensures counts { (shared.new.openings ≡ shared.old.openings) × (shared.new.clones ≡ shared.old.clones) }
+    ensures sure { OnErr result.acted (Undelivered no_flags paused.journal result.paused.journal) }
     ensures host { objects.new.host.ghost_name ≡ objects.old.host.ghost_name }
     ensures err { objects.new.err.ghost_name ≡ objects.old.err.ghost_name }
 {
-    answered(do_work(alloc, Work::Fallback, mind, shared, objects, journal))
+    do_work(alloc, Work::Fallback, paused, objects)
 }

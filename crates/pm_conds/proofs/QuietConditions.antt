@@ -26,7 +26,6 @@ use Rattle.pm_meaning.specs.declared.process.ProgramLine.{ProgramLine}
 use Rattle.pm_meaning.specs.declared.process.ProgramLine.TheVariants as line
 use Rattle.pm_meaning.specs.declared.question.Judgement.TheVariants.{Matched, Unmatched, Defective, TooLong}
 use Rattle.pm_meaning.specs.Judging.{told_judgement, behind_judgement, holding}
-use Rattle.pm_conds.specs.Holding.{held_alone, holding_alone}
 use Rattle.pm_meaning.proofs.Beside.{WritesNothing, nothing_then}
 use Rattle.pm_meaning.proofs.QuietLines.{quiet_if, quiet_say, quiet_maybe, quiet_outputs, quiet_read_line}
 
@@ -87,6 +86,3 @@ quiet_judgement (TooLong size) p = quiet_say p _ _
 -- nor does what is told of them
 pub quiet_holding : (conditions : List Condition) (flags : Flags) (p : Mind) → WritesNothing (holding conditions flags p)
 quiet_holding conditions flags p = nothing_then (judge conditions flags p) behind_judgement (quiet_judge conditions flags p) (λ judged. quiet_judgement judged.verdict judged.mind)
-
-pub quiet_alone : (conditions : List Condition) (flags : Flags) (p : Mind) → WritesNothing (holding_alone conditions flags p)
-quiet_alone conditions flags p = nothing_then (holding conditions flags p) (λ held. Ends (held_alone held)) (quiet_holding conditions flags p) (λ held. tt)

@@ -1,5 +1,5 @@
 //! Whether the conditions of a recipe hold, over a host and the sink for errors (procmailrc(5), "Conditions").
-ghost use Rattle.std.specs.Prelude.{◌≡◌, false, IfOk};
+ghost use Rattle.std.specs.Prelude.{◌≡◌, [], false, IfOk};
 ghost use Rattle.pm_host.specs.Streams.{StreamView};
 ghost use Rattle.pm_journal.specs.Entries.{view_of};
 ghost use Rattle.pm_journal.specs.Executed.{Carries};
@@ -19,12 +19,11 @@ use crate::observer::{NoObserver, Observer};
 use core::mem::replace_with;
 use pm_bytes::{Blob, Memory, Name};
 use pm_host::{Host, Sink};
-use pm_journal::{Asks, Entries, Journal, defective_condition, value_too_long};
+use pm_journal::{AllEntries, Asks, Entries, Journal, defective_condition, value_too_long};
 use pm_meaning::question::Judgement;
-use pm_meaning::{Mind, Process, Run, tell};
+use pm_meaning::{Mind, Paused, Run, Shared, tell};
 use pm_recipe::{Condition, Flags};
 use std::alloc::Global;
-use std::mem;
 
 /// Whether a recipe's conditions match it. After `Memory` some of their acts were done and noted, or none.
 #[derive(Clone, Copy, Debug, PartialEq, Eq)]
@@ -53,8 +52,29 @@ pub fn holds<H: Host, E: Sink>(
     ensures keeping { Keeping journal.new mind.new.locks.names }
     ensures rcfiles { mind.new.rcfiles ≡ mind.old.rcfiles }
 {
-    let mut asked = Asked { host, err, out };
-    hold_lent(alloc, conditions, *flags, mind, &mut asked, journal)
+    let mut shared = nothing_shared(alloc);
+    match mind.pause(alloc, &shared, journal) {
+        Err(Memory) => Verdict::Memory,
+        Ok(paused) => {
+            let mut asked = Asked { host, err, out };
+            let Held { held, paused } = hold_lent(alloc, conditions, *flags, paused, &mut asked);
+            mind.resume(paused, &mut shared, journal);
+            answered(held)
+        }
+    }
+}
+
+// Conditions look at nothing that the processes of a run share.
+fn nothing_shared(alloc: Global) -> Shared
+    ensures host { result.host_name ≡ [] }
+    ensures placed { result.placed ≡ 0 }
+{
+    Shared {
+        openings: 0,
+        clones: 0,
+        placed: 0,
+        host_name: Name::from_text(String::new(alloc)),
+    }
 }
 
 fn answered(held: Result<bool, Memory>) -> Verdict
@@ -63,65 +83,54 @@ fn answered(held: Result<bool, Memory>) -> Verdict
     match held {
         Ok(true) => Verdict::Matched,
         Ok(false) => Verdict::Unmatched,
-        Err(Memory) => Verdict::Memory,
+        Err(_) => Verdict::Memory,
     }
 }
 
-// The same over objects that are lent; they are the same ones afterwards.
+// Whether the conditions hold, with the process and the journal afterwards.
+struct Held<K: Entries> {
+    held: Result<bool, Memory>,
+    paused: Paused<K>,
+}
+
+// Judges them over objects that are lent; they are the same ones afterwards.
 fn hold_lent<'a, H: Host, E: Sink>(
     alloc: Global,
     conditions: &[Condition],
     flags: Flags,
-    mind: &mut Mind,
+    paused: Paused<AllEntries>,
     asked: &mut Asked<'a, H, E>,
-    journal: &mut Journal,
-) -> Verdict
-    requires keeping { Keeping journal.old mind.old.locks.names }
-    ensures holds { (told : StreamView) → told.faults ≡ asked.old.out →
-        Holds result conditions.now flags (judged_of mind.old) (judged_of mind.new) journal.old journal.new
+) -> Held<AllEntries>
+    ensures carries { (told : StreamView) → told.faults ≡ asked.old.out →
+        Carries (holding conditions.now flags (mind_of paused.process))
+        (λ held. held_with held (mind_of result.paused.process)) result.held paused.journal result.paused.journal
         (view_of (H.told asked.old.host.now) told (E.told asked.old.err.now))
         (view_of (H.told asked.new.host.now) told (E.told asked.new.err.now)) }
-    ensures keeping { Keeping journal.new mind.new.locks.names }
-    ensures rcfiles { mind.new.rcfiles ≡ mind.old.rcfiles }
     ensures host { asked.new.host.ghost_name ≡ asked.old.host.ghost_name }
     ensures err { asked.new.err.ghost_name ≡ asked.old.err.ghost_name }
 {
-    answered(hold_mind(alloc, conditions, flags, mind, asked, journal))
+    hold_apart(alloc, conditions, flags, paused, asked)
 }
 
-// The same of a mind, whose process is taken out of it for that.
-fn hold_mind<D: Asks>(
+// The same over whatever does the acts.
+fn hold_apart<D: Asks>(
     alloc: Global,
     conditions: &[Condition],
     flags: Flags,
-    mind: &mut Mind,
+    paused: Paused<D::Kept>,
     outside: &mut D,
-    journal: &mut Journal<D::Kept>,
-) -> Result<bool, Memory>
-    requires keeping { Keeping journal.old mind.old.locks.names }
-    ensures carries { Carries (holding_alone conditions.now flags (judged_of mind.old))
-        (λ held. held_with held (judged_of mind.new)) result
-        journal.old journal.new (D.told outside.old) (D.told outside.new) }
-    ensures keeping { Keeping journal.new mind.new.locks.names }
-    ensures rcfiles { mind.new.rcfiles ≡ mind.old.rcfiles }
+) -> Held<D::Kept>
+    ensures carries { Carries (holding conditions.now flags (mind_of paused.process))
+        (λ held. held_with held (mind_of result.paused.process)) result.held
+        paused.journal result.paused.journal (D.told outside.old) (D.told outside.new) }
 {
-    let nowhere = Name::from_text(String::new(alloc));
-    let process = mind.take(alloc, nowhere, 0)?;
     let asking = Asking {
         alloc,
         conditions,
         flags,
-        process,
-        journal: mem::replace(journal, Journal::empty(alloc)),
+        paused,
     };
-    let Held {
-        held,
-        process,
-        journal: noted,
-    } = replace_with(outside, asking, hold_all);
-    *journal = noted;
-    mind.restore(process);
-    held
+    replace_with(outside, asking, hold_all)
 }
 
 // What is asked of a process.
@@ -129,33 +138,23 @@ struct Asking<'a, K: Entries> {
     alloc: Global,
     conditions: &'a [Condition],
     flags: Flags,
-    process: Process,
-    journal: Journal<K>,
-}
-
-// Whether the conditions hold, with the process and the journal afterwards.
-struct Held<K: Entries> {
-    held: Result<bool, Memory>,
-    process: Process,
-    journal: Journal<K>,
+    paused: Paused<K>,
 }
 
 // The same, while what does the acts is the run's own.
 fn hold_all<D: Asks>(outside: D, asking: Asking<'_, D::Kept>) -> (D, Held<D::Kept>)
-    requires keeping { Keeping asking.journal asking.process.locks.names }
     ensures carries { Carries
-        (holding asking.entry.conditions.now asking.entry.flags (mind_of asking.entry.process))
-        (λ held. held_with held (mind_of result.1.process)) result.1.held
-        asking.entry.journal result.1.journal (D.told outside) (D.told result.0) }
-    ensures keeping { Keeping result.1.journal result.1.process.locks.names }
+        (holding asking.entry.conditions.now asking.entry.flags (mind_of asking.entry.paused.process))
+        (λ held. held_with held (mind_of result.1.paused.process)) result.1.held
+        asking.entry.paused.journal result.1.paused.journal (D.told outside) (D.told result.0) }
 {
     let Asking {
         alloc,
         conditions,
         flags,
-        process,
-        journal,
+        paused,
     } = asking;
+    let Paused { process, journal } = paused;
     let mut run = Run {
         process,
         journal,
@@ -167,14 +166,8 @@ fn hold_all<D: Asks>(outside: D, asking: Asking<'_, D::Kept>) -> (D, Held<D::Kep
         journal,
         outside,
     } = run;
-    (
-        outside,
-        Held {
-            held,
-            process,
-            journal,
-        },
-    )
+    let paused = Paused { process, journal };
+    (outside, Held { held, paused })
 }
 
 /// As [`holds`], for a run: whether the conditions hold; a defect is told. The observer hears what came of each.

@@ -43,7 +43,7 @@ pub use process::{Attempt, Destination, End, Filed, Outcome, Process, ProgramLin
 pub use programs::{
     code_of, expanded_line, needs_shell, note_code, shell_line, value_or, words_line,
 };
-pub use run::Run;
+pub use run::{Idle, Paused, Run};
 pub use skipping::skip_value;
 pub use status::{Status, status_of};
 pub use telling::{log_name, tell, tell_in};

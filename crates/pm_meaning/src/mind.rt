@@ -1,11 +1,12 @@
 //! The state of a process in the parts that a caller has of it.
 ghost use Rattle.std.specs.Prelude.{◌≡◌, reverse, IfOk, OnErr};
+ghost use Rattle.pm_journal.specs.Held.{Keeping};
 ghost use Rattle.pm_meaning.specs.Apart.{bare, last_of, state_of};
 ghost use Rattle.pm_meaning.specs.Minds.{mind_of};
 
-use crate::{Chain, Process, Stored};
+use crate::{Chain, Paused, Process, Stored};
 use pm_bytes::{Blob, Memory, Name};
-use pm_journal::HeldLocks;
+use pm_journal::{Entries, HeldLocks, Journal};
 use pm_message::{Mail, Message};
 use pm_vars::Vars;
 use std::alloc::Global;
@@ -85,8 +86,56 @@ impl Mind {
         }
     }
 
-    /// Takes the process of this state out for a recipe; `restore` puts it back. `Memory` is the only error.
-    pub fn take(&mut self, alloc: Global, host_name: Name, placed: u64) -> Result<Process, Memory>
+    /// Takes the process of this state out, and its run's journal with it; `resume` puts both back. The only error is
+    /// `Memory`.
+    pub fn pause<K: Entries>(
+        &mut self,
+        alloc: Global,
+        shared: &Shared,
+        journal: &mut Journal<K>,
+    ) -> Result<Paused<K>, Memory>
+        requires keeping { Keeping journal.old self.old.locks.names }
+        ensures state { IfOk result (λ paused.
+            mind_of paused.process ≡ state_of self.old shared.now.host_name shared.now.placed) }
+        ensures journal { IfOk result (λ paused. paused.journal ≡ journal.old) }
+        ensures rcfiles { self.new.rcfiles ≡ self.old.rcfiles }
+        ensures same { OnErr result (self.new ≡ self.old) }
+        ensures unmoved { OnErr result (journal.new ≡ journal.old) }
+    {
+        let host_name = shared.host_name.copy(alloc)?;
+        let process = self.take(alloc, host_name, shared.placed)?;
+        Ok(Paused {
+            process,
+            journal: mem::replace(journal, Journal::empty(alloc)),
+        })
+    }
+
+    /// Puts the process and the journal back. The run then shares the host's name that the process has, and how many
+    /// times mail was filed.
+    pub fn resume<K: Entries>(
+        &mut self,
+        paused: Paused<K>,
+        shared: &mut Shared,
+        journal: &mut Journal<K>,
+    )
+        ensures state { state_of self.new shared.new.host_name shared.new.placed ≡ bare (mind_of paused.process) }
+        ensures counts { (shared.new.openings ≡ shared.old.openings) × (shared.new.clones ≡ shared.old.clones) }
+        ensures journal { journal.new ≡ paused.journal }
+        ensures keeping { Keeping journal.new self.new.locks.names }
+        ensures rcfiles { self.new.rcfiles ≡ self.old.rcfiles }
+    {
+        let Paused {
+            process,
+            journal: noted,
+        } = paused;
+        *journal = noted;
+        let (host_name, placed) = self.restore(process);
+        shared.host_name = host_name;
+        shared.placed = placed;
+    }
+
+    // Takes the process of this state out; `restore` puts it back.
+    fn take(&mut self, alloc: Global, host_name: Name, placed: u64) -> Result<Process, Memory>
         ensures state { IfOk result (λ process. mind_of process ≡ state_of self.old host_name placed) }
         ensures locks { IfOk result (λ process. process.locks ≡ self.old.locks) }
         ensures rcfiles { self.new.rcfiles ≡ self.old.rcfiles }
@@ -113,8 +162,8 @@ impl Mind {
         })
     }
 
-    /// Puts the process back, and gives the host's name and how many times the run has filed mail.
-    pub fn restore(&mut self, process: Process) -> (Name, u64)
+    // Puts the process back, and gives the host's name and how many times the run has filed mail.
+    fn restore(&mut self, process: Process) -> (Name, u64)
         ensures state { state_of self.new result.0 result.1 ≡ bare (mind_of process) }
         ensures locks { self.new.locks ≡ process.locks }
         ensures rcfiles { self.new.rcfiles ≡ self.old.rcfiles }

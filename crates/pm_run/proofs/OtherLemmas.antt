@@ -1,8 +1,8 @@
 -- One process after another.
-use Rattle.std.proofs.Common.{◌≡◌, ℕ, List, [], ◌∷◌, Option, Some, None, ◌∙◌, map, refl, sym, ap, subst}
+use Rattle.std.proofs.Common.{◌≡◌, ℕ, List, [], ◌∷◌, Option, Some, None, ◌∙◌, map, refl, sym, ap, subst, arith}
 use Rattle.pm_journal.specs.JournalState.{JournalState}
 use Rattle.pm_journal.specs.Entries.{View}
-use Rattle.pm_journal.specs.Held.{Keeping}
+use Rattle.pm_journal.specs.Held.{Keeps, Keeping}
 use Rattle.pm_journal.specs.Plan.{Ends}
 use Rattle.pm_journal.specs.Executed.{Executes, GivesEach}
 use Rattle.pm_journal.specs.Walking.{Next, Stop, Go, Reaches, Completes}
@@ -26,6 +26,10 @@ use Rattle.pm_run.proofs.RunLemmas.{RunsOn, Breaks, lifted, runs_run, runs_break
 
 abbrev After : Type 0
 After = Next Course Ending
+
+-- between processes no lock is held
+pub keeping_none : (x : JournalState) → Keeps [] x.entries [] → Keeping x []
+keeping_none x k = record { keeps = k; room = omega (arith) }
 
 -- all locks were given back, and the run comes to what stands after its process
 pub closes : (o : Others) (ending : Ending) (p : Mind) (x y : JournalState) (a b : View) → GivesEach p.locks x y a b

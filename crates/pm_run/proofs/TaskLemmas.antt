@@ -6,12 +6,14 @@ use Rattle.pm_journal.specs.Executed.{GivesEach}
 use Rattle.pm_journal.specs.Held.{Keeping}
 use Rattle.pm_journal.specs.Walking.{Reaches}
 use Rattle.pm_journal.proofs.WantsMemory.{out_anywhere}
+use Rattle.pm_meaning.specs.Apart.{bare, state_of}
 use Rattle.pm_meaning.specs.Courses.{Course, Others, now_at, advance}
 use Rattle.pm_meaning.specs.Minds.{Mind}
 use Rattle.pm_meaning.specs.Running.{State, Over, step}
 use Rattle.pm_meaning.specs.declared.ending.Ending.{Ending}
 use Rattle.pm_meaning.specs.declared.mind.Mind.{Mind as Parts}
 use Rattle.pm_meaning.specs.declared.mind.Opening.{Opening as Opens}
+use Rattle.pm_meaning.specs.declared.mind.Shared.{Shared}
 use Rattle.pm_meaning.specs.declared.process.End.{End}
 use Rattle.pm_meaning.proofs.Beside.{plain, accounts_plain, takes_plain}
 use Rattle.pm_run.specs.Copies.{others_of}
@@ -45,6 +47,19 @@ wants_first opening frames rcfiles p o held x y a b keeping gives =
       keeping = keeping;
       gives = gives;
     }
+
+-- a process that begins in this rcfile, in a run that has opened so many
+abbrev pub in_rcfile : List ℕ → Shared → Mind → Mind
+in_rcfile rcfile s p = record p { rcfile = rcfile; openings = s.openings }
+
+abbrev with_left : Parts → Shared → Mind → Mind
+with_left m s p = record p { openings = s.openings; later = m.rcfiles.items }
+
+-- the parts of a process that is over, put back
+pub seen_back : (m : Parts) (s : Shared) (p : Mind) → state_of m s.host_name s.placed ≡ bare p → s.openings ≡ p.openings → m.rcfiles.items ≡ p.later → seen p ≡ seen_by m s
+seen_back m s p state openings later =
+    sym (ap (with_left m s) state
+    ∙ (ap (λ n. record (bare p) { openings = n; later = m.rcfiles.items }) openings ∙ ap (λ r. record (bare p) { openings = p.openings; later = r }) later))
 
 -- it came to its end
 pub task_comes : (end : End) (m : Parts) (old new : Stand) (s t : State) (p : Mind) → s ≡ t → new.shared.clones ≡ new.queue.made → seen p ≡ seen_by m new.shared

@@ -1,12 +1,13 @@
 //! A process that is taken out of its task, and put back as its end.
-ghost use Rattle.std.specs.Prelude.{◌≡◌, true, map, reverse, IfOk, OnErr};
+ghost use Rattle.std.specs.Prelude.{◌≡◌, true, map, reverse};
 ghost use Rattle.pm_journal.specs.Held.{Keeping};
+ghost use Rattle.pm_meaning.specs.Apart.{bare};
 ghost use Rattle.pm_meaning.specs.Minds.{mind_of};
 ghost use Rattle.pm_meaning.specs.Running.{Over, State};
 ghost use Rattle.pm_run.specs.Nested.{are_nested, frame_of};
 ghost use Rattle.pm_run.specs.Stretches.{Proceeds};
 ghost use Rattle.pm_run.specs.Tasks.{AreBegun, Processes, ComesTo, Stand, begins, begun_at, started};
-ghost use Rattle.pm_run.specs.Tasks.{locks_at, process_of, seen, seen_by};
+ghost use Rattle.pm_run.specs.Tasks.{locks_at};
 
 use crate::frames::RcFrame;
 use crate::opening::Rule;
@@ -18,7 +19,7 @@ use core::mem::replace_with;
 use pm_bytes::{Memory, Name};
 use pm_conds::NoObserver;
 use pm_journal::{Effects, Entries, Journal, give_all};
-use pm_meaning::{End, Mind, Opening, Process, Run, Shared};
+use pm_meaning::{End, Mind, Opening, Paused, Process, Run, Shared};
 use std::alloc::Global;
 use std::mem;
 
@@ -45,7 +46,7 @@ pub fn run_task<D: Effects>(
     } = task;
     let mut names = mem::replace(&mut mind.rcfiles, Vec::new(alloc));
     names.reverse();
-    match take(alloc, &mut mind, rcfile, shared) {
+    match mind.pause(alloc, shared, journal) {
         Err(Memory) => {
             drop(frames);
             drop(names);
@@ -53,17 +54,27 @@ pub fn run_task<D: Effects>(
             drop(mind);
             ProcessEnd::Memory
         }
-        Ok(mut process) => {
-            let begun = begin(opening, frames, names, &mut process);
+        Ok(mut paused) => {
+            paused.process.openings = shared.openings;
+            paused.process.rcfile = rcfile;
+            let begun = begin(opening, frames, names, &mut paused.process);
             queue.made = shared.clones;
-            let Worked { ended, mut process } = run_apart(
-                alloc, begun, process, queue, outside, journal,
-            );
+            let Worked { ended, mut paused } = run_apart(alloc, begun, paused, queue, outside);
             shared.clones = queue.made;
             match ended {
-                Ok(end) => ended_with(end, put_back(alloc, mind, process, shared)),
+                Ok(end) => {
+                    shared.openings = paused.process.openings;
+                    mind.rcfiles = rcfiles_left(alloc, &mut paused.process);
+                    mind.resume(paused, shared, journal);
+                    ended_with(end, mind)
+                }
                 Err(Memory) => {
                     drop(mind);
+                    let Paused {
+                        mut process,
+                        journal: noted,
+                    } = paused;
+                    *journal = noted;
                     give_all(&mut process.locks, outside, journal);
                     drop(process);
                     ProcessEnd::Memory
@@ -71,19 +82,6 @@ pub fn run_task<D: Effects>(
             }
         }
     }
-}
-
-// The process of this mind, in the rcfile of this name.
-fn take(alloc: Global, mind: &mut Mind, rcfile: Name, shared: &Shared) -> Result<Process, Memory>
-    ensures state { IfOk result (λ process. mind_of process ≡ process_of mind.old rcfile shared.now) }
-    ensures locks { IfOk result (λ process. process.locks ≡ mind.old.locks) }
-    ensures same { OnErr result (mind.new.locks ≡ mind.old.locks) }
-{
-    let host_name = shared.host_name.copy(alloc)?;
-    let mut process = mind.take(alloc, host_name, shared.placed)?;
-    process.openings = shared.openings;
-    process.rcfile = rcfile;
-    Ok(process)
 }
 
 // What it begins with.
@@ -116,20 +114,15 @@ fn begin(
     }
 }
 
-// The mind of a process that is over; what the run counts is told.
-fn put_back(alloc: Global, mut mind: Mind, mut process: Process, shared: &mut Shared) -> Mind
-    ensures seen { seen (mind_of process) ≡ seen_by result shared.new }
-    ensures clones { shared.new.clones ≡ shared.old.clones }
-    ensures locks { result.locks ≡ process.locks }
+// The rcfiles of the command line that are left, the first one first.
+fn rcfiles_left(alloc: Global, process: &mut Process) -> Vec<Name>
+    ensures left { result.items ≡ reverse process.old.later.items }
+    ensures rest { bare (mind_of process.new) ≡ bare (mind_of process.old) }
+    ensures locks { process.new.locks ≡ process.old.locks }
 {
     let mut rcfiles = mem::replace(&mut process.later, Vec::new(alloc));
     rcfiles.reverse();
-    mind.rcfiles = rcfiles;
-    shared.openings = process.openings;
-    let (host_name, placed) = mind.restore(process);
-    shared.host_name = host_name;
-    shared.placed = placed;
-    mind
+    rcfiles
 }
 
 // The process ended so.
@@ -145,79 +138,67 @@ fn ended_with(end: End, mind: Mind) -> ProcessEnd
     }
 }
 
-// How a process ended, and the process then.
-struct Worked {
+// How a process ended, and what is left of it.
+struct Worked<K: Entries> {
     ended: Result<End, Memory>,
-    process: Process,
+    paused: Paused<K>,
 }
 
 // Runs a process from there to its end.
 fn run_apart<D: Effects>(
     alloc: Global,
     begun: Begun,
-    process: Process,
+    paused: Paused<D::Kept>,
     queue: &mut Queue,
     outside: &mut D,
-    journal: &mut Journal<D::Kept>,
-) -> Worked
-    requires keeping { Keeping journal.old process.locks.names }
+) -> Worked<D::Kept>
     requires nested { AreBegun begun }
-    ensures proceeds { Proceeds queue.old queue.new (begun_at begun (mind_of process))
-        (λ end. Over end (mind_of result.process)) result.ended
-        journal.old journal.new (D.told outside.old) (D.told outside.new) }
-    ensures keeping { Keeping journal.new result.process.locks.names }
+    ensures proceeds { Proceeds queue.old queue.new (begun_at begun (mind_of paused.process))
+        (λ end. Over end (mind_of result.paused.process)) result.ended
+        paused.journal result.paused.journal (D.told outside.old) (D.told outside.new) }
 {
     let working = Working {
         alloc,
         begun,
-        process,
+        paused,
         queue: mem::replace(queue, Queue::new(alloc)),
-        journal: mem::replace(journal, Journal::empty(alloc)),
     };
     let Done {
-        ended,
-        process,
+        worked,
         queue: others,
-        journal: noted,
     } = replace_with(outside, working, run_all);
     *queue = others;
-    *journal = noted;
-    Worked { ended, process }
+    worked
 }
 
 // What a process begins with.
 struct Working<K: Entries> {
     alloc: Global,
     begun: Begun,
-    process: Process,
+    paused: Paused<K>,
     queue: Queue,
-    journal: Journal<K>,
 }
 
-// How it ended, and what is left of it.
+// How it ended, and the copies that wait then.
 struct Done<K: Entries> {
-    ended: Result<End, Memory>,
-    process: Process,
+    worked: Worked<K>,
     queue: Queue,
-    journal: Journal<K>,
 }
 
 // The same, while what does the acts is the run's own.
 fn run_all<D: Effects>(outside: D, working: Working<D::Kept>) -> (D, Done<D::Kept>)
-    requires keeping { Keeping working.journal working.process.locks.names }
     requires nested { AreBegun working.begun }
-    ensures proceeds { Proceeds working.queue result.1.queue (begun_at working.begun (mind_of working.process))
-        (λ end. Over end (mind_of result.1.process)) result.1.ended
-        working.journal result.1.journal (D.told outside) (D.told result.0) }
-    ensures keeping { Keeping result.1.journal result.1.process.locks.names }
+    ensures proceeds { Proceeds working.queue result.1.queue (begun_at working.begun (mind_of working.paused.process))
+        (λ end. Over end (mind_of result.1.worked.paused.process)) result.1.worked.ended
+        working.paused.journal result.1.worked.paused.journal (D.told outside) (D.told result.0) }
 {
     let Working {
         alloc,
         begun,
-        process,
+        paused,
         mut queue,
-        journal,
     } = working;
+    let Paused { process, journal } = paused;
     let mut run = Run {
         process,
         journal,
@@ -238,13 +219,7 @@ fn run_all<D: Effects>(outside: D, working: Working<D::Kept>) -> (D, Done<D::Kep
         journal,
         outside,
     } = run;
-    (
-        outside,
-        Done {
-            ended,
-            process,
-            queue,
-            journal,
-        },
-    )
+    let paused = Paused { process, journal };
+    let worked = Worked { ended, paused };
+    (outside, Done { worked, queue })
 }

@@ -4,7 +4,6 @@ ghost use Rattle.std.specs.Prelude.{◌≡◌, ◌||◌, ◌∷◌, ℕ, List, [
 ghost use Rattle.std.specs.Prelude.{if◌then◌else◌};
 ghost use Rattle.pm_bytes.specs.Name.{has_zero};
 ghost use Rattle.pm_journal.specs.Executed.{Carries};
-ghost use Rattle.pm_journal.specs.Held.{Keeping};
 ghost use Rattle.pm_journal.specs.Plan.{ask};
 ghost use Rattle.pm_journal.specs.Walking.{Go};
 ghost use Rattle.pm_journal.specs.declared.acts.Act.TheVariants.{Moment};
@@ -25,8 +24,8 @@ use crate::first_values::{begin, home, login};
 use crate::opening::{Opened, Rule, open_first};
 use crate::turned::Turned;
 use pm_bytes::{Blob, Environ, Memory, Name, Names, Pair};
-use pm_journal::{Effects, Journal};
-use pm_meaning::{CommandLine, Process, Run};
+use pm_journal::Effects;
+use pm_meaning::{CommandLine, Idle, Process, Run};
 use pm_message::{Mail, needs_line, prepare_mail};
 use std::alloc::Global;
 
@@ -37,34 +36,31 @@ pub fn arrive<D: Effects>(
     env: &Environ,
     bytes: Blob,
     outside: &mut D,
-    journal: &mut Journal<D::Kept>,
+    idle: &mut Idle<D::Kept>,
 ) -> Result<Process, Memory>
-    requires keeping { Keeping journal.old [] }
     ensures carries { let home = Running.home_by line.now.values (home_folder env.now) in
         Carries (step (Arrived line.now env.now bytes))
         (λ process. Go (Setting line.now.values line.now home (mind_of process)))
-        result journal.old journal.new (D.told outside.old) (D.told outside.new) }
+        result idle.old.journal idle.new.journal (D.told outside.old) (D.told outside.new) }
     ensures locks { IfOk result (λ process. process.locks.names ≡ []) }
-    ensures keeping { Keeping journal.new [] }
 {
     if !needs_line(bytes.as_slice(), &line.renew) {
         let message = Mail::split_own(alloc, bytes)?;
         return begin(alloc, line, env, message);
     }
-    let moment = ask_moment(outside, journal)?;
+    let moment = ask_moment(outside, idle)?;
     let message = prepare_mail(alloc, bytes, &line.renew, login(env).as_bytes(), moment)?;
     begin(alloc, line, env, message)
 }
 
-// The moment, in seconds since 1970 in UTC, while no lock is held.
-fn ask_moment<D: Effects>(outside: &mut D, journal: &mut Journal<D::Kept>) -> Result<i64, Memory>
-    requires keeping { Keeping journal.old [] }
+// The moment, in seconds since 1970 in UTC, while no lock is held. If memory runs out, nothing was noted.
+fn ask_moment<D: Effects>(outside: &mut D, idle: &mut Idle<D::Kept>) -> Result<i64, Memory>
     ensures carries { Carries (ask Moment) (λ moment. Now moment) result
-        journal.old journal.new (D.told outside.old) (D.told outside.new) }
-    ensures keeping { Keeping journal.new [] }
+        idle.old.journal idle.new.journal (D.told outside.old) (D.told outside.new) }
+    ensures untouched { OnErr result (idle.new.journal.entries ≡ idle.old.journal.entries) }
 {
-    journal.reserve(1)?;
-    Ok(outside.moment(journal))
+    idle.journal.reserve(1)?;
+    Ok(outside.moment(&mut idle.journal))
 }
 
 /// The words of the command line set variables, and its rcfiles are opened in order, up to one that is read.

@@ -1,6 +1,6 @@
 //! A whole run, from the mail's arrival to the end of the last of its processes.
 ghost use Rattle.std.specs.Prelude.{◌≡◌, ◌≤◌, true, [], map, IfOk, OnErr};
-ghost use Rattle.pm_journal.specs.Held.{Keeping};
+ghost use Rattle.pm_journal.specs.Executed.{GivesEach};
 ghost use Rattle.pm_journal.specs.Walking.{Stop, Completes};
 ghost use Rattle.pm_meaning.specs.FirstValues.{home_folder};
 ghost use Rattle.pm_meaning.specs.Minds.{mind_of};
@@ -22,7 +22,7 @@ use core::mem::replace_with;
 use pm_bytes::{Blob, Environ, Memory};
 use pm_conds::Observer;
 use pm_journal::{Effects, Entries, Journal, give_all};
-use pm_meaning::{CommandLine, Ending, Process, Run};
+use pm_meaning::{CommandLine, Ending, Idle, Process, Run};
 use std::alloc::Global;
 use std::mem;
 
@@ -44,14 +44,14 @@ pub struct Arrival<'a> {
 pub struct Start<'a, N: Observer, K: Entries> {
     pub alloc: Global,
     pub arrival: Arrival<'a>,
-    pub journal: Journal<K>,
+    pub idle: Idle<K>,
     pub observer: &'a mut N,
 }
 
 /// How the first process of a run ended, and the journal of all.
 pub struct Ran<K: Entries> {
     pub ended: Result<Ending, Memory>,
-    pub journal: Journal<K>,
+    pub idle: Idle<K>,
 }
 
 /// Runs the process that delivers this mail, and then the copies of it that were made for blocks, one after the other.
@@ -62,29 +62,26 @@ pub fn run_processes<D: Effects, N: Observer>(
     alloc: Global,
     arrival: Arrival<'_>,
     outside: &mut D,
-    journal: &mut Journal<D::Kept>,
+    idle: &mut Idle<D::Kept>,
     observer: &mut N,
 ) -> Result<Ending, Memory>
-    requires keeping { Keeping journal.old [] }
     ensures ok { IfOk result (λ ending.
         Completes advance (run_of arrival.entry.line arrival.entry.env.now arrival.entry.bytes) ending
-        journal.old journal.new (D.told outside.old) (D.told outside.new)) }
+        idle.old.journal idle.new.journal (D.told outside.old) (D.told outside.new)) }
     ensures memory { OnErr result (GaveUp (run_of arrival.entry.line arrival.entry.env.now arrival.entry.bytes)
-        journal.old journal.new (D.told outside.old) (D.told outside.new)) }
-    ensures keeping { Keeping journal.new [] }
+        idle.old.journal idle.new.journal (D.told outside.old) (D.told outside.new)) }
 {
-    let begun = mem::replace(journal, Journal::empty(alloc));
+    let none = Idle {
+        journal: Journal::empty(alloc),
+    };
     let start = Start {
         alloc,
         arrival,
-        journal: begun,
+        idle: mem::replace(idle, none),
         observer,
     };
-    let Ran {
-        ended,
-        journal: noted,
-    } = replace_with(outside, start, run_all);
-    *journal = noted;
+    let Ran { ended, idle: noted } = replace_with(outside, start, run_all);
+    *idle = noted;
     ended
 }
 
@@ -93,32 +90,31 @@ fn run_all<D: Effects, N: Observer>(
     mut outside: D,
     start: Start<'_, N, D::Kept>,
 ) -> (D, Ran<D::Kept>)
-    requires keeping { Keeping start.journal [] }
     ensures ok { IfOk result.1.ended (λ ending.
         Completes advance (run_of start.entry.arrival.line start.entry.arrival.env.now start.entry.arrival.bytes) ending
-        start.entry.journal result.1.journal (D.told outside) (D.told result.0)) }
+        start.entry.idle.journal result.1.idle.journal (D.told outside) (D.told result.0)) }
     ensures memory { OnErr result.1.ended
         (GaveUp (run_of start.entry.arrival.line start.entry.arrival.env.now start.entry.arrival.bytes)
-        start.entry.journal result.1.journal (D.told outside) (D.told result.0)) }
-    ensures keeping { Keeping result.1.journal [] }
+        start.entry.idle.journal result.1.idle.journal (D.told outside) (D.told result.0)) }
 {
     let Start {
         alloc,
         arrival,
-        mut journal,
+        mut idle,
         observer,
     } = start;
     let Arrival { line, env, bytes } = arrival;
-    let process = match arrive(alloc, &line, env, bytes, &mut outside, &mut journal) {
+    let process = match arrive(alloc, &line, env, bytes, &mut outside, &mut idle) {
         Ok(process) => process,
         Err(Memory) => return (
             outside,
             Ran {
                 ended: Err(Memory),
-                journal,
+                idle,
             },
         ),
     };
+    let Idle { journal } = idle;
     let mut run = Run {
         process,
         journal,
@@ -126,14 +122,11 @@ fn run_all<D: Effects, N: Observer>(
     };
     let mut queue = Queue::new(alloc);
     let ended = run_first(alloc, &mut run, &line, env, &mut queue, &mut *observer);
-    let Run {
-        mut process,
-        mut journal,
-        mut outside,
-    } = run;
-    give_all(&mut process.locks, &mut outside, &mut journal);
-    let counts = counts_of(&process);
-    drop(process);
+    let Left {
+        outside,
+        idle,
+        counts,
+    } = leave_process(run);
     match ended {
         Ok(first) => {
             let others = Others {
@@ -141,25 +134,47 @@ fn run_all<D: Effects, N: Observer>(
                 counts,
                 queue,
             };
-            run_copies(alloc, others, outside, journal, observer)
+            run_copies(alloc, others, outside, idle, observer)
         }
         Err(Memory) => (
             outside,
             Ran {
                 ended: Err(Memory),
-                journal,
+                idle,
             },
         ),
     }
 }
 
-fn counts_of(process: &Process) -> Counts
-    ensures placed { result.placed ≡ process.now.placed }
-    ensures openings { result.openings ≡ process.now.openings }
+// What is left of a process that is over: what does the acts, the journal, and what the run has counted.
+struct Left<D: Effects> {
+    outside: D,
+    idle: Idle<D::Kept>,
+    counts: Counts,
+}
+
+// Gives each lock of a process that is over back.
+fn leave_process<D: Effects>(run: Run<D>) -> Left<D>
+    ensures gives { GivesEach run.process.locks.names
+        run.journal result.idle.journal (D.told run.outside) (D.told result.outside) }
+    ensures placed { result.counts.placed ≡ run.process.placed }
+    ensures openings { result.counts.openings ≡ run.process.openings }
 {
-    Counts {
+    let Run {
+        mut process,
+        mut journal,
+        mut outside,
+    } = run;
+    give_all(&mut process.locks, &mut outside, &mut journal);
+    let counts = Counts {
         placed: process.placed,
         openings: process.openings,
+    };
+    drop(process);
+    Left {
+        outside,
+        idle: Idle { journal },
+        counts,
     }
 }
 
@@ -226,15 +241,13 @@ fn run_copies<D: Effects, N: Observer>(
     alloc: Global,
     others: Others,
     mut outside: D,
-    mut journal: Journal<D::Kept>,
+    mut idle: Idle<D::Kept>,
     observer: &mut N,
 ) -> (D, Ran<D::Kept>)
-    requires keeping { Keeping journal [] }
     ensures ok { IfOk result.1.ended (λ ending. GoesOn (next_in others.queue others.first others.counts) (Stop ending)
-        journal result.1.journal (D.told outside) (D.told result.0)) }
+        idle.journal result.1.idle.journal (D.told outside) (D.told result.0)) }
     ensures memory { OnErr result.1.ended (GivesUp (next_in others.queue others.first others.counts)
-        journal result.1.journal (D.told outside) (D.told result.0)) }
-    ensures keeping { Keeping result.1.journal [] }
+        idle.journal result.1.idle.journal (D.told outside) (D.told result.0)) }
 {
     let Others {
         first,
@@ -248,22 +261,21 @@ fn run_copies<D: Effects, N: Observer>(
         } = copy;
         process.placed = counted.placed;
         process.openings = counted.openings;
+        let Idle { journal } = idle;
         let mut run = Run {
             process,
             journal,
             outside,
         };
         let ended = run_copy(alloc, &mut run, frames, &mut queue, &mut *observer);
-        let Run {
-            process: mut over,
-            journal: noted,
+        let Left {
             outside: lent,
-        } = run;
-        journal = noted;
+            idle: noted,
+            counts,
+        } = leave_process(run);
         outside = lent;
-        give_all(&mut over.locks, &mut outside, &mut journal);
-        counted = counts_of(&over);
-        drop(over);
+        idle = noted;
+        counted = counts;
         match ended {
             Ok(_) => {}
             Err(Memory) => {
@@ -271,7 +283,7 @@ fn run_copies<D: Effects, N: Observer>(
                     outside,
                     Ran {
                         ended: Err(Memory),
-                        journal,
+                        idle,
                     },
                 );
             }
@@ -281,7 +293,7 @@ fn run_copies<D: Effects, N: Observer>(
         outside,
         Ran {
             ended: Ok(first),
-            journal,
+            idle,
         },
     )
 }

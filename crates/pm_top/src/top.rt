@@ -1,7 +1,6 @@
 //! The whole run of the program, from its words to its exit status.
 ghost use Rattle.std.specs.Prelude.{◌≡◌, [], IfOk, OnErr};
 ghost use Rattle.pm_journal.specs.Entries.{view_of};
-ghost use Rattle.pm_journal.specs.Held.{Keeping};
 ghost use Rattle.pm_journal.specs.Walking.{Completes};
 ghost use Rattle.pm_meaning.specs.Courses.{advance, run_of};
 ghost use Rattle.pm_meaning.specs.Status.{status_number};
@@ -16,11 +15,12 @@ use pm_bytes::{Environ, Memory};
 use pm_conds::{NoObserver, Observer};
 use pm_host::{Child, Host, Sink, Source};
 use pm_journal::{Entries, Journal};
-use pm_meaning::{CommandLine, End, Ending, Status};
+use pm_meaning::{CommandLine, End, Ending, Idle, Status};
 use pm_objects::{Objects, lend};
 use pm_run::{Arrival, run_processes};
 use pm_streams::{Mail, read_mail};
 use std::alloc::Global;
+use std::mem;
 
 /// Reads the words and the message, carries out the recipes, notes each act in the journal, and answers the
 /// exit status (procmail(1)). The words leave out the program's name.
@@ -130,7 +130,12 @@ fn run_words<'a, S: Source, H: Host, O: Sink, E: Sink, K: Entries, N: Observer>(
                 line,
                 env: call.env,
             };
-            run_line(alloc, request, source, objects, journal, observer)
+            let mut idle = Idle {
+                journal: mem::replace(journal, Journal::empty(alloc)),
+            };
+            let status = run_line(alloc, request, source, objects, &mut idle, observer);
+            *journal = idle.journal;
+            status
         }
         Ok(None) => refuse(&mut *objects.err, Status::Usage),
         Err(Memory) => refuse(&mut *objects.err, Status::SystemError),
@@ -149,23 +154,22 @@ fn run_line<'a, S: Source, H: Host, O: Sink, E: Sink, K: Entries, N: Observer>(
     request: Request<'_>,
     source: &mut S,
     objects: &mut Objects<'a, H, &'a mut O, E, K>,
-    journal: &mut Journal<K>,
+    idle: &mut Idle<K>,
     observer: &mut N,
 ) -> u8
-    requires empty { journal.old.entries ≡ [] }
+    requires empty { idle.old.journal.entries ≡ [] }
     ensures run { RunsLine request.entry.line (λ words. record {
       words = words;
       env = request.entry.env.now;
       status = result;
       source = S.told source.old;
       rest = S.told source.new;
-      entries = journal.new.entries;
+      entries = idle.new.journal.entries;
       before = view_of (H.told objects.old.host.now) (O.told objects.old.out.now)
           (E.told objects.old.err.now);
       after = view_of (H.told objects.new.host.now) (O.told objects.new.out.now)
           (E.told objects.new.err.now);
     }) }
-    ensures keeping { Keeping journal.new [] }
     ensures host { objects.new.host.ghost_name ≡ objects.old.host.ghost_name }
     ensures out { objects.new.out.ghost_name ≡ objects.old.out.ghost_name }
     ensures err { objects.new.err.ghost_name ≡ objects.old.err.ghost_name }
@@ -174,7 +178,7 @@ fn run_line<'a, S: Source, H: Host, O: Sink, E: Sink, K: Entries, N: Observer>(
         Ok(Mail::Bytes(bytes)) => {
             let Request { line, env } = request;
             let arrival = Arrival { line, env, bytes };
-            run_mail(alloc, arrival, objects, journal, observer)
+            run_mail(alloc, arrival, objects, idle, observer)
         }
         Ok(Mail::TooMany) => refuse(&mut *objects.err, Status::DataError),
         Ok(Mail::Failed) => refuse(&mut *objects.err, Status::InputOutput),
@@ -186,28 +190,27 @@ fn run_mail<'a, H: Host, O: Sink, E: Sink, K: Entries, N: Observer>(
     alloc: Global,
     arrival: Arrival<'_>,
     objects: &mut Objects<'a, H, &'a mut O, E, K>,
-    journal: &mut Journal<K>,
+    idle: &mut Idle<K>,
     observer: &mut N,
 ) -> u8
-    requires empty { journal.old.entries ≡ [] }
+    requires empty { idle.old.journal.entries ≡ [] }
     ensures run { RunsMail arrival.entry.line arrival.entry.bytes (λ words source rest. record {
       words = words;
       env = arrival.entry.env.now;
       status = result;
       source = source;
       rest = rest;
-      entries = journal.new.entries;
+      entries = idle.new.journal.entries;
       before = view_of (H.told objects.old.host.now) (O.told objects.old.out.now)
           (E.told objects.old.err.now);
       after = view_of (H.told objects.new.host.now) (O.told objects.new.out.now)
           (E.told objects.new.err.now);
     }) }
-    ensures keeping { Keeping journal.new [] }
     ensures host { objects.new.host.ghost_name ≡ objects.old.host.ghost_name }
     ensures out { objects.new.out.ghost_name ≡ objects.old.out.ghost_name }
     ensures err { objects.new.err.ghost_name ≡ objects.old.err.ghost_name }
 {
-    match run_objects(alloc, arrival, objects, journal, observer) {
+    match run_objects(alloc, arrival, objects, idle, observer) {
         Ok(ending) => finish(&mut *objects.err, ending),
         Err(Memory) => refuse(&mut *objects.err, Status::SystemError),
     }
@@ -218,25 +221,23 @@ fn run_objects<'a, H: Host, O: Sink, E: Sink, K: Entries, N: Observer>(
     alloc: Global,
     arrival: Arrival<'_>,
     objects: &mut Objects<'a, H, &'a mut O, E, K>,
-    journal: &mut Journal<K>,
+    idle: &mut Idle<K>,
     observer: &mut N,
 ) -> Result<Ending, Memory>
-    requires keeping { Keeping journal.old [] }
     ensures ok { IfOk result (λ ending.
         Completes advance (run_of arrival.entry.line arrival.entry.env.now arrival.entry.bytes) ending
-        journal.old journal.new
+        idle.old.journal idle.new.journal
         (view_of (H.told objects.old.host.now) (O.told objects.old.out.now) (E.told objects.old.err.now))
         (view_of (H.told objects.new.host.now) (O.told objects.new.out.now) (E.told objects.new.err.now))) }
     ensures memory { OnErr result (GaveUp (run_of arrival.entry.line arrival.entry.env.now arrival.entry.bytes)
-        journal.old journal.new
+        idle.old.journal idle.new.journal
         (view_of (H.told objects.old.host.now) (O.told objects.old.out.now) (E.told objects.old.err.now))
         (view_of (H.told objects.new.host.now) (O.told objects.new.out.now) (E.told objects.new.err.now))) }
-    ensures keeping { Keeping journal.new [] }
     ensures host { objects.new.host.ghost_name ≡ objects.old.host.ghost_name }
     ensures out { objects.new.out.ghost_name ≡ objects.old.out.ghost_name }
     ensures err { objects.new.err.ghost_name ≡ objects.old.err.ghost_name }
 {
-    run_processes(alloc, arrival, objects, journal, observer)
+    run_processes(alloc, arrival, objects, idle, observer)
 }
 
 // The status of a run that ended so; a mail filter without its rcfile says so.

@@ -1,12 +1,8 @@
 use Rattle.pm_meaning.proofs.Beside.{carries_plain, carries_back, first_same, second_same, third_same}
-use Rattle.pm_actions.proofs.PerformLemmas.{performs_of, wanting}
-use Rattle.pm_actions.proofs.performing.perform_lent.Goals as goal
+use Rattle.pm_actions.proofs.performing.act_lent.Goals as goal
 
-pub returns-clause-performs : goal.returns-clause-performs
-returns-clause-performs g c = rw c.answered.ensures (performs_of _ _ _ _ _ _ _ (carries_plain _ _ _ _ _ _ _ c.do_work.ensures.carries))
-
-pub returns-clause-sure : goal.returns-clause-sure
-returns-clause-sure g c = rw c.answered.ensures (wanting _ _ c.do_work.ensures.sure)
+pub returns-clause-carries : goal.returns-clause-carries
+returns-clause-carries g c = carries_plain _ _ _ _ _ _ _ c.do_work.ensures.carries
 
 pub returns-clause-host : goal.returns-clause-host
 returns-clause-host g c = first_same _ _ _ _ _ _ (carries_back _ _ _ _ _ _ _ c.do_work.ensures.carries)
