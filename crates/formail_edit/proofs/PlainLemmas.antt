@@ -187,11 +187,6 @@ from_first head starts =
     let is = (starts_is Decides-eqb head (codes "From ") (starts_with nat_eq head (codes "From ")) refl).0 starts in
     subst (λ t. begins_from (texts_of t) ≡ true) (sym is) (from_lines (lines (drop 5 head)))
 
--- where no edit of fields is asked for, they stay
-pub fields_stay : (edits : Edits) → edits.renames ≡ [] → edits.uniques ≡ [] → edits.puts ≡ [] → edits.zap ≡ false → edits.join ≡ false
-    → (fields : List (List ℕ)) → edited_fields edits fields ≡ fields
-fields_stay edits renames uniques puts zap join fields = rw (renames, uniques, puts, zap, join) refl
-
 -- no line is put before a mail that has one
 pub no_line : (edits : Edits) (message : Message) → begins_from (edited_fields edits (texts_of message.head)) ≡ true → sender_for message edits ≡ None
 no_line edits message begins = elim edits.keep_from as (λ b. (if b then None else if is_taking edits then None else if begins_from (edited_fields edits (texts_of message.head)) then None else Some (sender_in (texts_of message.head))) ≡ None) [

@@ -27,7 +27,7 @@ use Rattle.pm_journal.specs.declared.appending.AppendEnd.TheVariants.{Done as En
 use Rattle.pm_journal.specs.declared.appending.AppendState.{AppendState}
 use Rattle.pm_journal.specs.declared.appending.AppendState.TheVariants.{Looking, Creating, Writing, Cutting, Removing, Ended}
 use Rattle.pm_journal.specs.declared.appending.AppendStep.TheVariants.{Append as StepAppend, Finish}
-use Rattle.formail_extra.specs.Reading.{CacheState, CacheLooking, CacheOn, CacheEnded, CacheAsks, heard_first, heard_read, cache_heard, CacheDone, ReadsTo, ReadsCache}
+use Rattle.formail_extra.specs.Reading.{CacheState, CacheLooking, CacheOn, CacheEnded, CacheAsks, heard_first, heard_read, cache_heard, CacheDone, ReadsCache}
 use Rattle.formail_extra.specs.declared.reading.CacheRead.{CacheRead}
 use Rattle.formail_extra.specs.declared.reading.CacheRead.TheVariants.{Whole, Front, Missing, Folder, Failed as ReadFailed}
 use Rattle.formail_extra.proofs.ReadLemmas.{reading_same}
@@ -117,11 +117,6 @@ read_whole name w CacheLooking end done found = absurd done
 read_whole name w (CacheOn so_far) end done found =
     subst (FoundWhole name w) (sym done.1) (found.0, found.1, found.2 ∙ ap (λ n. take n found.0.bytes) done.0)
 read_whole name w (CacheEnded e) end done found = subst (FoundWhole name w) (sym done) found
-
--- a reading changes nothing
-pub reads_same : (name : List ℕ) (at : CacheState) (a b : HostView) → ReadsTo name at a b → Tells (λ w v. v ≡ w) a.world b.world
-reads_same name at a b reads =
-    tells_map (Steps reads.calls) (λ w v. v ≡ w) (λ w v s. s.made ∙ reading_same name reads.calls CacheLooking at w reads.walk) a.world b.world reads.ran.world
 
 -- a whole reading changes nothing, and its bytes are the file's
 pub reads_found : (name : List ℕ) (end : CacheRead) (a b : HostView) → ReadsCache name end a b → Tells (λ w v. (v ≡ w) × FoundWhole name w end) a.world b.world

@@ -6,10 +6,9 @@ use Rattle.pm_journal.specs.Executed.{Executes}
 use Rattle.pm_journal.specs.Plan.{Plays}
 use Rattle.pm_journal.specs.declared.acts.Entry.{Entry}
 use Rattle.lockfile_top.specs.Doing.{do_tasks}
-use Rattle.lockfile_top.specs.Promise.{Run, BadWords, NotBegun, DoesTasks, Outcome, bad_words, not_begun, does_tasks, Leaves, LeavesRight, Promise, Did, RunsLine}
+use Rattle.lockfile_top.specs.Promise.{Run, BadWords, NotBegun, DoesTasks, Outcome, bad_words, not_begun, does_tasks, Leaves, LeavesRight, Promise, Did}
 use Rattle.lockfile_top.specs.Status.{status_number, end_status}
 use Rattle.lockfile_top.specs.Words.{command_line}
-use Rattle.lockfile_top.specs.declared.status.Status.TheVariants.{SystemError}
 use Rattle.lockfile_top.specs.declared.tasks.CommandLine.{CommandLine}
 use Rattle.lockfile_top.specs.declared.tasks.Ending.TheVariants.{AllDone, GaveUp}
 use Rattle.lockfile_top.proofs.EndLemmas.{tasks_stop, tasks_succeed}
@@ -64,15 +63,6 @@ second_same x y z a b c e = ap second_of e
 pub third_same : (x y z a b c : ℕ) → (x ∷ y ∷ z ∷ []) ≡ (a ∷ b ∷ c ∷ []) → z ≡ c
 third_same x y z a b c e = ap third_of e
 
--- the words of a line that was carried out
-pub line_done : (line : CommandLine) (ending : Ending) (status : ℕ) (before after : View) → Did line.tasks ending before after → status ≡ status_number (end_status line.inverted ending) → RunsLine line status before after
-line_done line ending status before after d s = λ words env read.
-    does_tasks (record { line = line; read = read; entries = d.entries; ending = ending; plays = d.plays; accounts = d.accounts; status_is = s })
-
--- memory was wanting before a line was carried out
-pub line_starved : (line : CommandLine) (status : ℕ) (before after : View) → status ≡ status_number SystemError → after ≡ before → RunsLine line status before after
-line_starved line status before after s e = λ words env read. not_begun (record { status_is = s; same = e })
-
 not_64 : (inverted : Bool) (ending : Ending) → status_number (end_status inverted ending) ≡ 64 → ⊥
 not_64 false AllDone h = omega (arith, h)
 not_64 false GaveUp h = omega (arith, h)
@@ -119,7 +109,3 @@ left_of run (does_tasks h) = leaves run h
 -- the promise, from how a run went
 pub promised : (run : Run) → Outcome run → Promise run
 promised run how = record { how = how; left = left_of run how; unread = unread_of run how; on_64 = usage_of run how; on_71 = starved_of run how }
-
--- the same over other objects that tell the same
-pub did_lent : (tasks : List Task) (ending : Ending) (before after a b : View) → before ≡ a → after ≡ b → Did tasks ending a b → Did tasks ending before after
-did_lent tasks ending before after a b e f h = subst (λ v. Did tasks ending v after) (sym e) (subst (Did tasks ending a) (sym f) h)

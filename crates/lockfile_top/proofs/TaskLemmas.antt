@@ -19,7 +19,7 @@ use Rattle.pm_journal.proofs.PlanLeads.{leads_on, leads_to_end}
 use Rattle.pm_journal.proofs.WantsMemory.{executes_nothing}
 use Rattle.pm_journal.specs.Sayings.{NotesSaid}
 use Rattle.lockfile_top.specs.Lines.{forcing_line, sorry_line}
-use Rattle.lockfile_top.specs.Doing.{name_of, with_name, say_then, after_take, after_give, one_task, remove_each, give_up, do_tasks}
+use Rattle.lockfile_top.specs.Doing.{name_of, with_name, say_then, after_take, one_task, remove_each, give_up, do_tasks}
 use Rattle.lockfile_top.specs.Jobs.{tasks_of, made_by}
 use Rattle.lockfile_top.specs.declared.tasks.Task.{Task}
 use Rattle.lockfile_top.specs.declared.tasks.Ending.{Ending}
@@ -29,11 +29,6 @@ use Rattle.lockfile_top.specs.declared.jobs.Job.{Job}
 -- a line was said, and then this came
 pub said : {R : Type 0} (text : List ℕ) (end : R) (x y : JournalState) (a b : View) → NotesSaid None text x y a b → Executes (say_then text end) end x y a b
 said text end x y a b h = first_act (SayErr text) (λ reply. Ends end) h.reply end x x y y a b b refl h.notes (executes_nothing end y y b refl)
-
--- a line that is said only after a removal by force
-pub said_where : {R : Type 0} (quiet : Bool) (text : List ℕ) (end : R) (x y : JournalState) (a b : View) → quiet ≡ false → NotesSaid None text x y a b
-    → Executes (if quiet then Ends end else say_then text end) end x y a b
-said_where quiet text end x y a b e h = subst (λ q. Executes (if q then Ends end else say_then text end) end x y a b) (sym e) (said text end x y a b h)
 
 pub not_said : {R : Type 0} (quiet : Bool) (text : List ℕ) (end : R) (x : JournalState) (a : View) → quiet ≡ true → Executes (if quiet then Ends end else say_then text end) end x x a a
 not_said quiet text end x a e = subst (λ q. Executes (if q then Ends end else say_then text end) end x x a a) (sym e) (executes_nothing end x x a refl)
@@ -53,12 +48,6 @@ lock_taken name rule sleeps forced made made' again text x y z a b c n g t m say
     lock_asked name rule made (Held sleeps forced) (Some made') x y z a b c n
     (subst (λ l. Executes (if nat_eq forced 0 then Ends (Some l) else say_then (forcing_line name) (Some l)) (Some made') y z b c) now
     (subst (λ l. Executes (if nat_eq forced 0 then Ends (Some made') else say_then l (Some made')) (Some made') y z b c) t (says (Some made'))))
-
-pub unlock_asked : (name : List ℕ) (made : List (List ℕ)) (reply : Reply) (last : Option (List (List ℕ))) (x y : JournalState) (a b : View) → NotesAct (Unlock name) reply x y a b → last ≡ after_give name made reply
-    → Executes (and_then (ask (Unlock name)) (λ r. Ends (after_give name made r))) last x y a b
-unlock_asked name made reply last x y a b n e =
-    first_act (Unlock name) (λ r. Ends (after_give name made r)) reply last x x y y a b b refl n
-    (subst (λ l. Executes (Ends (after_give name made reply)) l y y b b) (sym e) (executes_nothing (after_give name made reply) y y b refl))
 
 -- one lock file more was removed
 pub one_removed : {R : Type 0} (whole next : Plan R) (names rest : List (List ℕ)) (name : List ℕ) (reply : Reply) (x y z : JournalState) (a b c : View) → LeadsTo whole (remove_each (reverse names) next) x y a b

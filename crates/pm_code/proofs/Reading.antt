@@ -49,9 +49,6 @@ mutual
 one_on : (n : ℕ) → n + 1 ≡ suc n
 one_on n = omega arith
 
-past_one : (n m : ℕ) → n + suc m ≡ suc n + m
-past_one n m = omega arith
-
 block_length : (at : ℕ) (inner : List Flat) → suc (at + 1 + length inner) ≡ at + suc (length (inner ++ Leaves at ∷ []))
 block_length at inner = omega (arith, length-append inner (Leaves at ∷ []))
 

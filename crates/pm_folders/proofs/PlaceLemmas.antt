@@ -1,9 +1,9 @@
 -- The filing in a folder, put together.
-use Rattle.std.proofs.Common.{◌≡◌, ◌≤◌, ◌<◌, ◌+◌, ℕ, zero, suc, add-one, Bool, true, false, List, [], ◌∷◌, ◌++◌, length, drop, get_or, arith, refl, sym, ap, subst, inl, inr, append_assoc, append-nil, length-drop}
+use Rattle.std.proofs.Common.{◌≡◌, ◌≤◌, ◌<◌, ◌+◌, ℕ, zero, suc, add-one, Bool, true, false, List, [], ◌∷◌, ◌++◌, length, drop, get_or, arith, refl, sym, ap, subst, inr, append_assoc, append-nil, length-drop}
 use Rattle.std.proofs.Math.Seq.{drop-cons}
 use Rattle.pm_host.specs.Told.{HostView, Makes}
 use Rattle.pm_host.specs.Runs.{Ran, logged}
-use Rattle.pm_host.proofs.RunsJoin.{ran_none, ran_one, ran_join, ran_then}
+use Rattle.pm_host.proofs.RunsJoin.{ran_one, ran_join, ran_then}
 use Rattle.pm_host.specs.declared.answers.Made.{Made}
 use Rattle.pm_host.specs.declared.answers.Made.TheVariants.{Made as MadeNew, Exists, Failed as MadeFailed}
 use Rattle.pm_host.specs.declared.calls.Call.TheVariants.{MakeFolder, Names}
@@ -41,9 +41,6 @@ plain_placed folder prefix piece stamp all end a b are t = record {
   group = subst (λ r. EndsPlace Plain folder prefix piece stamp r t.calls) (sym t.reply_is) (numbers_of (plain_candidate folder prefix stamp) all piece end a b are t);
 }
 
-pub plain_left : (folder prefix piece : List ℕ) (stamp : Stamp) (a : HostView) → PlacesIn Plain folder prefix piece stamp Memory a a
-plain_left folder prefix piece stamp a = record { calls = []; ran = ran_none a; group = refl }
-
 -- a folder is there
 abbrev pub IsThere : Made → Type 0
 IsThere MadeFailed = ⊥
@@ -53,13 +50,6 @@ made_one : (folder : List ℕ) (made : Made) → IsThere made → MakesFolders (
 made_one folder MadeNew there = (refl, (refl, refl))
 made_one folder Exists there = (refl, (refl, refl))
 made_one folder MadeFailed there = absurd there
-
-pub mh_no_folder : (folder prefix piece : List ℕ) (stamp : Stamp) (a b : HostView) → Makes (MakeFolder folder) (AnswerMakeFolder MadeFailed) a b → PlacesIn Mh folder prefix piece stamp Undone a b
-mh_no_folder folder prefix piece stamp a b makes = record {
-  calls = logged (MakeFolder folder) (AnswerMakeFolder MadeFailed) ∷ [];
-  ran = ran_one (MakeFolder folder) (AnswerMakeFolder MadeFailed) a b makes;
-  group = inl (record { reply_is = refl; makes = (refl, (refl, refl)) });
-}
 
 -- the folder is there and its names were asked
 both_ran : (folder : List ℕ) (made : Made) (answer : Answer) (a b c : HostView) → Makes (MakeFolder folder) (AnswerMakeFolder made) a b → Makes (Names folder) answer b c
@@ -107,9 +97,6 @@ after_there MadeFailed all later there p = absurd there
 folder_first : (all : List (List ℕ)) (k : ℕ) (n : List ℕ) → k < length all → n ≡ get_or all k n → drop k all ≡ n ∷ drop (k + 1) all
 folder_first all k n h e = rw (add-one, drop-cons all k n) (ap (λ x. x ∷ drop (suc k) all) (sym e))
 
-pub made_none : (all : List (List ℕ)) (a : HostView) → MadeSoFar all 0 a a
-made_none all a = record { calls = []; ran = ran_none a; goes_on = λ whole later m. m }
-
 -- one folder more
 pub made_more : (all : List (List ℕ)) (k : ℕ) (n : List ℕ) (made : Made) (a b c : HostView) → MadeSoFar all k a b → k < length all → n ≡ get_or all k n → Makes (MakeFolder n) (AnswerMakeFolder made) b c → IsThere made
     → MadeSoFar all (k + 1) a c
@@ -145,12 +132,6 @@ made_all all k a b so_far h = record {
   makes = subst (MakesFolders all true) (append-nil so_far.calls)
       (so_far.goes_on true [] (subst (λ l. MakesFolders l true []) (sym (none_left (drop k all) (omega (arith, length-drop k all)))) (refl, refl)));
 }
-
-pub maildir_no_folder : (folder prefix piece : List ℕ) (stamp : Stamp) (a b : HostView) → MakesAll (maildir_folders folder) false a b → PlacesIn Maildir folder prefix piece stamp Undone a b
-maildir_no_folder folder prefix piece stamp a b m = record { calls = m.calls; ran = m.ran; group = inl (record { reply_is = refl; makes = m.makes }) }
-
-pub maildir_left : (folder prefix piece : List ℕ) (stamp : Stamp) (a : HostView) → PlacesIn Maildir folder prefix piece stamp Memory a a
-maildir_left folder prefix piece stamp a = record { calls = []; ran = ran_none a; group = refl }
 
 pub maildir_placed : (folder prefix piece : List ℕ) (stamp : Stamp) (all : List Candidate) (end : PlaceEnd) (a b c : HostView) → MakesAll (maildir_folders folder) true a b
     → Numbered (maildir_candidate folder stamp) all → TriesAll all piece end b c → PlacesIn Maildir folder prefix piece stamp end a c

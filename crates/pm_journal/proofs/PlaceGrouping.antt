@@ -17,9 +17,6 @@ use Rattle.pm_journal.specs.declared.placing.FileEnd.TheVariants.{Taken}
 use Rattle.pm_journal.specs.declared.acts.Reply.{Reply}
 use Rattle.pm_journal.proofs.OneRun.{first_or, rest_of, Same, IsDone, one_run, same_none, one_end}
 
-same_sym : (g h r q : List Logged) → Same g h r q → Same h g q r
-same_sym g h r q s = record { group = sym s.group; rest = sym s.rest }
-
 ended : (c : Candidate) (piece : List ℕ) (end : FileEnd) → IsDone (FileAsks c piece) (Ended end)
 ended c piece end call asks = asks
 

@@ -3,13 +3,11 @@ use Rattle.std.proofs.Common.{◌≡◌, ◌⊎◌, ℕ, zero, suc, List, [], �
 use Rattle.pm_journal.specs.JournalState.{JournalState}
 use Rattle.pm_journal.specs.Entries.{View}
 use Rattle.pm_journal.specs.Plan.{Plan, Ends, Asks, and_then, Plays}
-use Rattle.pm_journal.specs.Executed.{Executes, OutOfMemory, WantsAct, HasEnded, GivesEach}
-use Rattle.pm_journal.specs.Walking.{Next, Stop, Go, walk, reach, Means, IsUnfinished, ArrivesAt, Reaches, Completes, Interrupted, Abandoned}
+use Rattle.pm_journal.specs.Executed.{Executes, WantsAct, HasEnded, GivesEach}
+use Rattle.pm_journal.specs.Walking.{Next, Stop, Go, walk, reach, Means, IsUnfinished, ArrivesAt, Reaches, Completes}
 use Rattle.pm_journal.proofs.PlanJoin.{plays_then, wants_then}
 use Rattle.pm_journal.proofs.WantsMemory.{wants_front, ended_front}
 use Rattle.pm_journal.proofs.AccountsJoin.{accounts_join, accounts_none}
-use Rattle.pm_journal.proofs.KeepingActs.{keeps_rest}
-use Rattle.pm_journal.specs.Held.{Keeps, Keeping}
 use Rattle.pm_journal.specs.declared.acts.Entry.{Entry}
 use Rattle.pm_host.specs.declared.calls.Logged.{Logged}
 
@@ -116,55 +114,6 @@ completes_then step s t end x y z a b c h k = record {
   accounts = accounts_join h.more k.more a b c h.accounts k.accounts;
 }
 
--- a step for which memory was wanting
-pub interrupted_then : {S X : Type 0} (step : S → Plan (Next S X)) (s t : S) (x y z : JournalState) (a b c : View) → Reaches {X = X} step s t x y a b → OutOfMemory (step t) y z b c → Interrupted step s x z a c
-interrupted_then step s t x y z a b c h k = record {
-  more = h.more ++ k.more;
-  entries = k.entries ∙ ap (λ l. l ++ k.more) h.entries ∙ append_assoc x.entries h.more k.more;
-  middle = k.middle;
-  accounts = accounts_join h.more k.more a b k.middle h.accounts k.accounts;
-  left_off = k.left_off;
-  unfinished = h.unfinished k.more k.left_off (unfinished_here step t k.more k.left_off k.where_off);
-  took = k.took;
-}
-
--- a process that went on, and then came to its end
-pub completes_after : {S X : Type 0} (step : S → Plan (Next S X)) (s t : S) (end : X) (x y z : JournalState) (a b c : View) → Executes (step s) (Go t) x y a b → Completes step t end y z b c → Completes step s end x z a c
-completes_after step s t end x y z a b c h k = record {
-  more = h.more ++ k.more;
-  entries = k.entries ∙ ap (λ l. l ++ k.more) h.entries ∙ append_assoc x.entries h.more k.more;
-  means = means_go step s t h.more k.more end h.plays k.means;
-  accounts = accounts_join h.more k.more a b c h.accounts k.accounts;
-}
-
--- a process that went on, and then wanted memory
-pub interrupted_after : {S X : Type 0} (step : S → Plan (Next S X)) (s t : S) (x y z : JournalState) (a b c : View) → Executes {R = Next S X} (step s) (Go t) x y a b → Interrupted step t y z b c → Interrupted step s x z a c
-interrupted_after step s t x y z a b c h k = record {
-  more = h.more ++ k.more;
-  entries = k.entries ∙ ap (λ l. l ++ k.more) h.entries ∙ append_assoc x.entries h.more k.more;
-  middle = k.middle;
-  accounts = accounts_join h.more k.more a b k.middle h.accounts k.accounts;
-  left_off = k.left_off;
-  unfinished = unfinished_go step s t h.more k.more k.left_off h.plays k.unfinished;
-  took = k.took;
-}
-
--- a process of one step
-pub completes_at_once : {S X : Type 0} (step : S → Plan (Next S X)) (s : S) (end : X) (x y : JournalState) (a b : View) → Executes (step s) (Stop end) x y a b → Completes step s end x y a b
-completes_at_once step s end x y a b k = record { more = k.more; entries = k.entries; means = means_stop step s k.more end k.plays; accounts = k.accounts }
-
--- a process whose first step wanted memory
-pub interrupted_at_once : {S X : Type 0} (step : S → Plan (Next S X)) (s : S) (x y : JournalState) (a b : View) → OutOfMemory (step s) x y a b → Interrupted step s x y a b
-interrupted_at_once step s x y a b k = record {
-  more = k.more;
-  entries = k.entries;
-  middle = k.middle;
-  accounts = k.accounts;
-  left_off = k.left_off;
-  unfinished = unfinished_here step s k.more k.left_off k.where_off;
-  took = k.took;
-}
-
 -- a process that went on for some steps, and then came to its end
 pub completes_reached : {S X : Type 0} (step : S → Plan (Next S X)) (s t : S) (end : X) (x y z : JournalState) (a b c : View) → Reaches {X = X} step s t x y a b → Completes step t end y z b c → Completes step s end x z a c
 completes_reached step s t end x y z a b c h k = record {
@@ -172,18 +121,6 @@ completes_reached step s t end x y z a b c h k = record {
   entries = k.entries ∙ ap (λ l. l ++ k.more) h.entries ∙ append_assoc x.entries h.more k.more;
   means = h.means k.more end k.means;
   accounts = accounts_join h.more k.more a b c h.accounts k.accounts;
-}
-
--- a process that went on for some steps, and then wanted memory
-pub interrupted_reached : {S X : Type 0} (step : S → Plan (Next S X)) (s t : S) (x y z : JournalState) (a b c : View) → Reaches {X = X} step s t x y a b → Interrupted step t y z b c → Interrupted step s x z a c
-interrupted_reached step s t x y z a b c h k = record {
-  more = h.more ++ k.more;
-  entries = k.entries ∙ ap (λ l. l ++ k.more) h.entries ∙ append_assoc x.entries h.more k.more;
-  middle = k.middle;
-  accounts = accounts_join h.more k.more a b k.middle h.accounts k.accounts;
-  left_off = k.left_off;
-  unfinished = h.unfinished k.more k.left_off k.unfinished;
-  took = k.took;
 }
 
 -- a process that took one step
@@ -199,25 +136,6 @@ reaches_after step s t u x y z a b c h k = record {
   means = λ later end m. subst (λ l. Means step s l end) (sym (append_assoc h.more k.more later)) (means_go step s t h.more (k.more ++ later) end h.plays (k.means later end m));
   unfinished = λ later calls m. subst (λ l. IsUnfinished step s l calls) (sym (append_assoc h.more k.more later)) (unfinished_go step s t h.more (k.more ++ later) calls h.plays (k.unfinished later calls m));
   accounts = accounts_join h.more k.more a b c h.accounts k.accounts;
-}
-
--- a process that wanted memory, and then gave its locks back
-pub abandoned_by : {S X : Type 0} (step : S → Plan (Next S X)) (s : S) (held : List (List ℕ)) (x y z : JournalState) (a b c : View) → Interrupted {X = X} step s x y a b → GivesEach held y z b c
-    → Keeping x [] → Keeping y held → Abandoned {X = X} step s x z a c
-abandoned_by step s held x y z a b c h k start now = record {
-  done = h.more;
-  given = k.given;
-  entries = k.entries ∙ ap (λ l. l ++ k.given) h.entries;
-  middle = h.middle;
-  accounts = h.accounts;
-  left_off = h.left_off;
-  unfinished = h.unfinished;
-  later = b;
-  took = h.took;
-  held = held;
-  kept = keeps_rest x.entries h.more [] [] held start.keeps (subst (λ l. Keeps [] l held) h.entries now.keeps);
-  unlocks = k.unlocks;
-  back = k.accounts;
 }
 
 pub gives_none : (x : JournalState) (s : View) → GivesEach [] x x s s

@@ -20,9 +20,6 @@ pub and_true : (a b : Bool) → (a && b) ≡ true → (a ≡ true) × (b ≡ tru
 and_true true b e = (refl, e)
 and_true false b e = cc
 
-pub true_and : (a b : Bool) → a ≡ true → b ≡ true → (a && b) ≡ true
-true_and a b e f = ap (λ x. x && b) e ∙ f
-
 pub true_or : (a b : Bool) → a ≡ true → (a || b) ≡ true
 true_or a b e = ap (λ x. x || b) e
 

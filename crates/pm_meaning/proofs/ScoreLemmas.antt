@@ -1,5 +1,5 @@
 -- Sums that are computed up to where they leave the range.
-use Rattle.std.proofs.Common.{◌≡◌, inl, inr, ℕ, zero, suc, ◌+◌, ◌-◌, ◌*◌, ◌/◌, ◌^◌, ◌<◌, ◌≤◌, min, Bool, true, false, refl, sym, ap, ◌∙◌, arith, Option, lit≤, add-zero, zero-mul}
+use Rattle.std.proofs.Common.{◌≡◌, inl, inr, ℕ, zero, suc, ◌+◌, ◌-◌, ◌*◌, ◌/◌, ◌^◌, ◌<◌, ◌≤◌, min, Bool, true, false, refl, sym, ap, ◌∙◌, arith, Option, add-zero, zero-mul}
 use Rattle.std.specs.Prelude.{ℤ, pos, negsuc, ◌+ℤ◌, ◌*ℤ◌, ◌≤ℤ◌, neg_ℤ, Some, None, int_div, unsigned_abs, int_lt, if◌then◌else◌}
 use Rattle.std.proofs.lemmas.Int.{ints, clamps}
 use Rattle.std.proofs.lemmas.Bool.{cases_lt, le-ltb}
@@ -130,18 +130,3 @@ none_without t w x length number over none = sym (ap (shared_if t w x length num
 pub some_with : (t w : ℤ) (x length number : ℕ) (over : Bool) (r : ℤ) → has_share x number ≡ true → r ≡ shared t w x length number over
     → Some r ≡ add_length t w x length number over
 some_with t w x length number over r some is = ap (λ z. Some z) is ∙ sym (ap (shared_if t w x length number over) some)
-
--- 31 matches of which each counts twice as much as the one before, and more of them, reach the lower end
-pub reaches_lower_end : (n : ℕ) → 31 ≤ n → add_score (pos 0) (neg_ℤ (pos 1)) 2 n ≡ neg_ℤ (pos 2147483647)
-reaches_lower_end n many =
-    let grown = powers_grow 2 31 (n - 31) in
-    let e : 31 + (n - 31) ≡ n = omega arith in
-    let all : 2147483647 ≤ powers 2 n = rw e at grown in
-    below (powers 2 n) all
-  where
-    below : (p : ℕ) → 2147483647 ≤ p → bounded (pos 0 +ℤ neg_ℤ (pos 1) *ℤ pos p) ≡ neg_ℤ (pos 2147483647)
-    below p more = rw (times (neg_ℤ (pos 1)) p) (let one : unsigned_abs (neg_ℤ (pos 1)) * p ≡ p = omega arith in rw one (omega (arith, ints, clamps, more)))
-
--- such as 67108864 matches
-pub far_down : add_score (pos 0) (neg_ℤ (pos 1)) 2 67108864 ≡ neg_ℤ (pos 2147483647)
-far_down = reaches_lower_end 67108864 (lit≤ tt)

@@ -5,9 +5,8 @@ use Rattle.pm_bytes.specs.declared.error.Memory.{Memory}
 use Rattle.pm_journal.specs.JournalState.{JournalState}
 use Rattle.pm_journal.specs.Entries.{View}
 use Rattle.pm_journal.specs.Plan.{Plan, Ends, and_then}
-use Rattle.pm_journal.specs.Executed.{Executes, OutOfMemory, Carries, LeadsTo}
+use Rattle.pm_journal.specs.Executed.{Executes, OutOfMemory, Carries}
 use Rattle.pm_journal.proofs.ActPlans.{executes_then}
-use Rattle.pm_journal.proofs.PlanLeads.{leads_to_end, leads_to_want}
 use Rattle.pm_journal.proofs.WantsMemory.{executes_nothing, out_front, out_then, out_anywhere, on_err}
 use Rattle.pm_meaning.proofs.Choices.{ok_map, err_map}
 
@@ -20,10 +19,6 @@ then_carries p f r to answer x y z a b c h k = (ok_map answer _ _ (λ v l. execu
 pub known_carries : {R A : Type 0} (end : R) (to : A → R) (answer : Result A Memory) (x : JournalState) (s : View) → IfOk answer (λ v. end ≡ to v) → Carries (Ends end) to answer x x s s
 known_carries end to answer x s h =
     (ok_map answer _ _ (λ v e. subst (λ l. Executes (Ends end) l x x s s) e (executes_nothing end x x s refl)) h, on_err answer _ (out_anywhere (Ends end) x x s refl))
-
--- the rest was carried out, or memory was wanting in it
-pub lead_carries : {R A : Type 0} (whole rest : Plan R) (to : A → R) (answer : Result A Memory) (x y z : JournalState) (a b c : View) → LeadsTo whole rest x y a b → Carries rest to answer y z b c → Carries whole to answer x z a c
-lead_carries whole rest to answer x y z a b c h k = (ok_map answer _ _ (λ v l. leads_to_end whole rest (to v) x y z a b c h l) k.0, err_map answer _ _ (λ l. leads_to_want whole rest x y z a b c h l) k.1)
 
 -- the same plan under another form
 pub out_same : {R : Type 0} (p q : Plan R) (x y : JournalState) (a b : View) → p ≡ q → OutOfMemory p x y a b → OutOfMemory q x y a b

@@ -179,11 +179,6 @@ pub escaped_end : (whole text rest : List ℕ) → text ++ rest_escaped rest ≡
 escaped_end whole text rest so_far none =
     ap (λ t. text ++ t) (sym (rest_plain rest (λ k o. none k (omega arith) (let h = o.fits in omega (arith, h)) o))) ∙ so_far
 
--- how it begins
-pub escaped_begun : (text bs : List ℕ) → starts_with nat_eq bs sign ≡ true → (text ++ codes ">") ++ rest_escaped bs ≡ text ++ escaped bs
-escaped_begun text bs starts =
-    append_assoc text (codes ">") (rest_escaped bs) ∙ ap (λ t. text ++ t) (sym (escaped_marked bs ∙ ap (λ m. m ++ rest_escaped bs) (marked bs starts)))
-
 pub escaped_begun_plain : (text bs : List ℕ) → starts_with nat_eq bs sign ≡ false → text ++ rest_escaped bs ≡ text ++ escaped bs
 escaped_begun_plain text bs other =
     ap (λ t. text ++ t) (sym (escaped_marked bs ∙ ap (λ m. m ++ rest_escaped bs) (unmarked bs (λ h. false≢true (sym other ∙ h)))))

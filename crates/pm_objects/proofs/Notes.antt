@@ -6,7 +6,7 @@ use Rattle.pm_host.specs.declared.command.Command.{Command}
 use Rattle.pm_host.specs.declared.calls.Logged.{Logged}
 use Rattle.pm_folders.specs.Filing.{place_reply, EndsPlace, PlacesIn}
 use Rattle.pm_folders.specs.declared.tries.PlaceEnd.{PlaceEnd}
-use Rattle.pm_journal.specs.Placing.{PlaceGroup, LeftPlace}
+use Rattle.pm_journal.specs.Placing.{PlaceGroup}
 use Rattle.pm_journal.specs.declared.placing.FolderKind.{FolderKind}
 use Rattle.pm_journal.specs.declared.placing.Stamp.{Stamp}
 use Rattle.pm_journal.proofs.PlaceCause.{place_cause}
@@ -140,11 +140,6 @@ placed_group : (kind : FolderKind) (folder prefix piece : List ℕ) (stamp : Sta
 placed_group kind folder prefix piece stamp (Some r) reply calls g e = subst (λ k. PlaceGroup kind folder prefix piece stamp k calls) (sym e) g
 placed_group kind folder prefix piece stamp None reply calls g e = absurd e
 
--- the calls of a filing that was left off
-left_group : (kind : FolderKind) (folder prefix piece : List ℕ) (stamp : Stamp) (o : Option Reply) (f : Memory) (calls : List Logged) → EndsPlace kind folder prefix piece stamp o calls → AreReply o (Err f) → LeftPlace kind folder calls
-left_group kind folder prefix piece stamp (Some r) f calls g e = absurd e
-left_group kind folder prefix piece stamp None f calls g e = g
-
 pub place_notes : (refs : List ℕ) (kind : FolderKind) (folder prefix piece : List ℕ) (stamp : Stamp) (end : PlaceEnd) (reply : Reply) (x y : JournalState) (a b : HostView) (out err : StreamView)
     → PlacesIn kind folder prefix piece stamp end a b → AreReply (place_reply end) (Ok reply)
     → y.entries ≡ x.entries ++ entry_of (Place kind folder prefix piece stamp) reply (seen_by refs a out err) (seen_by refs b out err) ∷ [] → y.room + 1 ≡ x.room
@@ -161,14 +156,6 @@ place_notes refs kind folder prefix piece stamp end reply x y a b out err h is e
       covered = ((λ f. h.ran.failed (place_cause kind folder prefix piece stamp reply h.calls group f)), tt);
       same = refl;
     }) e r
-
-pub place_left : (refs : List ℕ) (kind : FolderKind) (folder prefix piece : List ℕ) (stamp : Stamp) (end : PlaceEnd) (f : Memory) (a b : HostView) (out err : StreamView) → PlacesIn kind folder prefix piece stamp end a b
-    → AreReply (place_reply end) (Err f) → LeavesAct (Place kind folder prefix piece stamp) (seen_by refs a out err) (seen_by refs b out err)
-place_left refs kind folder prefix piece stamp end f a b out err h is = record {
-  calls = h.calls;
-  unfinished = left_group kind folder prefix piece stamp (place_reply end) f h.calls h.group is;
-  took = record { ran = h.ran; out_same = refl; err_same = refl; same = refl };
-}
 
 -- the run of a program was noted, whoever holds the objects
 pub run_held : (refs : List ℕ) (command : Command) (input : List ℕ) (want : Bool) (result : Result RunEnd Memory) (x y : JournalState) (a b : HostView) (out err : StreamView)

@@ -1,9 +1,9 @@
 -- One change of a tree after another.
-use Rattle.std.proofs.Common.{◌≡◌, Option, Some, None, refl, sym, ◌∙◌, subst}
+use Rattle.std.proofs.Common.{Option, Some, None, refl, sym, ◌∙◌, subst}
 use Rattle.pm_host.specs.World.{World}
 use Rattle.pm_overlay.specs.Base.{Holds, Stays}
 use Rattle.pm_overlay.specs.Changes.{over}
-use Rattle.pm_overlay.specs.Steps.{Layer, Alters, IsSame}
+use Rattle.pm_overlay.specs.Steps.{Layer, Alters}
 
 pub follows : (P : World → Type 0) (a b : Option World) → Stays a b → Holds a P → Holds b P
 follows P None None s h = tt
@@ -63,6 +63,3 @@ alters_with P Q R a b p h f = record {
       holds_both (λ w. Q w (over a.changes a.slept w)) (λ w. P w (over a.changes a.slept w) (over b.changes b.slept w)) (λ w. R w (over a.changes a.slept w) (over b.changes b.slept w)) b.base
       (follows (λ w. Q w (over a.changes a.slept w)) a.base b.base p.base h) p.does (λ w q k. f w (over a.changes a.slept w) (over b.changes b.slept w) q k);
 }
-
-pub all_same : (a : Layer) → IsSame a a
-all_same a = record { base = stays_same a.base; does = holds_always (λ w. over a.changes a.slept w ≡ over a.changes a.slept w) a.base (λ w. refl) }

@@ -23,9 +23,6 @@ use Rattle.pm_journal.specs.declared.acts.Reply.TheVariants.{NotStarted as Reply
 use Rattle.pm_pipe.specs.Runs.{EndsRun, RunsTo, Feeding, Feeds, Taking, TakesAll, TakesWhere, LeavesTaking, Brings}
 use Rattle.pm_pipe.specs.declared.child.Came.TheVariants.{More, End, Failed}
 
-pub fed_none : (input : List ℕ) (s : HostView) → Feeding input (FeedOn 0) s s
-fed_none input s = record { calls = []; ran = ran_none s; walk = refl }
-
 take_front : (k : ℕ) (xs : List ℕ) → IsFront (take k xs) xs
 take_front k xs = grind (arith, common_steps)
 
@@ -73,9 +70,6 @@ took_all so_far new answer a c h m =
 pub took_fault : (so_far new : List ℕ) (answer : Answer) (a c : HostView) → Taking (heard_take so_far answer) a c → Brings (Ok Failed) answer so_far new → TakesAll CameFailed a c
 took_fault so_far new answer a c h m =
     done_taking (TakeOver CameFailed) CameFailed a c (subst (λ x. Taking x a c) (ap (heard_take so_far) m.0) h) refl
-
-pub took_long : (so_far : List ℕ) (end : TakeEnd) (a c : HostView) → Taking (TakeOn so_far) a c → TakeDone (TakeOn so_far) end → TakesAll end a c
-took_long so_far end a c h done = done_taking (TakeOn so_far) end a c h done
 
 pub child_not : (command : Command) (input : List ℕ) (want : Bool) (a b : HostView) → Makes (Start command want) (AnswerStart StartFailed) a b → RunsTo command input want (Some ReplyNotStarted) a b
 child_not command input want a b makes = record {

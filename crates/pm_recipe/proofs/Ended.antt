@@ -1,5 +1,5 @@
 -- What the code keeps of the blocks that are open where a text ends.
-use Rattle.std.proofs.Common.{◌≡◌, ◌+◌, ◌-◌, ◌<◌, ℕ, Bool, true, false, List, [], ◌∷◌, refl, ap, sym, ◌∙◌, length, drop, arith, subst}
+use Rattle.std.proofs.Common.{◌≡◌, ◌+◌, ◌-◌, ◌<◌, ℕ, Bool, false, List, [], ◌∷◌, refl, ap, sym, ◌∙◌, length, drop, arith, subst}
 use Rattle.pm_recipe.specs.Tree.{Defect}
 use Rattle.pm_recipe.specs.Item.Item.{States}
 use Rattle.pm_recipe.specs.Ends.{Blocks, outermost, missing, missed}
@@ -39,17 +39,6 @@ closed unended depth blocks s = record {
   lines = length-rest blocks.lines depth s.lines;
   outermost = one-less unended.outermost blocks.lines s.outermost;
 }
-
-pub missed-none : (lines : List ℕ) (stopped : Bool) → length lines ≡ 0 → missed lines stopped ≡ []
-missed-none [] stopped h = refl
-missed-none (line ∷ lines) stopped h = absurd (omega (arith, h))
-
-pub missed-stopped : (lines : List ℕ) (stopped : Bool) → stopped ≡ true → missed lines stopped ≡ []
-missed-stopped lines stopped h = subst (λ s. missed lines s ≡ []) (sym h) (by lines)
-  where
-    by : (lines : List ℕ) → missed lines true ≡ []
-    by [] = refl
-    by (line ∷ lines) = refl
 
 pub missed-some : (outer : ℕ) (lines : List ℕ) (stopped : Bool) → 0 < length lines → stopped ≡ false → IsOuter outer lines
     → States (Defect outer missing) ∷ [] ≡ missed lines stopped

@@ -29,11 +29,6 @@ or-first : (a b : Bool) → a ≡ true → not (a || b) ≡ false
 or-first true b h = refl
 or-first false b h = no h
 
-or-second : (a b : Bool) → b ≡ true → not (a || b) ≡ false
-or-second true b h = refl
-or-second false true h = refl
-or-second false false h = no h
-
 or-front : (a b c : Bool) → a ≡ true → not (a || b || c) ≡ false
 or-front true b c h = refl
 or-front false b c h = no h
@@ -146,11 +141,6 @@ found-on at next byte bytes g h =
     let far_is : far lead_places at (byte ∷ bytes) ≡ suc (far lead_places next bytes) = omega (arith, g.far_is, g.length_is) in
     sym (ap (λ p. is_at_dollar p && begins_with DOLLAR (behind lead_places at (byte ∷ bytes))) g.place_is
     ∙ ap (λ n. is_at_dollar (rest_of lead_places false next bytes) && begins_with DOLLAR (drop n (byte ∷ bytes))) far_is) ∙ h
-
-not-first : (b c : Bool) → not (b || c) ≡ false → b ≡ false → c ≡ true
-not-first true c h i = true-false i
-not-first false true h i = refl
-not-first false false h i = true-false h
 
 at-name : (byte : ℕ) (bytes : List ℕ) → is_name_start byte ≡ true → InName bytes → IsExpanded (byte ∷ bytes)
 at-name byte bytes start n = record {

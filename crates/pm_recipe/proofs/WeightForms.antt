@@ -69,10 +69,6 @@ numeral-far text minus digits rest n e = by n.sign n.signed n.text_is
 figure-no-sign : (byte : ℕ) → is_figure byte ≡ true → (nat_eq byte PLUS || nat_eq byte MINUS) ≡ false
 figure-no-sign byte h = grind (arith, nat_tests)
 
-or-left : (a b : Bool) → (a || b) ≡ false → a ≡ false
-or-left true b h = h
-or-left false b h = refl
-
 or-right : (a b : Bool) → (a || b) ≡ false → b ≡ false
 or-right true b h = true-false h
 or-right false b h = h

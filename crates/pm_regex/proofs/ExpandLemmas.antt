@@ -1,18 +1,8 @@
 -- How the text after its macros grows.
-use Rattle.std.proofs.Common.{◌≡◌, ◌≢◌, ℕ, ◌+◌, ◌<◌, ◌≤◌, List, [], ◌∷◌, ◌++◌, length, get_or, take, drop, refl, sym, ◌∙◌, subst, ap, arith, append_assoc, append-nil, length-append, length-drop, ◌-◌}
-use Rattle.std.proofs.lemmas.List.{drop_more, take_more, drop-drop, drop_all, take_all}
-use Rattle.std.proofs.lemmas.Bool.{ne_eqb}
-use Rattle.pm_regex.specs.Macros.{to_bracket, macro_at, span_of, put_for, Expands, done, part}
+use Rattle.std.proofs.Common.{◌≡◌, ◌≢◌, ℕ, ◌+◌, ◌<◌, ◌≤◌, List, [], ◌++◌, length, take, drop, refl, sym, ◌∙◌, subst, ap, arith, append_assoc, append-nil, length-append, length-drop, ◌-◌}
+use Rattle.std.proofs.lemmas.List.{drop-drop, drop_all, take_all}
+use Rattle.pm_regex.specs.Macros.{macro_at, span_of, put_for, Expands, done, part}
 use Rattle.pm_regex.specs.Expansion.{PutsPart}
-
-pub at_bracket : (text : List ℕ) (i : ℕ) → i < length text → get_or text i 0 ≡ 93 → take i text ++ to_bracket (drop i text) ≡ take (i + 1) text
-at_bracket text i h e = rw (drop_more text i 0 h, take_more text i 0 h, e) refl
-
-pub not_bracket : (text : List ℕ) (i : ℕ) → i < length text → (get_or text i 0 ≡ 93 → ⊥) →
-    take i text ++ to_bracket (drop i text) ≡ take (i + 1) text ++ to_bracket (drop (i + 1) text)
-not_bracket text i h ne =
-    let n = ne_eqb (get_or text i 0) 93 ne in
-    rw (drop_more text i 0 h, take_more text i 0 h, n) (sym (append_assoc (take i text) (get_or text i 0 ∷ []) (to_bracket (drop (i + 1) text))))
 
 -- a text that isn't empty is expanded part by part
 abbrev pub Parted : List ℕ → List ℕ → Type 0

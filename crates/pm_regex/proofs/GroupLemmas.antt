@@ -21,15 +21,8 @@ join_yes : (b : Re) (l : Option Re) (es : List Re) → true ≡ is_some l → pu
 join_yes b None es e = cc
 join_yes b (Some x) es e = refl
 
-join_no : (b : Re) (l : Option Re) (es : List Re) → false ≡ is_some l → put l (b ∷ es) ≡ closed_branch b l ∷ es
-join_no b None es e = refl
-join_no b (Some x) es e = cc
-
 pub joins : (old new : List Op) (g : Group) (f : Frame) (fs : List Frame) → g.has_last ≡ true → new ≡ old ++ op.Seq ∷ [] → Shows old g f fs → Joined new f fs
 joins old new g f fs has e s = pushed old new op.Seq _ e s.stack ∙ join_yes f.before f.last (put f.bars (outer_stack fs)) (sym has ∙ (s.group).1)
-
-pub joins_not : (ops : List Op) (g : Group) (f : Frame) (fs : List Frame) → g.has_last ≡ false → Shows ops g f fs → Joined ops f fs
-joins_not ops g f fs has s = s.stack ∙ ap only (join_no f.before f.last (put f.bars (outer_stack fs)) (sym has ∙ (s.group).1))
 
 end_yes : (b : Option Re) (e : Re) (es : List Re) → true ≡ is_some b → push_op op.Either [] (e ∷ put b es) ≡ only (joined b e ∷ es)
 end_yes None e es h = cc

@@ -42,10 +42,6 @@ one_member t a b c d u v x y =
     let e = some_found (sym (member_found t a b u x) ∙ member_found t c d v y) in
     (ap (λ z. z.first) e, ap (λ z. z.last) e, ap (λ z. z.rest) e)
 
-pub member_ordered : (t : List ℕ) (a b : ℕ) (u : List ℕ) → Member t a b u → a ≤ b
-member_ordered t a b u (range _ _ _ ne le) = le
-member_ordered t a b u (byte _ _ is) = omega arith
-
 pub single_there : (text : List ℕ) → 0 < length text → ends_range (drop 1 text) ≡ false → Member text (get_or text 0 0) (get_or text 0 0) (drop 1 text)
 single_there [] some is = absurd (omega (arith, some))
 single_there (a ∷ u) some is = byte a u is

@@ -1,4 +1,3 @@
 pub mod Cut
 pub mod Machine
-pub mod Taken
 pub mod Variables
