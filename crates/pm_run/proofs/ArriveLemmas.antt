@@ -1,8 +1,9 @@
 -- How a run begins: the mail's From line, the words that set variables, and the rcfiles that are tried.
-use Rattle.std.proofs.Common.{◌≡◌, ◌∙◌, ◌+◌, ℕ, Bool, List, [], ◌∷◌, ◌++◌, true, false, map, drop, refl, sym, ap, subst, append_assoc, append-nil}
+use Rattle.std.proofs.Common.{◌≡◌, ◌∙◌, ◌+◌, ℕ, Bool, List, [], ◌∷◌, ◌++◌, true, false, Option, Some, None, ControlFlow, Continue, Break, map, drop, refl, sym, ap, subst, append_assoc, append-nil}
 use Rattle.std.specs.Prelude.{ℤ, codes, bytes_eq, ◌||◌, if◌then◌else◌}
 use Rattle.pm_bytes.specs.declared.environment.Environ.{Environ}
 use Rattle.pm_bytes.specs.declared.environment.Pair.{Pair}
+use Rattle.pm_code.specs.declared.code.Code.{Code}
 use Rattle.pm_message.specs.FromLine.{makes_line, prepared_of}
 use Rattle.pm_message.specs.Split.{split_of}
 use Rattle.pm_message.specs.declared.head.Message.{Message}
@@ -28,12 +29,11 @@ use Rattle.pm_meaning.specs.Minds.{Mind}
 use Rattle.pm_meaning.specs.Turns.{Turn, GoesOn}
 use Rattle.pm_meaning.specs.Running.{State, Event, Arrived, Setting, Opening, begun, dated, home_by, set_by_word, mind_in, named_rcfile, in_home, rcfiles_of, sets_folder, opening_of, step}
 use Rattle.pm_meaning.specs.declared.command_line.CommandLine.{CommandLine}
+use Rattle.pm_meaning.specs.declared.process.End.{End}
 use Rattle.pm_meaning.proofs.Choices.{choose_then, choose_else, then_out, else_out}
 use Rattle.pm_run.specs.Ends.{rule_of_opening}
 use Rattle.pm_run.specs.Opening.{OpensFrom}
 use Rattle.pm_run.specs.Turned.{turn_in}
-use Rattle.pm_run.specs.declared.opening.Opened.{Opened}
-use Rattle.pm_run.specs.declared.opening.Opened.TheVariants.{Read, Ended as OpenedEnded, Nothing}
 use Rattle.pm_run.specs.declared.opening.Rule.{Rule}
 use Rattle.pm_run.specs.declared.turned.Turned.{Turned}
 use Rattle.pm_run.specs.declared.turned.Turned.TheVariants as turned
@@ -165,14 +165,14 @@ module _ (line : CommandLine) (home : List ℕ) (rule : Rule) (names : List (Lis
   comes = reaches_then step (Setting line.values line home p) (Setting [] line home q) tried x y y a b b (h line home)
       (subst (λ t. Executes {R = Onward} (Ends (Go t)) (Go tried) y y b b) same_tried (executes_nothing (Go tried) y y b refl))
 
-  pub begins_opening : (opened : Opened) (r : Mind) (z : JournalState) (c : View) → OpensFrom tried opened r y z b c → OpensFrom (Setting line.values line home p) opened r x z a c
-  begins_opening (Read code) r z c k = record {
+  pub begins_opening : (opened : ControlFlow End (Option Code)) (r : Mind) (z : JournalState) (c : View) → OpensFrom tried opened r y z b c → OpensFrom (Setting line.values line home p) opened r x z a c
+  begins_opening (Continue (Some code)) r z c k = record {
     trees = k.trees;
     is_code = k.is_code;
     reaches = reaches_reached (Setting line.values line home p) tried _ x y z a b c comes k.reaches;
   }
-  begins_opening (OpenedEnded end) r z c k = reaches_reached (Setting line.values line home p) tried _ x y z a b c comes k
-  begins_opening Nothing r z c k = reaches_reached (Setting line.values line home p) tried _ x y z a b c comes k
+  begins_opening (Break end) r z c k = reaches_reached (Setting line.values line home p) tried _ x y z a b c comes k
+  begins_opening (Continue None) r z c k = reaches_reached (Setting line.values line home p) tried _ x y z a b c comes k
 
   pub begins_wanting : (z : JournalState) (c : View) → RunsOut {X = Event} step MayRunOut tried y z b c → RunsOut {X = Event} step MayRunOut (Setting line.values line home p) x z a c
   begins_wanting z c k = ran_out_reached step MayRunOut (Setting line.values line home p) tried x y z a b c comes k

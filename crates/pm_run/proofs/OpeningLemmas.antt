@@ -1,5 +1,5 @@
 -- The rcfiles of the command line, one after the other.
-use Rattle.std.proofs.Common.{◌≡◌, ◌<◌, ◌≤◌, ◌+◌, ◌∙◌, ℕ, Bool, List, [], ◌∷◌, ◌++◌, true, false, Option, Some, None, length, drop, reverse, refl, sym, ap, subst, arith}
+use Rattle.std.proofs.Common.{◌≡◌, ◌<◌, ◌≤◌, ◌+◌, ◌∙◌, ℕ, Bool, List, [], ◌∷◌, ◌++◌, true, false, Option, Some, None, ControlFlow, Continue, Break, length, drop, reverse, refl, sym, ap, subst, arith}
 use Rattle.std.specs.Prelude.{◌^◌, nat_le, nat_eq, codes, not, ◌&&◌, if◌then◌else◌}
 use Rattle.std.specs.List.{starts_with}
 use Rattle.std.proofs.lemmas.Bool.Decides.{nat_tests}
@@ -39,8 +39,6 @@ use Rattle.pm_journal.specs.Acts.{ReadsWhole}
 use Rattle.pm_meaning.proofs.Choices.{choose_then, choose_else, then_out, else_out, line_told, line_out}
 use Rattle.pm_run.specs.Ends.{IsCode, opened_at}
 use Rattle.std.proofs.lemmas.List.{reverse-append}
-use Rattle.pm_run.specs.declared.opening.Opened.{Opened}
-use Rattle.pm_run.specs.declared.opening.Opened.TheVariants.{Read as OpenedRead, Ended as OpenedEnded, Nothing as OpenedNothing}
 use Rattle.pm_run.specs.Opening.{OpensTo, OpensOne, OpensFrom, OpensCode, ReadsTo, ReadsOne, ReadsCode, PassesTo, PassesOver}
 
 abbrev Onward : Type 0
@@ -118,10 +116,10 @@ module _ (o : OpeningRule) (name noted : List ℕ) (content : Option (List ℕ))
       λ names. executes_then (ask (ReadFile name)) (after_read o name names p) h.reply (Go (to names)) x y z a b c asked
       (subst (λ plan. Executes plan (Go (to names)) y z b c) (passed missing names none is) (k names))
 
-  pub reads_none : (missing : Bool) (tried : Opened) (z : JournalState) (c : View) → content ≡ None → missing ≡ last_missing y.entries → PassesOver o name missing tried p y z b c → ReadsOne o name tried p p x z a c
-  reads_none missing (OpenedRead code) z c none is k = absurd k
-  reads_none missing (OpenedEnded end) z c none is k = (refl, passed_to missing (λ names. Over end p) z c none is k)
-  reads_none missing OpenedNothing z c none is k = (refl, passed_to missing (λ names. Opening o names p) z c none is k)
+  pub reads_none : (missing : Bool) (tried : ControlFlow End (Option Code)) (z : JournalState) (c : View) → content ≡ None → missing ≡ last_missing y.entries → PassesOver o name missing tried p y z b c → ReadsOne o name tried p p x z a c
+  reads_none missing (Continue (Some code)) z c none is k = absurd k
+  reads_none missing (Break end) z c none is k = (refl, passed_to missing (λ names. Over end p) z c none is k)
+  reads_none missing (Continue None) z c none is k = (refl, passed_to missing (λ names. Opening o names p) z c none is k)
 
   pub reads_none_out : (missing : Bool) (z : JournalState) (c : View) → content ≡ None → missing ≡ last_missing y.entries → ((names : List (List ℕ)) → OutOfMemory (pass_over o name names missing p) y z b c)
       → (names : List (List ℕ)) → OutOfMemory (and_then (ask (ReadFile name)) (after_read o name names p)) x z a c
@@ -148,7 +146,7 @@ say_many o name names p = say_then p (too_many_rcfiles_line name) (Go (Opening o
 abbrev read_on : OpeningRule → List ℕ → List (List ℕ) → Mind → Plan Onward
 read_on o name names p = and_then (ask (ReadFile name)) (after_read o name names p)
 
-pub many_told : (o : OpeningRule) (name line : List ℕ) (p : Mind) (x y : JournalState) (a b : View) → nat_le 256 p.openings ≡ true → line ≡ too_many_rcfiles_line name → Executes (log line p) logged x y a b → OpensOne o name OpenedNothing p p x y a b
+pub many_told : (o : OpeningRule) (name line : List ℕ) (p : Mind) (x y : JournalState) (a b : View) → nat_le 256 p.openings ≡ true → line ≡ too_many_rcfiles_line name → Executes (log line p) logged x y a b → OpensOne o name (Continue None) p p x y a b
 many_told o name line p x y a b e is h = record {
   counted = omega arith;
   opens = λ names. choose_then (nat_le 256 p.openings) (say_many o name names p) (read_on o name names (opened p)) (Go (Opening o names p)) x y a b e
@@ -165,17 +163,17 @@ opens_to : (o : OpeningRule) (name : List ℕ) (p : Mind) (to : List (List ℕ) 
 opens_to o name p to x y a b e h =
     λ names. choose_else (nat_le 256 p.openings) (say_many o name names p) (read_on o name names (opened p)) (Go (to names)) x y a b e (h names)
 
-pub opens_by : (o : OpeningRule) (name : List ℕ) (tried : Opened) (p q : Mind) (x y : JournalState) (a b : View) → p.openings < 256 → ReadsOne o name tried (opened p) q x y a b → OpensOne o name tried p q x y a b
-opens_by o name (OpenedRead code) p q x y a b few h = record {
+pub opens_by : (o : OpeningRule) (name : List ℕ) (tried : ControlFlow End (Option Code)) (p q : Mind) (x y : JournalState) (a b : View) → p.openings < 256 → ReadsOne o name tried (opened p) q x y a b → OpensOne o name tried p q x y a b
+opens_by o name (Continue (Some code)) p q x y a b few h = record {
   few = few;
   mind = h.mind;
   trees = h.trees;
   is_code = h.is_code;
   opens = opens_to o name p (λ names. Running (ahead h.trees []) (begun_block (entered o name (with_later names (opened p))))) x y a b (is_few p.openings few) h.reads;
 }
-opens_by o name (OpenedEnded end) p q x y a b few h =
+opens_by o name (Break end) p q x y a b few h =
     subst (λ r. OpensTo o name p (λ names. Over end r) x y a b) (sym h.0) (opens_to o name p (λ names. Over end (opened p)) x y a b (is_few p.openings few) h.1)
-opens_by o name OpenedNothing p q x y a b few h =
+opens_by o name (Continue None) p q x y a b few h =
     let counted : q.openings ≡ p.openings + 1 = ap (λ (m : Mind). m.openings) h.0 in
     record {
       counted = omega (arith, counted);
@@ -213,13 +211,13 @@ module _ (s : State) (o : OpeningRule) (items rest : List (List ℕ)) (name : Li
   reached : Reaches {X = Event} step s (Opening o (name ∷ rest) p) x y a b
   reached = subst (λ l. Reaches {X = Event} step s (Opening o l p) x y a b) e h
 
-  pub opening_on : OpensOne o name OpenedNothing p q y z b c → Reaches {X = Event} step s (Opening o rest q) x z a c
+  pub opening_on : OpensOne o name (Continue None) p q y z b c → Reaches {X = Event} step s (Opening o rest q) x z a c
   opening_on k = reaches_then step s (Opening o (name ∷ rest) p) (Opening o rest q) x y z a b c reached (k.opens rest)
 
-  pub opening_ends : (end : End) → OpensOne o name (OpenedEnded end) p q y z b c → Reaches {X = Event} step s (Over end q) x z a c
+  pub opening_ends : (end : End) → OpensOne o name (Break end) p q y z b c → Reaches {X = Event} step s (Over end q) x z a c
   opening_ends end k = reaches_then step s (Opening o (name ∷ rest) p) (Over end q) x y z a b c reached (k rest)
 
-  pub opening_reads : (code : Code) (r : Mind) → OpensOne o name (OpenedRead code) p q y z b c → r ≡ begun_block (with_later rest q) → OpensCode s code r x z a c
+  pub opening_reads : (code : Code) (r : Mind) → OpensOne o name (Continue (Some code)) p q y z b c → r ≡ begun_block (with_later rest q) → OpensCode s code r x z a c
   opening_reads code r k is =
       let last = begun_block (entered o name (with_later rest (opened p))) in
       let same : begun_block (with_later rest q) ≡ last = ap (λ m. begun_block (with_later rest m)) k.mind ∙ ap begun_block (entered_later o name rest (opened p)) in
@@ -262,13 +260,13 @@ wants_from s t x y a b e h = subst (λ v. RunsOut {X = Event} step MayRunOut v x
 small_code : (code : Code) → length code.steps.items < 2 ^ 63
 small_code code = omega (arith, code.steps.ok, code.steps.small)
 
-pub later_falls : (n m : ℕ) (f g : Frames) → n < m → m ≤ 256 → g.place ≡ 0 → g.blocks.items ≡ [] → g.outer.items ≡ [] → left_over m g + 1 ≤ left_over n f
+pub later_falls : (n m : ℕ) (f g : Frames) → n < m → m ≤ 256 → g.place ≡ 0 → g.blocks.items ≡ [] → g.outer.items ≡ [] → left_over m g < left_over n f
 later_falls n m f g h k place blocks outer =
     let left : left_in g + 1 ≤ 2 ^ 66 = omega (arith, small_code g.code, place, ap length blocks, ap left_outside outer) in
     omega (arith, h, k, left)
 
 -- an rcfile that was read is counted
-pub openings_read : (o : OpeningRule) (name : List ℕ) (code : Code) (p q : Mind) (x y : JournalState) (a b : View) → OpensOne o name (OpenedRead code) p q x y a b → q.openings ≡ p.openings + 1
+pub openings_read : (o : OpeningRule) (name : List ℕ) (code : Code) (p q : Mind) (x y : JournalState) (a b : View) → OpensOne o name (Continue (Some code)) p q x y a b → q.openings ≡ p.openings + 1
 openings_read o name code p q x y a b h = openings_entered o name (opened p) q h.mind
 
 -- memory was wanting before anything was done
@@ -282,11 +280,11 @@ pub opening_wants_first : (o : OpeningRule) (name : List ℕ) (p : Mind) (x : Jo
 opening_wants_first o name p x s = λ names. out_anywhere (open_next o (name ∷ names) p) x x s refl
 
 -- where the process stands once its first rcfile was read, or none was
-pub opened_reaches : (s : State) (opened : Opened) (p : Mind) (x y : JournalState) (a b : View) → OpensFrom s opened p x y a b → Reaches {X = Event} step s (opened_at opened p) x y a b
-opened_reaches s (OpenedRead code) p x y a b h =
+pub opened_reaches : (s : State) (opened : ControlFlow End (Option Code)) (p : Mind) (x y : JournalState) (a b : View) → OpensFrom s opened p x y a b → Reaches {X = Event} step s (opened_at opened p) x y a b
+opened_reaches s (Continue (Some code)) p x y a b h =
     subst (λ items. Reaches {X = Event} step s (Running items p) x y a b) (sym (ap (λ l. weave (lists_of l) [] []) h.is_code ∙ ap (λ l. weave l [] []) (lists-whole h.trees))) h.reaches
-opened_reaches s (OpenedEnded end) p x y a b h = h
-opened_reaches s OpenedNothing p x y a b h = h
+opened_reaches s (Break end) p x y a b h = h
+opened_reaches s (Continue None) p x y a b h = h
 
 -- an rcfile that begins, by its code
 pub begun_frame : (f : Frames) (code : Code) → f.place ≡ 0 → f.code ≡ code → f.blocks.items ≡ [] → f.outer.items ≡ [] → items_of f ≡ weave (lists_of (flats_of code.steps.items)) [] []

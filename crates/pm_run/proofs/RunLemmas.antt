@@ -1,5 +1,6 @@
 -- Stretches of a run, one after the other.
-use Rattle.std.proofs.Common.{[], ◌++◌, Option, ◌∙◌, sym, ap, subst, append_assoc}
+use Rattle.std.proofs.Common.{◌≡◌, List, [], ◌++◌, Option, Result, ◌∙◌, sym, ap, subst, append_assoc}
+use Rattle.pm_bytes.specs.declared.error.Memory.{Memory}
 use Rattle.pm_journal.specs.JournalState.{JournalState}
 use Rattle.pm_journal.specs.Entries.{View}
 use Rattle.pm_journal.specs.Held.{Keeps, Keeping}
@@ -10,11 +11,14 @@ use Rattle.pm_journal.proofs.KeepingActs.{keeps_rest}
 use Rattle.pm_journal.proofs.KeepsJoin.{keeps_join}
 use Rattle.pm_journal.proofs.WalkJoin.{arrives_on, reaches_itself}
 use Rattle.pm_meaning.specs.Courses.{Course, now_at, advance}
-use Rattle.pm_meaning.specs.Running.{State, Event, step}
+use Rattle.pm_meaning.specs.Minds.{Mind}
+use Rattle.pm_meaning.specs.Running.{State, Item, Event, Running, step}
 use Rattle.pm_meaning.specs.declared.ending.Ending.{Ending}
+use Rattle.pm_meaning.proofs.Choices.{ok_map, err_map}
 use Rattle.pm_meaning.proofs.Lifting.{reaches_in_run}
 use Rattle.pm_run.specs.Copies.{others_of}
 use Rattle.pm_run.specs.RunningOut.{MayRunOut, RunMayRunOut, RunsOut, GaveUp}
+use Rattle.pm_run.specs.Stretches.{Walks, Proceeds}
 use Rattle.pm_run.specs.declared.queue.Queue.{Queue}
 use Rattle.pm_run.proofs.RunOutLemmas.{stopped_on, ran_out_reached, ran_out_in_run}
 
@@ -65,6 +69,11 @@ Breaks queue s x y a b = (first : Option Ending) → RunsOut {X = Ending} advanc
 pub runs_itself : (queue : Queue) (s : State) (x : JournalState) (a : View) → RunsOn queue queue s s x x a a
 runs_itself queue s x a = λ first. reaches_itself advance (now_at (others_of queue first) s) x a
 
+pub runs_same : (queue : Queue) (items more : List Item) (p q : Mind) (x : JournalState) (a : View) → items ≡ more → p ≡ q → RunsOn queue queue (Running items p) (Running more q) x x a a
+runs_same queue items more p q x a e k =
+    subst (λ l. RunsOn queue queue (Running items p) (Running l q) x x a a) e
+    (subst (λ m. RunsOn queue queue (Running items p) (Running items m) x x a a) k (runs_itself queue (Running items p) x a))
+
 -- a process's stretch is one of the run
 pub lifted : (queue : Queue) (s t : State) (x y : JournalState) (a b : View) → Reaches {X = Event} step s t x y a b → RunsOn queue queue s t x y a b
 lifted queue s t x y a b h = λ first. reaches_in_run (others_of queue first) s t x y a b h
@@ -98,3 +107,24 @@ pub breaks_here : (queue : Queue) (s t : State) (x y z : JournalState) (a b c : 
     → RunsOut {X = Ending} advance RunMayRunOut (now_at (others_of queue first) t) y z b c → RunsOut {X = Ending} advance RunMayRunOut (now_at (others_of queue first) s) x z a c
 breaks_here queue s t x y z a b c h first k =
     ran_out_reached advance RunMayRunOut (now_at (others_of queue first) s) (now_at (others_of queue first) t) x y z a b c (h first) k
+
+-- after some steps a process went on, whatever its answer stands for
+pub walks_on : {A : Type 0} (s t : State) (to : A → State) (answer : Result A Memory) (x y z : JournalState) (a b c : View) → Reaches {X = Event} step s t x y a b → Walks t to answer y z b c → Walks s to answer x z a c
+walks_on s t to answer x y z a b c h k = (
+  ok_map answer _ _ (λ n m. reaches_on step s t (to n) x y z a b c h m) k.0,
+  err_map answer _ _ (λ m. ran_out_reached step MayRunOut s t x y z a b c h m) k.1,
+)
+
+-- so did the run
+pub walks_run : {A : Type 0} (queue : Queue) (s : State) (to : A → State) (answer : Result A Memory) (x y : JournalState) (a b : View) → Walks s to answer x y a b → Proceeds queue queue s to answer x y a b
+walks_run queue s to answer x y a b h = λ first. (
+  ok_map answer _ _ (λ n m. lifted queue s (to n) x y a b m first) h.0,
+  err_map answer _ _ (λ m. lifted_out queue s x y a b m first) h.1,
+)
+
+pub proceeds_on : {A : Type 0} (queue later : Queue) (s t : State) (to : A → State) (answer : Result A Memory) (x y z : JournalState) (a b c : View) → Reaches {X = Event} step s t x y a b → Proceeds queue later t to answer y z b c
+    → Proceeds queue later s to answer x z a c
+proceeds_on queue later s t to answer x y z a b c h k = λ first. (
+  ok_map answer _ _ (λ n m. runs_here queue later s t (to n) x y z a b c (lifted queue s t x y a b h) first m) (k first).0,
+  err_map answer _ _ (λ m. breaks_here queue s t x y z a b c (lifted queue s t x y a b h) first m) (k first).1,
+)

@@ -1,5 +1,5 @@
 -- One item of an rcfile.
-use Rattle.std.proofs.Common.{◌≡◌, ◌<◌, ◌≤◌, ◌+◌, ◌-◌, ◌*◌, ◌∙◌, ℕ, List, [], ◌∷◌, true, false, Option, length, drop, get_or, refl, sym, ap, subst, arith}
+use Rattle.std.proofs.Common.{◌≡◌, ◌<◌, ◌≤◌, ◌+◌, ◌-◌, ◌*◌, ◌∙◌, ℕ, List, [], ◌∷◌, true, false, Option, ControlFlow, Continue, Break, length, drop, get_or, refl, sym, ap, subst, arith}
 use Rattle.std.proofs.lemmas.List.{drop_more, length-map, get_or-map}
 use Rattle.pm_recipe.specs.Tree.{Top, Trees, Tree, Assign, Unset, Recipe, Defect, Act, Mailbox, Pipe, Capture, Forward, WriteOut, Block}
 use Rattle.pm_recipe.specs.View.{act_of, top_of}
@@ -17,8 +17,8 @@ use Rattle.pm_journal.specs.Walking.{Next, Go, Reaches}
 use Rattle.pm_journal.specs.declared.acts.Entry.{Entry}
 use Rattle.pm_journal.proofs.ActPlans.{executes_then}
 use Rattle.pm_journal.proofs.WalkJoin.{reaches_itself, reaches_once}
-use Rattle.pm_journal.proofs.WantsMemory.{executes_nothing, out_front, out_then, out_anywhere}
-use Rattle.pm_meaning.specs.Blocks.{enter_block, begun_block, closed, give_maybe}
+use Rattle.pm_journal.proofs.WantsMemory.{executes_nothing, out_front, out_anywhere}
+use Rattle.pm_meaning.specs.Blocks.{enter_block, closed, give_maybe}
 use Rattle.pm_meaning.specs.Judging.{judge_first}
 use Rattle.pm_meaning.specs.Minds.{Mind}
 use Rattle.pm_meaning.specs.Changes.{with_rcfile, with_openings}
@@ -26,13 +26,13 @@ use Rattle.pm_meaning.specs.Turns.{Turn, GoesOn}
 use Rattle.pm_meaning.specs.Turning.{turn_of}
 use Rattle.pm_meaning.specs.Running.{State, Running, LeavingFile, Cloning, Leaving, Item, Do, FileEnd, statement, next_of, ahead, behind_file, step, Event}
 use Rattle.pm_meaning.specs.declared.process.End.{End}
-use Rattle.pm_run.specs.Copies.{block_at}
-use Rattle.pm_run.specs.Frames.{weave, steps_of, items_of, outer_items, end_of, block_locks, all_locks, left_outside, left_in, left_over}
+use Rattle.pm_run.specs.Ends.{stands_at}
+use Rattle.pm_run.specs.Frames.{weave, steps_of, items_of, outer_items, end_of, block_locks, left_outside, left_in, left_over}
 use Rattle.pm_run.specs.RunningOut.{LeavesUndelivered, MayRunOut, RunsOut, OfNew}
 use Rattle.pm_run.proofs.MayLemmas.{may_at_once, same_tree, recipe_statement}
 use Rattle.pm_run.proofs.RunOutLemmas.{ran_out_at_once}
 use Rattle.pm_run.specs.Turned.{turn_in}
-use Rattle.pm_run.specs.Walk.{single, plan_of, gate_turn, stands, stepped_of, IsStepAt, EndsAt, Entered, ComesBack, less_by, IsBehind, StatementMay}
+use Rattle.pm_run.specs.Walk.{single, plan_of, gate_turn, after_statement, after_gate, after_item, IsStepAt, EndsAt, ComesBack, Falls, StatementMay}
 use Rattle.pm_run.specs.declared.frames.Open.{Open}
 use Rattle.pm_run.specs.declared.frames.Frames.{Frames}
 use Rattle.pm_run.specs.declared.frames.Waiting.{Waiting}
@@ -40,8 +40,6 @@ use Rattle.pm_run.specs.declared.gates.Gate.{Gate}
 use Rattle.pm_run.specs.declared.gates.Gate.TheVariants as gate
 use Rattle.pm_run.specs.declared.turned.Turned.{Turned}
 use Rattle.pm_run.specs.declared.turned.Turned.TheVariants as turned
-use Rattle.pm_run.specs.declared.walk.Stepped.{Stepped}
-use Rattle.pm_run.specs.declared.walk.Stepped.TheVariants as stepped
 use Rattle.pm_run.proofs.FrameLemmas.{weave_does, weave_enters, weave_stops, weave_over, locks_all, in_file_woven, behind_woven, Jumps, jumps, single_here}
 
 abbrev Onward : Type 0
@@ -91,7 +89,7 @@ single_is (Defect line text) p h = refl
 single_is (Recipe top act) p h = single_act top act p h
 
 -- what comes of a statement, in an rcfile
-next_by : (tree : Tree) (count : ℕ) (g : Frames) (t : Turned) (q : Mind) → next_of tree count (items_of g) (turn_in t q) ≡ Go (stands (stepped_of t) g (with_openings count q))
+next_by : (tree : Tree) (count : ℕ) (g : Frames) (t : Turned) (q : Mind) → next_of tree count (items_of g) (turn_in t q) ≡ Go (after_statement t g (with_openings count q))
 next_by tree count g turned.Goes q = refl
 next_by tree count g (turned.Halts end) q = ap (λ l. Go (Leaving l end (with_openings count q))) (locks_all (lists_of (drop g.place (steps_of g))) g.blocks.items g.outer.items)
 next_by tree count g (turned.Includes name) q = refl
@@ -127,14 +125,14 @@ module _ (f : Frames) (s : Step) (p : Mind) (at : IsStepAt s (steps_of f) f.plac
   plan_is = ap (λ q. plan_of q p) d.is ∙ single_is d.tree p (single_here (steps_of f) f.place d.tree (drop (f.place + 1) (steps_of f)) f.code.ends ahead_of)
 
   pub one_reaches : (t : Turned) (q : Mind) (x y : JournalState) (a b : View) → Executes (plan_of (flat_of s) p) (turn_in t q) x y a b
-      → Reaches {X = Event} step (Running (items_of f) p) (stands (stepped_of t) (record f { place = f.place + 1 }) (with_openings p.openings q)) x y a b
+      → Reaches {X = Event} step (Running (items_of f) p) (after_statement t (record f { place = f.place + 1 }) (with_openings p.openings q)) x y a b
   one_reaches t q x y a b h =
       let g = record f { place = f.place + 1 } in
       let r = with_openings p.openings q in
       let go : Turn → Plan Onward = λ turn. Ends (next_of d.tree p.openings (items_of g) turn) in
-      let next : Onward = Go (stands (stepped_of t) g r) in
+      let next : Onward = Go (after_statement t g r) in
       let last : Executes (go (turn_in t q)) next y y b b = subst (λ n. Executes (Ends n) next y y b b) (sym (next_by d.tree p.openings g t q)) (executes_nothing next y y b refl) in
-      reaches_once step (Running (items_of f) p) (stands (stepped_of t) g r) x y a b
+      reaches_once step (Running (items_of f) p) (after_statement t g r) x y a b
       (subst (λ plan. Executes plan next x y a b) (sym (statement_step f d.tree p ahead_of))
       (executes_then (statement d.tree p) go (turn_in t q) next x y y a b b (subst (λ plan. Executes plan (turn_in t q) x y a b) plan_is h) last))
 
@@ -176,94 +174,48 @@ module _ (f : Frames) (top : Top) (end : ℕ) (p : Mind) (e : drop f.place (step
   gate_wants x y a b h =
       ran_out_at_once step MayRunOut (Running (items_of f) p) x y a b (subst (λ plan. OutOfMemory plan x y a b) (sym gate_step) (out_front gate_plan onto x y a b h)) (λ more e. gate_may more)
 
-  pub gate_then_wants : (turn : Turn) (x y : JournalState) (a b : View) → Executes gate_plan turn x y a b → RunsOut {X = Event} step MayRunOut (Running (items_of f) p) x y a b
-  gate_then_wants turn x y a b h =
-      ran_out_at_once step MayRunOut (Running (items_of f) p) x y a b
-      (subst (λ plan. OutOfMemory plan x y a b) (sym gate_step) (out_then gate_plan onto turn x y y a b b h (out_anywhere (onto turn) y y b refl))) (λ more e. gate_may more)
+  -- what comes after the gate
+  next_is : (was : Gate) (q : Mind) → Jumps (steps_of f) f.place end more
+      → next_of (Recipe top (Block (first (lists_of more)))) p.openings behind (gate_turn was q) ≡ Go (after_gate (end + 1) was f (with_openings p.openings q))
+  next_is gate.Passes q j = ap (λ l. Go (Running (weave l f.blocks.items (outer_items f.outer.items)) (with_openings p.openings q))) (sym j.behind)
+  next_is (gate.Halts over) q j = ap (λ l. Go (Leaving l over (with_openings p.openings q))) (locks_all (others (lists_of more)) f.blocks.items f.outer.items)
+  next_is (gate.Enters lock) q j = refl
+  next_is gate.Clones q j = ap (λ l. Go (Cloning (first (lists_of more)) (weave l f.blocks.items (outer_items f.outer.items)) (with_openings p.openings q))) (sym j.behind)
 
-  -- the items of another frame
-  items_at : (g : Frames) (place : ℕ) → g ≡ record f { place = place } → weave (lists_of (drop place (steps_of f))) f.blocks.items (outer_items f.outer.items) ≡ items_of g
-  items_at g place is = ap items_of (sym is)
-
-  items_in : (g : Frames) (saved : Open) → g.code ≡ f.code → g.place ≡ f.place + 1 → g.blocks.items ≡ saved ∷ f.blocks.items → g.outer ≡ f.outer
-      → weave (lists_of more) (saved ∷ f.blocks.items) (outer_items f.outer.items) ≡ items_of g
-  items_in g saved c k b o =
-      ap (λ l. weave (lists_of more) l (outer_items f.outer.items)) (sym b) ∙ ap (λ n. weave (lists_of (drop n (steps_of f))) g.blocks.items (outer_items f.outer.items)) (sym k)
-      ∙ ap (λ q. weave (lists_of (drop g.place (flats_of q.steps.items))) g.blocks.items (outer_items f.outer.items)) (sym c)
-      ∙ ap (λ q. weave (lists_of (drop g.place (steps_of g))) g.blocks.items (outer_items q.items)) (sym o)
-
-  next_is : (was : Gate) (s : Stepped) (g : Frames) (q r : Mind) → Jumps (steps_of f) f.place end more → Entered (end + 1) was s f g (with_openings p.openings q) r
-      → next_of (Recipe top (Block (first (lists_of more)))) p.openings behind (gate_turn was q) ≡ Go (stands s g r)
-  next_is gate.Passes s g q r j h =
-      ap (λ l. Go (Running (weave l f.blocks.items (outer_items f.outer.items)) (with_openings p.openings q))) (sym j.behind)
-      ∙ ap (λ items. Go (Running items (with_openings p.openings q))) (items_at g (end + 1) h.1)
-      ∙ ap (λ m. Go (Running (items_of g) m)) (sym h.2) ∙ ap (λ t. Go (stands t g r)) (sym h.0)
-  next_is (gate.Halts end) s g q r j h =
-      ap (λ l. Go (Leaving l end (with_openings p.openings q))) (locks_all (others (lists_of more)) f.blocks.items f.outer.items)
-      ∙ ap (λ (k : Frames). Go (Leaving (all_locks k) end (with_openings p.openings q))) (sym h.1)
-      ∙ ap (λ m. Go (Leaving (all_locks g) end m)) (sym h.2) ∙ ap (λ t. Go (stands t g r)) (sym h.0)
-  next_is (gate.Enters lock) s g q r j h =
-      ap (λ items. Go (Running items (begun_block (with_openings p.openings q)))) (items_in g (record { enter = f.place; saved = q.chain; lock = lock }) h.1 h.2 h.3 h.4)
-      ∙ ap (λ m. Go (Running (items_of g) m)) (sym h.5) ∙ ap (λ t. Go (stands t g r)) (sym h.0)
-  next_is gate.Clones s g q r j h =
-      ap (λ items. Go (Cloning (first (lists_of more)) items (with_openings p.openings q))) (ap (λ l. weave l f.blocks.items (outer_items f.outer.items)) (sym j.behind) ∙ items_at g (end + 1) h.1)
-      ∙ ap (λ (k : Frames). Go (Cloning (first (lists_of (drop (f.place + 1) (steps_of k)))) (items_of g) (with_openings p.openings q))) (sym h.1)
-      ∙ ap (λ m. Go (Cloning (block_at (f.place + 1) g) (items_of g) m)) (sym h.2) ∙ ap (λ t. Go (stands t g r)) (sym h.0)
-
-  -- the block at the place is over after it
-  pub gate_behind : (was : Gate) (s : Stepped) (g : Frames) (m n : Mind) → Jumps (steps_of f) f.place end more → Entered (end + 1) was s f g m n → IsBehind s g
-  gate_behind gate.Passes s g m n j h = subst (λ t. IsBehind t g) (sym h.0) tt
-  gate_behind (gate.Halts end) s g m n j h = subst (λ t. IsBehind t g) (sym h.0) tt
-  gate_behind (gate.Enters lock) s g m n j h = subst (λ t. IsBehind t g) (sym h.0) tt
-  gate_behind gate.Clones s g m n j h =
-      subst (λ t. IsBehind t g) (sym h.0)
-      (subst (λ (k : Frames). IsBehind (stepped.Clones (f.place + 1)) k) (sym h.1) (omega arith, λ blocks rest. ap (λ l. weave l blocks rest) (sym j.behind)))
-
-  pub gate_reaches : (was : Gate) (s : Stepped) (g : Frames) (q r : Mind) (x y : JournalState) (a b : View) → Jumps (steps_of f) f.place end more → Entered (end + 1) was s f g (with_openings p.openings q) r
-      → Executes gate_plan (gate_turn was q) x y a b → Reaches {X = Event} step (Running (items_of f) p) (stands s g r) x y a b
-  gate_reaches was s g q r x y a b j h k =
-      let next : Onward = Go (stands s g r) in
-      reaches_once step (Running (items_of f) p) (stands s g r) x y a b
+  pub gate_reaches : (was : Gate) (q : Mind) (x y : JournalState) (a b : View) → Jumps (steps_of f) f.place end more → Executes gate_plan (gate_turn was q) x y a b
+      → Reaches {X = Event} step (Running (items_of f) p) (after_gate (end + 1) was f (with_openings p.openings q)) x y a b
+  gate_reaches was q x y a b j k =
+      let to = after_gate (end + 1) was f (with_openings p.openings q) in
+      let next : Onward = Go to in
+      reaches_once step (Running (items_of f) p) to x y a b
       (subst (λ plan. Executes plan next x y a b) (sym gate_step)
-      (executes_then gate_plan onto (gate_turn was q) next x y y a b b k (subst (λ n. Executes (Ends n) next y y b b) (sym (next_is was s g q r j h)) (executes_nothing next y y b refl))))
+      (executes_then gate_plan onto (gate_turn was q) next x y y a b b k (subst (λ n. Executes (Ends n) next y y b b) (sym (next_is was q j)) (executes_nothing next y y b refl))))
 
-pub entered_falls : (behind : ℕ) (was : Gate) (s : Stepped) (f g : Frames) (m n : Mind) → Entered behind was s f g m n → f.place < behind → behind ≤ length f.code.steps.items → left_in g + less_by s ≤ left_in f
-entered_falls behind gate.Passes s f g m n h further within = subst (λ q. left_in g + less_by q ≤ left_in f) (sym h.0) (subst (λ q. left_in q + 1 ≤ left_in f) (sym h.1) (omega arith))
-entered_falls behind (gate.Halts end) s f g m n h further within = subst (λ q. left_in g + less_by q ≤ left_in f) (sym h.0) (subst (λ q. left_in q + 0 ≤ left_in f) (sym h.1) (omega arith))
-entered_falls behind gate.Clones s f g m n h further within = subst (λ q. left_in g + less_by q ≤ left_in f) (sym h.0) (subst (λ q. left_in q + 1 ≤ left_in f) (sym h.1) (omega arith))
-entered_falls behind (gate.Enters lock) s f g m n h further within =
-    let fewer : left_in g + 1 ≤ left_in f = omega (arith, ap (λ c. length c.steps.items) h.1, h.2, ap length h.3, ap (λ o. left_outside o.items) h.4) in
-    subst (λ q. left_in g + less_by q ≤ left_in f) (sym h.0) fewer
+-- memory was wanting in an item before anything was done
+pub item_wants : (items : List Item) (p : Mind) (x : JournalState) (a : View) → RunsOut {X = Event} step MayRunOut (Running items p) x x a a
+item_wants items p x a = ran_out_at_once step MayRunOut (Running items p) x x a a (out_anywhere (step (Running items p)) x x a refl) (may_at_once items p x)
+
+-- less is left behind a block that is passed by, and in one that is entered
+pub passed_falls : (f : Frames) (behind : ℕ) → f.place < behind → behind ≤ length f.code.steps.items → left_in (record f { place = behind }) < left_in f
+passed_falls f behind further within = omega arith
+
+pub entered_falls : (f g : Frames) (block : Open) → f.place < length f.code.steps.items → g.code ≡ f.code → g.place ≡ f.place + 1 → g.blocks.items ≡ block ∷ f.blocks.items → g.outer ≡ f.outer → left_in g < left_in f
+entered_falls f g block fits code place blocks outer = omega (arith, fits, ap (λ c. length c.steps.items) code, place, ap length blocks, ap (λ o. left_outside o.items) outer)
 
 -- what is left over falls as what is left in the rcfiles does
-pub over_falls : (n m k : ℕ) (f g : Frames) → m ≡ n → left_in g + k ≤ left_in f → left_over m g + k ≤ left_over n f
-over_falls n m k f g e h = subst (λ c. left_over c g + k ≤ left_over n f) (sym e) (omega (arith, h))
+pub over_falls : (n m : ℕ) (f g : Frames) → m ≡ n → left_in g < left_in f → left_over m g < left_over n f
+over_falls n m f g e h = subst (λ c. left_over c g < left_over n f) (sym e) (omega (arith, h))
 
-less_one : (t : Turned) → less_by (stepped_of t) ≤ 1
-less_one turned.Goes = omega arith
-less_one (turned.Halts end) = omega arith
-less_one (turned.Includes name) = omega arith
-less_one (turned.Switches name) = omega arith
-less_one turned.EndsFile = omega arith
+-- and more than it was left before
+pub falls_from : {C : Type 0} (flow : ControlFlow (Option End) C) (left middle before : ℕ) → Falls flow left middle → middle ≤ before → Falls flow left before
+falls_from (Continue next) left middle before h more = omega (arith, h, more)
+falls_from (Break ended) left middle before h more = tt
 
-pub one_falls : (f : Frames) (t : Turned) (s : Stepped) → s ≡ stepped_of t → f.place < length (steps_of f) → left_in (record f { place = f.place + 1 }) + less_by s ≤ left_in f
-one_falls f t s e h =
+-- less is left after a statement
+pub one_falls : (f : Frames) → f.place < length (steps_of f) → left_in (record f { place = f.place + 1 }) < left_in f
+one_falls f h =
     let fits : f.place < length f.code.steps.items = subst (λ n. f.place < n) (length-map f.code.steps.items flat_of) h in
-    omega (arith, fits, less_one t, ap less_by e)
-
--- no copy is wanted by a statement
-pub one_behind : (t : Turned) (s : Stepped) (f : Frames) → s ≡ stepped_of t → IsBehind s f
-one_behind turned.Goes s f e = subst (λ q. IsBehind q f) (sym e) tt
-one_behind (turned.Halts end) s f e = subst (λ q. IsBehind q f) (sym e) tt
-one_behind (turned.Includes name) s f e = subst (λ q. IsBehind q f) (sym e) tt
-one_behind (turned.Switches name) s f e = subst (λ q. IsBehind q f) (sym e) tt
-one_behind turned.EndsFile s f e = subst (λ q. IsBehind q f) (sym e) tt
-
--- nor by one that comes back
-pub back_behind : (s : Stepped) (f g : Frames) (p q : Mind) → ComesBack s f g p q → IsBehind s g
-back_behind stepped.Over f g p q h = tt
-back_behind stepped.Went f g p q h = tt
-back_behind other f g p q h = absurd h
+    omega (arith, fits)
 
 -- a block that ends
 module _ (f : Frames) (block : Open) (blocks : List Open) (next : ℕ) (p : Mind) (ends : EndsAt (steps_of f) f.place next) (e : f.blocks.items ≡ block ∷ blocks) where
@@ -310,13 +262,14 @@ back_items w g c k b =
     ∙ ap (λ n. weave (lists_of (drop n (steps_of g))) w.blocks.items (outer_items g.outer.items)) (sym k)
     ∙ ap (λ q. weave (lists_of (drop g.place (steps_of g))) q.items (outer_items g.outer.items)) (sym b)
 
-pub back_reaches : (s : Stepped) (f g : Frames) (next : ℕ) (p q : Mind) (x : JournalState) (a : View) → EndsAt (steps_of f) f.place next → f.blocks.items ≡ [] → ComesBack s f g p q
-    → Reaches {X = Event} step (Running (items_of f) p) (stands s g q) x x a a
-back_reaches stepped.Over f g next p q x a ends e h =
-    let over : items_of f ≡ [] = over_items f next ends e ∙ ap outer_items h.0 in
-    subst (λ m. Reaches {X = Event} step (Running (items_of f) p) (Running [] m) x x a a) (sym h.5)
-    (subst (λ items. Reaches {X = Event} step (Running (items_of f) p) (Running items p) x x a a) over (reaches_itself step (Running (items_of f) p) x a))
-back_reaches stepped.Went f g next p q x a ends e h =
+pub back_reaches : {C : Type 0} (flow : ControlFlow (Option End) C) (f g : Frames) (next : ℕ) (p q : Mind) (x : JournalState) (a : View) → EndsAt (steps_of f) f.place next → f.blocks.items ≡ [] → ComesBack flow f g p q
+    → Reaches {X = Event} step (Running (items_of f) p) (after_item flow (items_of g) q) x x a a
+back_reaches (Break ended) f g next p q x a ends e h =
+    let over : items_of f ≡ [] = over_items f next ends e ∙ ap outer_items h.1 in
+    subst (λ o. Reaches {X = Event} step (Running (items_of f) p) (stands_at o q) x x a a) (sym h.0)
+    (subst (λ m. Reaches {X = Event} step (Running (items_of f) p) (Running [] m) x x a a) (sym h.6)
+    (subst (λ items. Reaches {X = Event} step (Running (items_of f) p) (Running items p) x x a a) over (reaches_itself step (Running (items_of f) p) x a)))
+back_reaches (Continue went) f g next p q x a ends e h =
     let w = h.0 in
     let rest = weave (lists_of (drop w.place (flats_of w.code.steps.items))) w.blocks.items (outer_items g.outer.items) in
     let left : items_of f ≡ FileEnd w.name ∷ rest = over_items f next ends e ∙ ap outer_items h.1 in
@@ -324,18 +277,13 @@ back_reaches stepped.Went f g next p q x a ends e h =
     let same : Go (Running rest (with_rcfile w.name p)) ≡ to = ap (λ items. Go (Running items (with_rcfile w.name p))) (back_items w g h.2 h.3 h.4) ∙ ap (λ m. Go (Running (items_of g) m)) (sym h.5) in
     reaches_once step (Running (items_of f) p) (Running (items_of g) q) x x a a
     (subst (λ items. Executes (step (Running items p)) to x x a a) (sym left) (subst (λ n. Executes (Ends n) to x x a a) (sym same) (executes_nothing to x x a refl)))
-back_reaches other f g next p q x a ends e h = absurd h
 
-pub back_wants : (f : Frames) (p : Mind) (x : JournalState) (a : View) → RunsOut {X = Event} step MayRunOut (Running (items_of f) p) x x a a
-back_wants f p x a = ran_out_at_once step MayRunOut (Running (items_of f) p) x x a a (out_anywhere (step (Running (items_of f) p)) x x a refl) (may_at_once (items_of f) p x)
-
-pub back_falls : (s : Stepped) (f g : Frames) (p q : Mind) → f.blocks.items ≡ [] → ComesBack s f g p q → left_in g + less_by s ≤ left_in f
-back_falls stepped.Over f g p q e h = omega (arith, ap (λ q. length q.steps.items) h.1, h.2, ap (λ q. length q.items) h.3, ap left_outside h.4, ap left_outside h.0)
-back_falls stepped.Went f g p q e h =
+pub back_falls : {C : Type 0} (flow : ControlFlow (Option End) C) (n m : ℕ) (f g : Frames) (p q : Mind) → m ≡ n → f.blocks.items ≡ [] → ComesBack flow f g p q → Falls flow (left_over m g) (left_over n f)
+back_falls (Break ended) n m f g p q k e h = tt
+back_falls (Continue went) n m f g p q k e h =
     let w = h.0 in
     let outside : left_outside f.outer.items ≡ 1 + 2 * (length w.code.steps.items - w.place) + length w.blocks.items + left_outside g.outer.items = ap left_outside h.1 in
-    omega (arith, outside, ap (λ q. length q.steps.items) h.2, h.3, ap (λ q. length q.items) h.4)
-back_falls other f g p q e h = absurd h
+    over_falls n m f g k (omega (arith, outside, ap (λ q. length q.steps.items) h.2, h.3, ap (λ q. length q.items) h.4))
 
 pub ends_stop : (steps : List Flat) (place : ℕ) → drop place steps ≡ [] → EndsAt steps place place
 ends_stop steps place e = record {

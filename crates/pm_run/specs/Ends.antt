@@ -1,5 +1,7 @@
 -- What the code's answers stand for.
 use Rattle.std.specs.Prelude.{◌≡◌, ℕ, ◌+◌, ◌-◌, Option, Some, None, [], length}
+use Rattle.core.specs.declared.ops.ControlFlow.{ControlFlow}
+use Rattle.core.specs.declared.ops.ControlFlow.TheVariants.{Continue, Break}
 use Rattle.pm_code.specs.Flat.{flats_of, written}
 use Rattle.pm_code.specs.declared.code.Code.{Code}
 use Rattle.pm_recipe.specs.Tree.{Trees}
@@ -8,8 +10,6 @@ use Rattle.pm_meaning.specs.declared.process.End.{End}
 use Rattle.pm_meaning.specs.Running.{State, Running, Over, OpeningRule}
 use Rattle.pm_code.specs.Ahead.{lists_of}
 use Rattle.pm_run.specs.Frames.{weave}
-use Rattle.pm_run.specs.declared.opening.Opened.{Opened}
-use Rattle.pm_run.specs.declared.opening.Opened.TheVariants.{Read, Ended, Nothing}
 use Rattle.pm_run.specs.declared.queue.Queue.{Queue}
 use Rattle.pm_run.specs.declared.opening.Rule.{Rule}
 
@@ -18,11 +18,11 @@ abbrev pub stands_at : Option End → Mind → State
 stands_at None p = Running [] p
 stands_at (Some end) p = Over end p
 
--- where it stands once an rcfile of the command line was read, or none was
-abbrev pub opened_at : Opened → Mind → State
-opened_at (Read code) p = Running (weave (lists_of (flats_of code.steps.items)) [] []) p
-opened_at (Ended end) p = Over end p
-opened_at Nothing p = Running [] p
+-- where it stands once an rcfile of the command line was read, or none was, or it has ended
+abbrev pub opened_at : ControlFlow End (Option Code) → Mind → State
+opened_at (Continue (Some code)) p = Running (weave (lists_of (flats_of code.steps.items)) [] []) p
+opened_at (Continue None) p = Running [] p
+opened_at (Break end) p = Over end p
 
 -- how the rcfiles of the command line are opened
 abbrev pub rule_of_opening : Rule → OpeningRule

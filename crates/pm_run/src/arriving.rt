@@ -21,13 +21,15 @@ ghost use Rattle.pm_run.specs.Turned.{turn_in};
 
 use crate::assigning::assign_value;
 use crate::first_values::{begin, home, login};
-use crate::opening::{Opened, Rule, open_first};
+use crate::opening::{Rule, open_first};
 use crate::turned::Turned;
 use pm_bytes::{Blob, Environ, Memory, Name, Names, Pair};
+use pm_code::Code;
 use pm_journal::Effects;
-use pm_meaning::{CommandLine, Idle, Process, Run};
+use pm_meaning::{CommandLine, End, Idle, Process, Run};
 use pm_message::{Mail, needs_line, prepare_mail};
 use std::alloc::Global;
+use std::ops::ControlFlow;
 
 /// The process that begins with this mail, which gets its From line.
 pub fn arrive<D: Effects>(
@@ -69,7 +71,7 @@ pub fn begin_rcfiles<D: Effects>(
     run: &mut Run<D>,
     line: &CommandLine,
     env: &Environ,
-) -> Result<Opened, Memory>
+) -> Result<ControlFlow<End, Option<Code>>, Memory>
     ensures opens { let home = Running.home_by line.now.values (home_folder env.now) in IfOk result (λ opened. OpensFrom
         (Setting line.now.values line.now home (mind_of run.old.process)) opened (mind_of run.new.process)
         run.old.journal run.new.journal (D.told run.old.outside) (D.told run.new.outside)) }

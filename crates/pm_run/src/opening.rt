@@ -25,6 +25,7 @@ use pm_recipe::Rc;
 use std::alloc::Global;
 use std::collections::VecDeque;
 use std::mem;
+use std::ops::ControlFlow;
 
 /// Whether the only rcfile is the user's own, which may be missing, and whether MAILDIR stays as a word of the command
 /// line set it.
@@ -34,24 +35,15 @@ pub struct Rule {
     pub keeps_folder: bool,
 }
 
-/// What came of rcfiles of the command line: the code of the one that was read, or the end of a process that has read
-/// one before, or must have its rcfile. Without either the next one is tried, and behind the last one there is nothing
-/// to do: the process falls off its end.
-#[derive(Drop)]
-pub enum Opened {
-    Read(Code),
-    Ended(End),
-    Nothing,
-}
-
-/// Opens these rcfiles, the last one first, up to one that is read. The others are left for a process that isn't on its
-/// host.
+/// Opens these rcfiles, the last one first, up to one that is read, and answers with its code. The others are left for
+/// a process that isn't on its host. Where none is read, a process that has read one before, or must have its rcfile,
+/// has ended; any other has nothing to do, and falls off its end.
 pub fn open_first<D: Effects>(
     alloc: Global,
     run: &mut Run<D>,
     rule: Rule,
     mut names: Vec<Name>,
-) -> Result<Opened, Memory>
+) -> Result<ControlFlow<End, Option<Code>>, Memory>
     ensures opens { IfOk result (λ opened. OpensFrom
         (Opening (rule_of_opening rule) (reverse names.items) (mind_of run.old.process))
         opened (mind_of run.new.process)
@@ -67,30 +59,31 @@ pub fn open_first<D: Effects>(
         match open_one(alloc, run, rule, name) {
             Err(Memory) => return Err(Memory),
             Ok(opened) => match opened {
-                Opened::Read(code) => {
+                ControlFlow::Continue(Some(code)) => {
                     run.process.later = names;
                     run.process.chain = new_chain();
-                    return Ok(Opened::Read(code));
+                    return Ok(ControlFlow::Continue(Some(code)));
                 }
-                Opened::Ended(end) => return Ok(Opened::Ended(end)),
-                Opened::Nothing => {}
+                ControlFlow::Continue(None) => {}
+                ControlFlow::Break(end) => return Ok(ControlFlow::Break(end)),
             },
         }
     }
     if run.process.rcfile.as_str().is_empty() {
-        Ok(Opened::Nothing)
+        Ok(ControlFlow::Continue(None))
     } else {
-        Ok(Opened::Ended(End::HostOff))
+        Ok(ControlFlow::Break(End::HostOff))
     }
 }
 
-// Opens an rcfile, unless the run has opened 256, which is told.
+// Opens an rcfile, unless the run has opened 256, which is told. Without its code or the process's end the next one is
+// tried.
 fn open_one<D: Effects>(
     alloc: Global,
     run: &mut Run<D>,
     rule: Rule,
     name: Name,
-) -> Result<Opened, Memory>
+) -> Result<ControlFlow<End, Option<Code>>, Memory>
     ensures opens { IfOk result (λ opened. OpensOne (rule_of_opening rule) name opened
         (mind_of run.old.process) (mind_of run.new.process)
         run.old.journal run.new.journal (D.told run.old.outside) (D.told run.new.outside)) }
@@ -101,7 +94,7 @@ fn open_one<D: Effects>(
     if run.process.openings >= 256 {
         let line = too_many_rcfiles(alloc, &name)?;
         tell(alloc, run, line)?;
-        return Ok(Opened::Nothing);
+        return Ok(ControlFlow::Continue(None));
     }
     run.process.openings += 1;
     read_one(alloc, run, rule, name)
@@ -113,7 +106,7 @@ fn read_one<D: Effects>(
     run: &mut Run<D>,
     rule: Rule,
     name: Name,
-) -> Result<Opened, Memory>
+) -> Result<ControlFlow<End, Option<Code>>, Memory>
     ensures reads { IfOk result (λ opened. ReadsOne (rule_of_opening rule) name opened
         (mind_of run.old.process) (mind_of run.new.process)
         run.old.journal run.new.journal (D.told run.old.outside) (D.told run.new.outside)) }
@@ -126,7 +119,7 @@ fn read_one<D: Effects>(
         Some(rc) => {
             let code = code_of(alloc, rc.as_slice())?;
             enter(alloc, rule, &name, &mut run.process)?;
-            Ok(Opened::Read(code))
+            Ok(ControlFlow::Continue(Some(code)))
         }
         None => {
             let missing = run.journal.last_missing();
@@ -170,7 +163,7 @@ fn pass_over<D: Effects>(
     rule: Rule,
     name: &Name,
     missing: bool,
-) -> Result<Opened, Memory>
+) -> Result<ControlFlow<End, Option<Code>>, Memory>
     ensures passes { let p = mind_of run.old.process in IfOk result (λ opened. PassesOver (rule_of_opening rule)
         name.now missing opened p run.old.journal run.new.journal (D.told run.old.outside) (D.told run.new.outside)) }
     ensures memory { OnErr result ((names : List (List ℕ)) →
@@ -179,14 +172,14 @@ fn pass_over<D: Effects>(
     ensures same { run.new.process ≡ run.old.process }
 {
     if run.process.filter {
-        return Ok(Opened::Ended(End::NoRc));
+        return Ok(ControlFlow::Break(End::NoRc));
     }
     if may_miss(rule, missing) {
-        return Ok(Opened::Nothing);
+        return Ok(ControlFlow::Continue(None));
     }
     let line = couldnt_read(alloc, name)?;
     tell(alloc, run, line)?;
-    Ok(Opened::Nothing)
+    Ok(ControlFlow::Continue(None))
 }
 
 // Whether nothing is told of this rcfile.
@@ -198,7 +191,10 @@ fn may_miss(rule: Rule, missing: bool) -> bool
 
 /// Opens the next rcfile of the command line that can be read, for a process that isn't on its host and has left its
 /// blocks; without one the process is over.
-pub fn open_later<D: Effects>(alloc: Global, run: &mut Run<D>) -> Result<Opened, Memory>
+pub fn open_later<D: Effects>(
+    alloc: Global,
+    run: &mut Run<D>,
+) -> Result<ControlFlow<End, Option<Code>>, Memory>
     ensures walks { Walks (left_by HostOff (mind_of run.old.process))
         (λ opened. opened_at opened (mind_of run.new.process)) result
         run.old.journal run.new.journal (D.told run.old.outside) (D.told run.new.outside) }

@@ -11,15 +11,17 @@ ghost use Rattle.pm_run.specs.Tasks.{begun_at, AreBegun};
 use crate::draft::Draft;
 use crate::falling_off::fall_off;
 use crate::frames::{Frames, RcFrame};
-use crate::opening::{Opened, Rule, begin_frame, open_first};
+use crate::opening::{Rule, begin_frame, open_first};
 use crate::queue::Queue;
 use crate::resuming::resume;
 use crate::walk::run_frame;
 use pm_bytes::{Memory, Name};
+use pm_code::Code;
 use pm_conds::Observer;
 use pm_journal::Effects;
 use pm_meaning::{End, Run};
 use std::alloc::Global;
+use std::ops::ControlFlow;
 
 /// What a process begins with: the rcfiles of the command line, the last one first, which are opened by this rule, or
 /// rcfiles in progress, the innermost first.
@@ -57,7 +59,7 @@ pub fn run_begun<D: Effects, N: Observer>(
 pub fn run_opened<D: Effects, N: Observer>(
     alloc: Global,
     run: &mut Run<D>,
-    opened: Opened,
+    opened: ControlFlow<End, Option<Code>>,
     queue: &mut Queue,
     draft: &mut Option<Draft>,
     observer: &mut N,
@@ -68,14 +70,14 @@ pub fn run_opened<D: Effects, N: Observer>(
     ensures few { copies_left queue.new ≤ copies_left queue.old }
 {
     match opened {
-        Opened::Read(code) => {
+        ControlFlow::Continue(Some(code)) => {
             let mut frame = begin_frame(alloc, code);
             let ended = run_rest(alloc, run, &mut frame, queue, draft, observer);
             drop(frame);
             ended
         }
-        Opened::Ended(end) => Ok(end),
-        Opened::Nothing => fall_off(alloc, run, draft),
+        ControlFlow::Continue(None) => fall_off(alloc, run, draft),
+        ControlFlow::Break(end) => Ok(end),
     }
 }
 

@@ -1,44 +1,32 @@
 //! The items of an rcfile, one after the other.
-ghost use Rattle.std.specs.Prelude.{◌≡◌, ◌<◌, ◌≤◌, ◌+◌, [], true, length, drop, IfOk, MatchOption};
+ghost use Rattle.std.specs.Prelude.{◌≡◌, ◌<◌, ◌≤◌, ◌+◌, [], length, drop, IfOk, MatchOption};
+ghost use Rattle.pm_code.specs.Ahead.{others, lists_of};
 ghost use Rattle.pm_code.specs.Flat.{flats_of};
 ghost use Rattle.pm_meaning.specs.Minds.{mind_of};
-ghost use Rattle.pm_meaning.specs.Running.{Running, Leaving};
-ghost use Rattle.pm_run.specs.Ends.{stands_at, opened_at, copies_left};
-ghost use Rattle.pm_run.specs.Opening.{is_read};
+ghost use Rattle.pm_meaning.specs.Running.{Running, Leaving, left_by};
+ghost use Rattle.pm_meaning.specs.declared.process.End.TheVariants.{HostOff};
+ghost use Rattle.pm_run.specs.Ends.{stands_at, copies_left};
 ghost use Rattle.pm_run.specs.Frames.{items_of, steps_of, left_over, all_locks};
 ghost use Rattle.pm_run.specs.Stretches.{Walks, Proceeds};
-ghost use Rattle.pm_run.specs.Walk.{stands, less_by, IsStepAt, EndsAt, Entered, ComesBack, IsBehind, stepped_of};
+ghost use Rattle.pm_run.specs.Walk.{after_item, after_statement, after_gate, Falls, IsStepAt, EndsAt, ComesBack};
 
 use crate::cloning::make_clone;
 use crate::draft::Draft;
 use crate::frames::{Frames, Open, Waiting};
 use crate::gates::{Gate, pass_gate};
 use crate::leaving::{give_maybe, leave_blocks};
-use crate::opening::{Opened, begin_frame, open_later};
+use crate::opening::{begin_frame, open_later};
 use crate::queue::Queue;
 use crate::rcfiles::{end_file, include, switch};
 use crate::statements::run_statement;
 use crate::turned::Turned;
-use pm_bytes::{Memory, Name};
+use pm_bytes::Memory;
 use pm_code::Step;
 use pm_conds::Observer;
 use pm_journal::Effects;
 use pm_meaning::{End, Process, Run, new_chain, succeed};
 use std::alloc::Global;
-
-/// What comes of an item: the next one, the process's end, nothing that is left, another rcfile before the next item or
-/// in the place of the current one, the end of that one, or a copy of the process for the block whose first statement
-/// stands at this place.
-#[derive(Drop)]
-pub enum Stepped {
-    Went,
-    Halts(End),
-    Over,
-    Includes(Name),
-    Switches(Name),
-    EndsFile,
-    Clones(usize),
-}
+use std::ops::ControlFlow;
 
 /// Runs what is left of the rcfiles, up to the process's end, if a statement ends it. Then the open blocks are left.
 /// The draft is that of the last action's abstract. The observer hears of the recipes and their conditions.
@@ -56,60 +44,29 @@ pub fn run_frame<D: Effects, N: Observer>(
     ensures few { copies_left queue.new ≤ copies_left queue.old }
 {
     loop {
-        match step_frame(alloc, run, frame, draft, observer)? {
-            Stepped::Went => {}
-            Stepped::Over => return Ok(None),
-            Stepped::Halts(end) => match halt(alloc, run, end, frame)? {
-                Opened::Read(code) => *frame = begin_frame(alloc, code),
-                Opened::Ended(end) => return Ok(Some(end)),
-                Opened::Nothing => return Ok(None),
-            },
-            Stepped::Includes(name) => include(alloc, run, name, frame)?,
-            Stepped::Switches(name) => switch(alloc, run, name, frame)?,
-            Stepped::EndsFile => end_file(alloc, run, frame)?,
-            Stepped::Clones(place) => {
-                make_clone(alloc, run, place, frame, queue)?;
-            }
+        match step_frame(alloc, run, frame, queue, draft, observer)? {
+            ControlFlow::Continue(()) => {}
+            ControlFlow::Break(ended) => return Ok(ended),
         }
     }
 }
 
-// Leaves all blocks of a process that a statement ends. On another host the next rcfile of the command line that can be
-// read is opened, to take the place of the others.
-fn halt<D: Effects>(
-    alloc: Global,
-    run: &mut Run<D>,
-    end: End,
-    frame: &mut Frames,
-) -> Result<Opened, Memory>
-    ensures walks { Walks (Leaving (all_locks frame.old) end (mind_of run.old.process))
-        (λ opened. opened_at opened (mind_of run.new.process)) result
-        run.old.journal run.new.journal (D.told run.old.outside) (D.told run.new.outside) }
-    ensures counted { IfOk result (λ opened.
-        is_read opened ≡ true → run.old.process.openings < run.new.process.openings) }
-    ensures most { IfOk result (λ opened. is_read opened ≡ true → run.new.process.openings ≤ 256) }
-{
-    leave_blocks(alloc, run, frame, end)?;
-    match end {
-        End::HostOff => open_later(alloc, run),
-        _ => Ok(Opened::Ended(end)),
-    }
-}
-
-// Does the first item. What a statement does leaves the count of openings as it was.
+// Does the first item, and what comes of it. The process goes on with the next one, or falls off its rcfiles, of which
+// nothing is left, or has ended so. What a statement does leaves the count of openings as it was.
 fn step_frame<D: Effects, N: Observer>(
     alloc: Global,
     run: &mut Run<D>,
     frame: &mut Frames,
+    queue: &mut Queue,
     draft: &mut Option<Draft>,
     observer: &mut N,
-) -> Result<Stepped, Memory>
-    ensures walks { Walks (Running (items_of frame.old) (mind_of run.old.process))
-        (λ stepped. stands stepped frame.new (mind_of run.new.process)) result
+) -> Result<ControlFlow<Option<End>>, Memory>
+    ensures proceeds { Proceeds queue.old queue.new (Running (items_of frame.old) (mind_of run.old.process))
+        (λ flow. after_item flow (items_of frame.new) (mind_of run.new.process)) result
         run.old.journal run.new.journal (D.told run.old.outside) (D.told run.new.outside) }
-    ensures falls { IfOk result (λ stepped. left_over run.new.process.openings frame.new + less_by stepped
-        ≤ left_over run.old.process.openings frame.old) }
-    ensures behind { IfOk result (λ stepped. IsBehind stepped frame.new) }
+    ensures falls { IfOk result (λ flow. Falls flow
+        (left_over run.new.process.openings frame.new) (left_over run.old.process.openings frame.old)) }
+    ensures few { copies_left queue.new ≤ copies_left queue.old }
 {
     let opened = run.process.openings;
     match step_at(&frame.code.steps, frame.place) {
@@ -128,7 +85,7 @@ fn step_frame<D: Effects, N: Observer>(
                     Err(Memory) => Err(Memory),
                     Ok(gate) => {
                         run.process.openings = opened;
-                        enter_block(frame, behind, gate, &mut run.process)
+                        enter_block(alloc, run, gate, behind, frame, queue)
                     }
                 }
             }
@@ -137,7 +94,7 @@ fn step_frame<D: Effects, N: Observer>(
                 Ok(turned) => {
                     run.process.openings = opened;
                     frame.place += 1;
-                    Ok(stepped_by(turned))
+                    take_turn(alloc, run, turned, frame)
                 }
             },
         },
@@ -156,42 +113,124 @@ fn step_at(steps: &[Step], place: usize) -> Option<&Step>
     }
 }
 
-// The block is entered or passed by.
-fn enter_block(
+// Does what a statement asks for: the next item comes, the process ends, another rcfile is opened or this one ends.
+fn take_turn<D: Effects>(
+    alloc: Global,
+    run: &mut Run<D>,
+    turned: Turned,
     frame: &mut Frames,
-    behind: usize,
+) -> Result<ControlFlow<Option<End>>, Memory>
+    ensures walks { Walks (after_statement turned frame.old (mind_of run.old.process))
+        (λ flow. after_item flow (items_of frame.new) (mind_of run.new.process)) result
+        run.old.journal run.new.journal (D.told run.old.outside) (D.told run.new.outside) }
+    ensures falls { IfOk result (λ flow. Falls flow
+        (left_over run.new.process.openings frame.new) (left_over run.old.process.openings frame.old + 1)) }
+{
+    match turned {
+        Turned::Goes => Ok(ControlFlow::Continue(())),
+        Turned::Halts(end) => halt(alloc, run, end, frame),
+        Turned::Includes(name) => {
+            include(alloc, run, name, frame)?;
+            Ok(ControlFlow::Continue(()))
+        }
+        Turned::Switches(name) => {
+            switch(alloc, run, name, frame)?;
+            Ok(ControlFlow::Continue(()))
+        }
+        Turned::EndsFile => {
+            end_file(alloc, run, frame)?;
+            Ok(ControlFlow::Continue(()))
+        }
+    }
+}
+
+// The block at the place, of which nothing is left at `behind`, is entered or passed by, a copy of the process is made
+// for it, or the process ends.
+fn enter_block<D: Effects>(
+    alloc: Global,
+    run: &mut Run<D>,
     gate: Gate,
-    process: &mut Process,
-) -> Result<Stepped, Memory>
+    behind: usize,
+    frame: &mut Frames,
+    queue: &mut Queue,
+) -> Result<ControlFlow<Option<End>>, Memory>
     requires further { frame.old.place < behind }
     requires within { behind ≤ length frame.old.code.steps.items }
-    ensures entered { IfOk result (λ stepped.
-        Entered behind gate stepped frame.old frame.new (mind_of process.old) (mind_of process.new)) }
-    ensures locks { process.new.locks ≡ process.old.locks }
-    ensures count { process.new.openings ≡ process.old.openings }
+    requires over { others (lists_of (drop (frame.old.place + 1) (steps_of frame.old)))
+        ≡ lists_of (drop behind (steps_of frame.old)) }
+    ensures proceeds { Proceeds queue.old queue.new (after_gate behind gate frame.old (mind_of run.old.process))
+        (λ flow. after_item flow (items_of frame.new) (mind_of run.new.process)) result
+        run.old.journal run.new.journal (D.told run.old.outside) (D.told run.new.outside) }
+    ensures falls { IfOk result (λ flow. Falls flow
+        (left_over run.new.process.openings frame.new) (left_over run.old.process.openings frame.old)) }
+    ensures few { copies_left queue.new ≤ copies_left queue.old }
 {
     match gate {
         Gate::Passes => {
             frame.place = behind;
-            Ok(Stepped::Went)
+            Ok(ControlFlow::Continue(()))
         }
-        Gate::Halts(end) => Ok(Stepped::Halts(end)),
+        Gate::Halts(end) => halt(alloc, run, end, frame),
         Gate::Clones => {
             let place = frame.place + 1;
             frame.place = behind;
-            Ok(Stepped::Clones(place))
+            make_clone(alloc, run, place, frame, queue)?;
+            Ok(ControlFlow::Continue(()))
         }
         Gate::Enters(lock) => {
             let block = Open {
                 enter: frame.place,
-                saved: process.chain,
+                saved: run.process.chain,
                 lock,
             };
             frame.blocks.push_front(block)?;
             frame.place += 1;
-            process.chain = new_chain();
-            Ok(Stepped::Went)
+            run.process.chain = new_chain();
+            Ok(ControlFlow::Continue(()))
         }
+    }
+}
+
+// Leaves all blocks of a process that a statement ends. One that isn't on its host goes on with the next rcfile of the
+// command line that can be read.
+fn halt<D: Effects>(
+    alloc: Global,
+    run: &mut Run<D>,
+    end: End,
+    frame: &mut Frames,
+) -> Result<ControlFlow<Option<End>>, Memory>
+    ensures walks { Walks (Leaving (all_locks frame.old) end (mind_of run.old.process))
+        (λ flow. after_item flow (items_of frame.new) (mind_of run.new.process)) result
+        run.old.journal run.new.journal (D.told run.old.outside) (D.told run.new.outside) }
+    ensures falls { IfOk result (λ flow. Falls flow
+        (left_over run.new.process.openings frame.new) (left_over run.old.process.openings frame.old)) }
+{
+    leave_blocks(alloc, run, frame, end)?;
+    match end {
+        End::HostOff => begin_later(alloc, run, frame),
+        _ => Ok(ControlFlow::Break(Some(end))),
+    }
+}
+
+// The next rcfile of the command line that can be read takes the place of all others.
+fn begin_later<D: Effects>(
+    alloc: Global,
+    run: &mut Run<D>,
+    frame: &mut Frames,
+) -> Result<ControlFlow<Option<End>>, Memory>
+    ensures walks { Walks (left_by HostOff (mind_of run.old.process))
+        (λ flow. after_item flow (items_of frame.new) (mind_of run.new.process)) result
+        run.old.journal run.new.journal (D.told run.old.outside) (D.told run.new.outside) }
+    ensures falls { IfOk result (λ flow. Falls flow
+        (left_over run.new.process.openings frame.new) (left_over run.old.process.openings frame.old)) }
+{
+    match open_later(alloc, run)? {
+        ControlFlow::Continue(Some(code)) => {
+            *frame = begin_frame(alloc, code);
+            Ok(ControlFlow::Continue(()))
+        }
+        ControlFlow::Continue(None) => Ok(ControlFlow::Break(None)),
+        ControlFlow::Break(end) => Ok(ControlFlow::Break(Some(end))),
     }
 }
 
@@ -201,14 +240,13 @@ fn end_innermost<D: Effects>(
     run: &mut Run<D>,
     frame: &mut Frames,
     next: usize,
-) -> Result<Stepped, Memory>
+) -> Result<ControlFlow<Option<End>>, Memory>
     requires ends { EndsAt (steps_of frame.old) frame.old.place next }
     ensures walks { Walks (Running (items_of frame.old) (mind_of run.old.process))
-        (λ stepped. stands stepped frame.new (mind_of run.new.process)) result
+        (λ flow. after_item flow (items_of frame.new) (mind_of run.new.process)) result
         run.old.journal run.new.journal (D.told run.old.outside) (D.told run.new.outside) }
-    ensures falls { IfOk result (λ stepped. left_over run.new.process.openings frame.new + less_by stepped
-        ≤ left_over run.old.process.openings frame.old) }
-    ensures behind { IfOk result (λ stepped. IsBehind stepped frame.new) }
+    ensures falls { IfOk result (λ flow. Falls flow
+        (left_over run.new.process.openings frame.new) (left_over run.old.process.openings frame.old)) }
 {
     match frame.blocks.pop_front() {
         None => come_back(frame, &mut run.process),
@@ -217,20 +255,20 @@ fn end_innermost<D: Effects>(
             give_maybe(alloc, run, &lock)?;
             frame.place = next;
             run.process.chain = succeed(&saved);
-            Ok(Stepped::Went)
+            Ok(ControlFlow::Continue(()))
         }
     }
 }
 
-// The rcfile that waits first goes on.
-fn come_back(frame: &mut Frames, process: &mut Process) -> Result<Stepped, Memory>
-    ensures back { IfOk result (λ stepped.
-        ComesBack stepped frame.old frame.new (mind_of process.old) (mind_of process.new)) }
+// The rcfile that waits first goes on; without one nothing is left.
+fn come_back(frame: &mut Frames, process: &mut Process) -> Result<ControlFlow<Option<End>>, Memory>
+    ensures back { IfOk result (λ flow.
+        ComesBack flow frame.old frame.new (mind_of process.old) (mind_of process.new)) }
     ensures locks { process.new.locks ≡ process.old.locks }
     ensures count { process.new.openings ≡ process.old.openings }
 {
     match frame.outer.pop_front() {
-        None => Ok(Stepped::Over),
+        None => Ok(ControlFlow::Break(None)),
         Some(waiting) => {
             let Waiting {
                 name,
@@ -243,19 +281,7 @@ fn come_back(frame: &mut Frames, process: &mut Process) -> Result<Stepped, Memor
             frame.code = code;
             frame.place = place;
             frame.blocks = blocks;
-            Ok(Stepped::Went)
+            Ok(ControlFlow::Continue(()))
         }
-    }
-}
-
-fn stepped_by(turned: Turned) -> Stepped
-    ensures { result ≡ stepped_of turned }
-{
-    match turned {
-        Turned::Goes => Stepped::Went,
-        Turned::Halts(end) => Stepped::Halts(end),
-        Turned::Includes(name) => Stepped::Includes(name),
-        Turned::Switches(name) => Stepped::Switches(name),
-        Turned::EndsFile => Stepped::EndsFile,
     }
 }

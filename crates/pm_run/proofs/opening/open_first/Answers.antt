@@ -15,36 +15,36 @@ returns-in-Err-clause-memory g c =
     let start = Opening o (reverse c.args.names.items) (mind_of c.args.run.now.process) in
     opening_wants start o (reverse c.loop-name.names.items) (reverse c.pop.new.self.items) c.in-Some.name (mind_of c.loop-name.run.process) (mind_of c.open_one.new.run.process) c.args.run.now.journal c.loop-name.run.journal c.open_one.new.run.journal _ _ _ (last_first c.loop-name.names.items c.pop.new.self.items c.in-Some.name c.in-Some.ensures.items) c.loop-name.invariant.reaches c.in-Err.ensures.memory
 
-pub returns-in-Read-clause-opens : goal.returns-in-Read-clause-opens
-returns-in-Read-clause-opens g c =
+pub returns-in-Continue-Some-clause-opens : goal.returns-in-Continue-Some-clause-opens
+returns-in-Continue-Some-clause-opens g c =
     let o = rule_of_opening c.args.rule in
     let start = Opening o (reverse c.args.names.items) (mind_of c.args.run.now.process) in
-    let opens = rw c.in-Read.is at c.in-Ok.ensures.opens in
+    let opens = rw (c.in-Continue-Some.is, c.in-Continue-Some.field-0-is) at c.in-Ok.ensures.opens in
     opening_reads start o (reverse c.loop-name.names.items) (reverse c.pop.new.self.items) c.in-Some.name (mind_of c.loop-name.run.process) (mind_of c.open_one.new.run.process) c.args.run.now.journal c.loop-name.run.journal c.open_one.new.run.journal _ _ _ (last_first c.loop-name.names.items c.pop.new.self.items c.in-Some.name c.in-Some.ensures.items) c.loop-name.invariant.reaches
-    c.in-Read.code _ opens (search rules)
+    c.in-Continue-Some.code _ opens (search rules)
 
-pub returns-in-Read-clause-counted : goal.returns-in-Read-clause-counted
-returns-in-Read-clause-counted g c =
-    let opens = rw c.in-Read.is at c.in-Ok.ensures.opens in
-    λ e. omega (arith, c.loop-name.invariant.counted, openings_read (rule_of_opening c.args.rule) c.in-Some.name c.in-Read.code (mind_of c.loop-name.run.process) (mind_of c.open_one.new.run.process) _ _ _ _ opens)
+pub returns-in-Continue-Some-clause-counted : goal.returns-in-Continue-Some-clause-counted
+returns-in-Continue-Some-clause-counted g c =
+    let opens = rw (c.in-Continue-Some.is, c.in-Continue-Some.field-0-is) at c.in-Ok.ensures.opens in
+    λ e. omega (arith, c.loop-name.invariant.counted, openings_read (rule_of_opening c.args.rule) c.in-Some.name c.in-Continue-Some.code (mind_of c.loop-name.run.process) (mind_of c.open_one.new.run.process) _ _ _ _ opens)
 
-pub returns-in-Read-clause-most : goal.returns-in-Read-clause-most
-returns-in-Read-clause-most g c =
-    let opens = rw c.in-Read.is at c.in-Ok.ensures.opens in
-    λ e. omega (arith, opens.few, openings_read (rule_of_opening c.args.rule) c.in-Some.name c.in-Read.code (mind_of c.loop-name.run.process) (mind_of c.open_one.new.run.process) _ _ _ _ opens)
+pub returns-in-Continue-Some-clause-most : goal.returns-in-Continue-Some-clause-most
+returns-in-Continue-Some-clause-most g c =
+    let opens = rw (c.in-Continue-Some.is, c.in-Continue-Some.field-0-is) at c.in-Ok.ensures.opens in
+    λ e. omega (arith, opens.few, openings_read (rule_of_opening c.args.rule) c.in-Some.name c.in-Continue-Some.code (mind_of c.loop-name.run.process) (mind_of c.open_one.new.run.process) _ _ _ _ opens)
 
-pub returns-in-Ended-clause-opens : goal.returns-in-Ended-clause-opens
-returns-in-Ended-clause-opens g c =
+pub returns-in-Break-clause-opens : goal.returns-in-Break-clause-opens
+returns-in-Break-clause-opens g c =
     let o = rule_of_opening c.args.rule in
     let start = Opening o (reverse c.args.names.items) (mind_of c.args.run.now.process) in
-    let opens = rw c.in-Ended.is at c.in-Ok.ensures.opens in
-    opening_ends start o (reverse c.loop-name.names.items) (reverse c.pop.new.self.items) c.in-Some.name (mind_of c.loop-name.run.process) (mind_of c.open_one.new.run.process) c.args.run.now.journal c.loop-name.run.journal c.open_one.new.run.journal _ _ _ (last_first c.loop-name.names.items c.pop.new.self.items c.in-Some.name c.in-Some.ensures.items) c.loop-name.invariant.reaches c.in-Ended.end opens
+    let opens = rw c.in-Break.is at c.in-Ok.ensures.opens in
+    opening_ends start o (reverse c.loop-name.names.items) (reverse c.pop.new.self.items) c.in-Some.name (mind_of c.loop-name.run.process) (mind_of c.open_one.new.run.process) c.args.run.now.journal c.loop-name.run.journal c.open_one.new.run.journal _ _ _ (last_first c.loop-name.names.items c.pop.new.self.items c.in-Some.name c.in-Some.ensures.items) c.loop-name.invariant.reaches c.in-Break.end opens
 
 pub loop-name-preserved : goal.loop-name-preserved
 loop-name-preserved g c =
     let o = rule_of_opening c.args.rule in
     let start = Opening o (reverse c.args.names.items) (mind_of c.args.run.now.process) in
-    let opens = rw c.in-Nothing.is at c.in-Ok.ensures.opens in
+    let opens = rw (c.in-Continue-None.is, c.in-Continue-None.field-0-is) at c.in-Ok.ensures.opens in
     record {
       reaches = opening_on start o (reverse c.loop-name.names.items) (reverse c.pop.new.self.items) c.in-Some.name (mind_of c.loop-name.run.process) (mind_of c.open_one.new.run.process) c.args.run.now.journal c.loop-name.run.journal c.open_one.new.run.journal _ _ _ (last_first c.loop-name.names.items c.pop.new.self.items c.in-Some.name c.in-Some.ensures.items) c.loop-name.invariant.reaches opens;
       counted = omega (arith, c.loop-name.invariant.counted, opens.counted);
