@@ -1,9 +1,7 @@
 -- The choices of a delivery: what the plan is in each case.
-use Rattle.std.proofs.Common.{◌≡◌, Bool, true, false, not, List, ℕ, Option, Some, None, [], ◌∷◌, ◌++◌, map, length, refl, sym, ap, ◌∙◌, subst}
-use Rattle.std.specs.Prelude.{if◌then◌else◌, ◌||◌}
+use Rattle.std.proofs.Common.{◌≡◌, Bool, List, ℕ, Option, Some, [], ◌∷◌, ◌++◌, length, refl, sym, ap, ◌∙◌, subst}
 use Rattle.pm_journal.specs.JournalState.{JournalState}
 use Rattle.pm_journal.specs.Entries.{View}
-use Rattle.pm_journal.specs.Held.{holds_name}
 use Rattle.pm_journal.specs.LogText.{value_too_long_line}
 use Rattle.pm_journal.specs.Plan.{Plan, Ends, and_then}
 use Rattle.pm_journal.specs.Executed.{Executes, OutOfMemory}
@@ -16,18 +14,15 @@ use Rattle.pm_recipe.specs.declared.tree.Action.{Action}
 use Rattle.pm_recipe.specs.declared.tree.Statements.{Statements}
 use Rattle.pm_recipe.specs.declared.tree.Action.TheVariants.{Mailbox, Pipe, Capture, Forward, WriteOut, Block}
 use Rattle.pm_subst.specs.Commands.{commands_in}
-use Rattle.pm_subst.specs.Words.{words_in}
 use Rattle.pm_subst.specs.declared.kinds.Mode.TheVariants.{One, Many}
 use Rattle.pm_meaning.specs.Abstracts.{copy_lines}
-use Rattle.pm_meaning.specs.Assigning.{value_in}
-use Rattle.pm_meaning.specs.Locks.{text_or, lock_word, blamed_text, is_lock_word, full_lock, is_taken, any_held}
-use Rattle.pm_meaning.specs.Turns.{ActEnd, failed, overflow_act, refuse_act, is_too_long, skip_act}
+use Rattle.pm_meaning.specs.Locks.{text_or}
+use Rattle.pm_meaning.specs.Turns.{ActEnd, failed, overflow_act}
 use Rattle.pm_meaning.specs.Acting.{act_on}
 use Rattle.pm_meaning.specs.ProgramActions.{pipe, capture_line, forward, write_out}
-use Rattle.pm_meaning.specs.Delivering.{Attempted, attempt, attempt_lines, attempt_acted, say_each, is_done, settled, told, after_attempt, file_and_say, deliver_at, deliver_named, is_without, deliver_to, deliver_text, Ready, deliver_with, make_ready, deliver, no_flags, deliver_default}
-use Rattle.pm_meaning.specs.Destinations.{destination_of, full_of, are_file_texts}
+use Rattle.pm_meaning.specs.Delivering.{Attempted, attempt, attempt_lines, attempt_acted, say_each, is_done, settled, told, after_attempt, file_and_say, deliver_to, Ready, deliver_with, make_ready, deliver, no_flags, deliver_default}
 use Rattle.pm_meaning.specs.Minds.{Mind}
-use Rattle.pm_meaning.proofs.Choices.{if_yes, if_no, line_told}
+use Rattle.pm_meaning.proofs.Choices.{line_told}
 use Rattle.pm_meaning.specs.Apart.{acted_with}
 use Rattle.pm_meaning.specs.Changes.{overflowed}
 use Rattle.pm_meaning.specs.Logging.{log, logged}
@@ -36,16 +31,7 @@ use Rattle.pm_meaning.specs.declared.acted.Acted.TheVariants.{Went}
 use Rattle.pm_meaning.specs.declared.acted.Cause.TheVariants as cause
 use Rattle.pm_meaning.specs.declared.process.Attempt.{Attempt}
 use Rattle.pm_meaning.specs.declared.process.Destination.{Destination}
-use Rattle.pm_perform.specs.Copies.{IsFreeLock, attempted_of}
-
--- a list that has words, or has none
-pub some_words : (words : List (List ℕ)) → (length words ≡ 0 → ⊥) → is_without words ≡ false
-some_words [] h = absurd (h refl)
-some_words (word ∷ words) h = refl
-
-pub no_words : (words : List (List ℕ)) → length words ≡ 0 → is_without words ≡ true
-no_words [] h = refl
-no_words (word ∷ words) h = absurd (cc)
+use Rattle.pm_perform.specs.Copies.{attempted_of}
 
 -- nothing is done, and the process goes on
 pub goes_on : (p : Mind) (plan : Plan ActEnd) (x : JournalState) (s : View) → Ends (acted_with Went p) ≡ plan → Executes plan (acted_with Went p) x x s s
@@ -84,74 +70,6 @@ module _ (top : Top) (action : Action) (text shown : List ℕ) (flags : Flags) (
 
   pub forwards : action ≡ Forward text → IsOrder → forward flags lock shown p ≡ act_on top (act_of action) p
   forwards is order = same_order (λ f l t. forward f l t p) order ∙ ap (λ act. act_on top (act_of act) p) (sym is)
-
--- the lock file's text expands to too much, or to this value
-pub lock_too_long : (flags : Flags) (lock : Option (List ℕ)) (text : List ℕ) (r : Ready) → is_too_long One (text_or [] lock) r.mind.vars r.lock_outputs ≡ true
-    → skip_act One (text_or [] lock) r.lock_outputs r.mind ≡ deliver_with flags lock text r
-lock_too_long flags lock text r long =
-    if_yes (is_too_long One (text_or [] lock) r.mind.vars r.lock_outputs) (skip_act One (text_or [] lock) r.lock_outputs r.mind)
-    (deliver_text flags lock (value_in r.mind.vars r.lock_outputs (text_or [] lock)) text r.outputs r.mind) long
-
-pub lock_expands : (flags : Flags) (lock : Option (List ℕ)) (value text : List ℕ) (r : Ready) → is_too_long One (text_or [] lock) r.mind.vars r.lock_outputs ≡ false
-    → value ≡ value_in r.mind.vars r.lock_outputs (text_or [] lock) → deliver_text flags lock value text r.outputs r.mind ≡ deliver_with flags lock text r
-lock_expands flags lock value text r short is =
-    ap (λ v. deliver_text flags lock v text r.outputs r.mind) is
-    ∙ if_no (is_too_long One (text_or [] lock) r.mind.vars r.lock_outputs) (skip_act One (text_or [] lock) r.lock_outputs r.mind)
-    (deliver_text flags lock (value_in r.mind.vars r.lock_outputs (text_or [] lock)) text r.outputs r.mind) short
-
-pub text_expands : (flags : Flags) (lock : Option (List ℕ)) (value text : List ℕ) (outputs words : List (List ℕ)) (p : Mind) → is_too_long Many text p.vars outputs ≡ false → words ≡ words_in Many p.vars outputs text
-    → deliver_to flags lock value text words p ≡ deliver_text flags lock value text outputs p
-text_expands flags lock value text outputs words p short is =
-    ap (λ l. deliver_to flags lock value text l p) is
-    ∙ if_no (is_too_long Many text p.vars outputs) (skip_act Many text outputs p) (deliver_to flags lock value text (words_in Many p.vars outputs text) p) short
-
--- there is no destination, or the lock file's name can't be used, or can
-abbrev after_some : Flags → Option (List ℕ) → List ℕ → List ℕ → List (List ℕ) → Mind → Plan ActEnd
-after_some flags lock value text words p =
-    if not (is_lock_word (lock_word lock value words p)) then refuse_act cause.BadName (blamed_text lock text) p
-    else deliver_named flags (lock_word lock value words p) (blamed_text lock text) text words p
-
-pub no_destination : (flags : Flags) (lock : Option (List ℕ)) (value text : List ℕ) (words : List (List ℕ)) (p : Mind) → is_without words ≡ true → refuse_act cause.NoWords text p ≡ deliver_to flags lock value text words p
-no_destination flags lock value text words p e = if_yes (is_without words) (refuse_act cause.NoWords text p) (after_some flags lock value text words p) e
-
-pub lock_unusable : (flags : Flags) (lock : Option (List ℕ)) (value text shown : List ℕ) (word : Option (List ℕ)) (words : List (List ℕ)) (p : Mind) → is_without words ≡ false → word ≡ lock_word lock value words p
-    → is_lock_word word ≡ false → shown ≡ blamed_text lock text → refuse_act cause.BadName shown p ≡ deliver_to flags lock value text words p
-lock_unusable flags lock value text shown word words p e is bad same =
-    ap (λ t. refuse_act cause.BadName t p) same
-    ∙ (if_yes (not (is_lock_word (lock_word lock value words p))) (refuse_act cause.BadName (blamed_text lock text) p) (deliver_named flags (lock_word lock value words p) (blamed_text lock text) text words p)
-    (ap (λ w. not (is_lock_word w)) (sym is) ∙ ap not bad) ∙ if_no (is_without words) (refuse_act cause.NoWords text p) (after_some flags lock value text words p) e)
-
-pub lock_usable : (flags : Flags) (lock : Option (List ℕ)) (value text : List ℕ) (word name : Option (List ℕ)) (words : List (List ℕ)) (p : Mind) → is_without words ≡ false → word ≡ lock_word lock value words p
-    → is_lock_word word ≡ true → name ≡ word → deliver_named flags name (blamed_text lock text) text words p ≡ deliver_to flags lock value text words p
-lock_usable flags lock value text word name words p e is good same =
-    ap (λ w. deliver_named flags w (blamed_text lock text) text words p) (same ∙ is)
-    ∙ (if_no (not (is_lock_word (lock_word lock value words p))) (refuse_act cause.BadName (blamed_text lock text) p) (deliver_named flags (lock_word lock value words p) (blamed_text lock text) text words p)
-    (ap (λ w. not (is_lock_word w)) (sym is) ∙ ap not good) ∙ if_no (is_without words) (refuse_act cause.NoWords text p) (after_some flags lock value text words p) e)
-
-pub texts_usable : (flags : Flags) (word lock : Option (List ℕ)) (blamed text : List ℕ) (words : List (List ℕ)) (ds : List Destination) (p : Mind) → are_file_texts words ≡ true → ds ≡ map destination_of words → lock ≡ full_lock p.base word
-    → deliver_at flags lock blamed text ds p ≡ deliver_named flags word blamed text words p
-texts_usable flags word lock blamed text words ds p e same is =
-    ap (λ l. deliver_at flags l blamed text ds p) is
-    ∙ (ap (λ l. deliver_at flags (full_lock p.base word) blamed text l p) same ∙ if_no (not (are_file_texts words)) (refuse_act cause.BadName text p) (deliver_at flags (full_lock p.base word) blamed text (map destination_of words) p) (ap not e))
-
--- the lock file is taken, a destination is a held lock file, or the mail is filed
-abbrev after_taken : Flags → Option (List ℕ) → List ℕ → List Destination → Mind → Plan ActEnd
-after_taken flags lock text ds p = if any_held (map (full_of p.base) ds) p.locks then refuse_act cause.NameIsLock text p else file_and_say flags lock text ds p
-
-pub lock_taken : (flags : Flags) (lock : Option (List ℕ)) (blamed shown text : List ℕ) (ds : List Destination) (files : List (List ℕ)) (p : Mind) → files ≡ map (full_of p.base) ds → is_taken lock files p.locks ≡ true → shown ≡ blamed
-    → refuse_act cause.NameIsLock shown p ≡ deliver_at flags lock blamed text ds p
-lock_taken flags lock blamed shown text ds files p is e same =
-    ap (λ t. refuse_act cause.NameIsLock t p) same
-    ∙ if_yes (is_taken lock (map (full_of p.base) ds) p.locks) (refuse_act cause.NameIsLock blamed p) (after_taken flags lock text ds p) (ap (λ l. is_taken lock l p.locks) (sym is) ∙ e)
-
-right_false : (b c : Bool) → (b || c) ≡ false → c ≡ false
-right_false true c e = let f : true ≡ false = e in absurd (cc)
-right_false false c e = e
-
--- a lock file that isn't taken isn't held
-pub free_lock : (lock : Option (List ℕ)) (names held : List (List ℕ)) → is_taken lock names held ≡ false → IsFreeLock lock held
-free_lock None names held e = tt
-free_lock (Some name) names held e = right_false _ (holds_name held name) e
 
 -- the attempt was made, and what is told after it comes
 pub attempt_then : (flags : Flags) (lock : Option (List ℕ)) (text : List ℕ) (ds : List Destination) (p : Mind) (done : Attempted) (came : ActEnd) (x y z : JournalState) (a b c : View) → Executes (attempt lock flags ds p) done x y a b

@@ -11,5 +11,6 @@ mod FailedLemmas
 mod ErrandLemmas
 mod FilterLemmas
 mod TryLemmas
+mod RefusalLemmas
 mod TaskLemmas
 mod PipeLemmas

@@ -4,5 +4,8 @@ pub mod Programs
 pub mod Placing
 pub mod Filing
 pub mod Errands
+pub mod Refusals
+pub mod Jobs
+pub mod Targets
 pub mod Undelivered
 pub mod Examples

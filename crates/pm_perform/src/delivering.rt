@@ -6,11 +6,10 @@ ghost use Rattle.pm_subst.specs.declared.kinds.Mode.TheVariants.{One, Many};
 ghost use Rattle.pm_recipe.specs.View.{act_of, top_of};
 ghost use Rattle.pm_meaning.specs.Acting.{act_on};
 ghost use Rattle.pm_meaning.specs.Locks.{text_or};
-ghost use Rattle.pm_meaning.specs.Locks;
 ghost use Rattle.pm_meaning.specs.Delivering.{attempt_acted, settled};
 ghost use Rattle.pm_meaning.specs.Delivering;
 ghost use Rattle.pm_meaning.specs.Turns.{refuse_name};
-ghost use Rattle.pm_meaning.specs.Delivering.{deliver_with, deliver, deliver_to};
+ghost use Rattle.pm_meaning.specs.Delivering.{deliver_with, deliver};
 ghost use Rattle.pm_meaning.specs.Minds.{mind_of};
 ghost use Rattle.pm_perform.specs.Copies.{IsFreeLock};
 ghost use Rattle.pm_meaning.specs.Ready.{ready_of};
@@ -20,17 +19,16 @@ ghost use Rattle.pm_perform.specs.Undelivered.{Undelivered};
 
 use crate::attempting::attempt;
 use crate::filing::is_stored;
-use crate::locks::{
-    any_held, blamed_text, full_lock, full_names, is_taken, lock_name, lock_text, lock_word,
-};
+use crate::locks::lock_text;
 use crate::pipes::{capture, forward, pipe, write_out};
-use crate::refusing::{overflow, refuse_act};
+use crate::refusing::tell_refusal;
 use crate::saying::{attempt_lines, say_each};
-use pm_bytes::{Blob, Memory, Name, NameRefused};
+use crate::target::{target_among, target_of};
+use pm_bytes::{Blob, Memory, Name};
 use pm_journal::{Effects, unusable_name};
 use pm_meaning::{
-    Acted, Attempt, Cause, Destination, End, Expansion, Filed, Process, Ready, Run, destinations,
-    expand_text, first_word, make_ready, push_copy, succeed, tell,
+    Acted, Attempt, Cause, Destination, End, Filed, Process, Ready, Run, make_ready, push_copy,
+    succeed, tell,
 };
 use pm_recipe::{Action, Flags, Recipe};
 use pm_subst::{Mode, commands};
@@ -108,7 +106,16 @@ pub fn deliver_default<D: Effects>(
         lock: &lock,
         text: mailbox.as_slice(),
     };
-    deliver_to_words(alloc, run, &order, Blob::empty(alloc), &[word])
+    match target_among(alloc, &order, Blob::empty(alloc), &[word], &run.process) {
+        Ok(target) => file_and_say(
+            alloc,
+            run,
+            target.lock,
+            &order,
+            target.destinations.as_slice(),
+        ),
+        Err(refusal) => tell_refusal(alloc, run, refusal),
+    }
 }
 
 // The flags of a recipe that has no letters.
@@ -157,7 +164,7 @@ fn deliver_mail<D: Effects>(
     deliver_ready(alloc, run, order, &ready)
 }
 
-// Expands the text of the lock file, and then delivers.
+// Delivers by the outputs of the commands.
 fn deliver_ready<D: Effects>(
     alloc: Global,
     run: &mut Run<D>,
@@ -172,121 +179,16 @@ fn deliver_ready<D: Effects>(
         run.old.journal run.new.journal (D.told run.old.outside) (D.told run.new.outside) }
     ensures sure { OnErr result (Undelivered order.now.flags run.old.journal run.new.journal) }
 {
-    let lock = lock_text(order.lock);
-    match expand_text(
-        alloc,
-        lock,
-        Mode::One,
-        &run.process.vars,
-        ready.lock_outputs.as_slice(),
-    )? {
-        Expansion::Words(words) => {
-            let value = first_word(alloc, words);
-            let outputs = ready.outputs.as_slice();
-            deliver_text(alloc, run, order, value, outputs)
-        }
-        Expansion::TooLong(length) => overflow(alloc, run, length),
+    match target_of(alloc, order, ready, &run.process) {
+        Ok(target) => file_and_say(
+            alloc,
+            run,
+            target.lock,
+            order,
+            target.destinations.as_slice(),
+        ),
+        Err(refusal) => tell_refusal(alloc, run, refusal),
     }
-}
-
-// Expands the text of the action into destinations, and delivers to them.
-fn deliver_text<D: Effects>(
-    alloc: Global,
-    run: &mut Run<D>,
-    order: &Order<'_>,
-    value: Blob,
-    outputs: &[Blob],
-) -> Result<Acted, Memory>
-    requires each { length outputs.now ≡ length (commands_in Many order.now.text.now) }
-    ensures carries { let o = order.now in
-        Carries (Delivering.deliver_text o.flags o.lock.now value o.text.now outputs.now (mind_of run.old.process))
-        (λ acted. acted_with acted (mind_of run.new.process)) result
-        run.old.journal run.new.journal (D.told run.old.outside) (D.told run.new.outside) }
-    ensures sure { OnErr result (Undelivered order.now.flags run.old.journal run.new.journal) }
-{
-    match expand_text(alloc, order.text, Mode::Many, &run.process.vars, outputs)? {
-        Expansion::Words(words) => { deliver_to_words(alloc, run, order, value, words.as_slice()) }
-        Expansion::TooLong(length) => overflow(alloc, run, length),
-    }
-}
-
-// Delivers to these destinations, if there is one and the lock file's name can be used.
-fn deliver_to_words<D: Effects>(
-    alloc: Global,
-    run: &mut Run<D>,
-    order: &Order<'_>,
-    value: Blob,
-    words: &[Blob],
-) -> Result<Acted, Memory>
-    ensures carries { let o = order.now in
-        Carries (deliver_to o.flags o.lock.now value o.text.now words.now (mind_of run.old.process))
-        (λ acted. acted_with acted (mind_of run.new.process)) result
-        run.old.journal run.new.journal (D.told run.old.outside) (D.told run.new.outside) }
-    ensures sure { OnErr result (Undelivered order.now.flags run.old.journal run.new.journal) }
-{
-    if words.len() == 0 {
-        return refuse_act(alloc, run, Cause::NoWords, order.text);
-    }
-    let word = lock_word(alloc, order.lock, value, words, &run.process)?;
-    match lock_name(alloc, word) {
-        Ok(lock) => deliver_named(alloc, run, order, lock, words),
-        Err(NameRefused::Unusable) => {
-            let text = blamed_text(order.lock, order.text);
-            refuse_act(alloc, run, Cause::BadName, text)
-        }
-        Err(NameRefused::Memory) => Err(Memory),
-    }
-}
-
-// Delivers to these destinations, if each can be the name of a file or a folder.
-fn deliver_named<D: Effects>(
-    alloc: Global,
-    run: &mut Run<D>,
-    order: &Order<'_>,
-    lock: Option<Name>,
-    words: &[Blob],
-) -> Result<Acted, Memory>
-    ensures carries { let o = order.now in
-        Carries (Delivering.deliver_named o.flags lock (Locks.blamed_text o.lock.now o.text.now) o.text.now words.now
-        (mind_of run.old.process))
-        (λ acted. acted_with acted (mind_of run.new.process)) result
-        run.old.journal run.new.journal (D.told run.old.outside) (D.told run.new.outside) }
-    ensures sure { OnErr result (Undelivered order.now.flags run.old.journal run.new.journal) }
-{
-    match destinations(alloc, words)? {
-        None => refuse_act(alloc, run, Cause::BadName, order.text),
-        Some(all) => {
-            let lock = full_lock(alloc, &run.process.base, lock)?;
-            deliver_at(alloc, run, order, lock, all.as_slice())
-        }
-    }
-}
-
-// Delivers to these destinations, if the lock file is none of them and nothing of it is held.
-fn deliver_at<D: Effects>(
-    alloc: Global,
-    run: &mut Run<D>,
-    order: &Order<'_>,
-    lock: Option<Name>,
-    destinations: &[Destination],
-) -> Result<Acted, Memory>
-    ensures carries { let o = order.now in
-        Carries (Delivering.deliver_at o.flags lock
-        (Locks.blamed_text o.lock.now o.text.now) o.text.now destinations.now
-        (mind_of run.old.process))
-        (λ acted. acted_with acted (mind_of run.new.process)) result
-        run.old.journal run.new.journal (D.told run.old.outside) (D.told run.new.outside) }
-    ensures sure { OnErr result (Undelivered order.now.flags run.old.journal run.new.journal) }
-{
-    let files = full_names(alloc, &run.process.base, destinations)?;
-    if is_taken(&lock, files.as_slice(), &run.process.locks) {
-        let text = blamed_text(order.lock, order.text);
-        return refuse_act(alloc, run, Cause::NameIsLock, text);
-    }
-    if any_held(files.as_slice(), &run.process.locks) {
-        return refuse_act(alloc, run, Cause::NameIsLock, order.text);
-    }
-    file_and_say(alloc, run, lock, order, destinations)
 }
 
 // Delivers, and says what came of it.

@@ -9,6 +9,7 @@ pub mod errands;
 pub mod fallback;
 pub mod filing;
 pub mod filtering;
+pub mod job;
 pub mod kept;
 pub mod laws;
 pub mod lock_texts;
@@ -18,6 +19,7 @@ pub mod pipes;
 pub mod placing;
 pub mod refusing;
 pub mod saying;
+pub mod target;
 pub mod tasks;
 pub mod trying;
 

@@ -1,23 +1,21 @@
 //! The texts that name the lock files of tasks (procmailrc(5), "Local lockfile").
-ghost use Rattle.std.specs.Prelude.{◌≡◌, ◌++◌, codes, length, IfOk};
+ghost use Rattle.std.specs.Prelude.{◌≡◌, ◌++◌, ℕ, List, Option, codes, length, IfOk};
+ghost use Rattle.pm_journal.specs.Plan.{Plan};
 ghost use Rattle.pm_meaning.specs.Locks.{value_or};
 ghost use Rattle.pm_meaning.specs.Minds.{mind_of};
+ghost use Rattle.pm_meaning.specs.ProgramActions.{lock_first};
 ghost use Rattle.pm_meaning.specs.ProgramActions;
-ghost use Rattle.pm_perform.specs.Errands.{task_of, IsLockText};
+ghost use Rattle.pm_meaning.specs.Turns.{ActEnd};
+ghost use Rattle.pm_perform.specs.Errands.{task_of};
+ghost use Rattle.pm_perform.specs.Refusals.{Continues};
 
 use crate::locks::{lock_extension, lock_text};
+use crate::refusing::Refusal;
 use crate::tasks::Task;
 use pm_bytes::{Blob, Memory};
 use pm_meaning::{Expansion, Process, expand_text, first_word};
 use pm_subst::{Mode, commands};
 use std::alloc::Global;
-
-/// What the text of a lock file gives: the word that names it, if any, or the length of one that is too long.
-#[derive(Drop)]
-pub enum LockText {
-    Word(Option<Blob>),
-    TooLong(u64),
-}
 
 /// The commands of the text that names the lock file.
 pub fn lock_commands(alloc: Global, task: &Task<'_>) -> Result<Vec<Blob>, Memory>
@@ -26,23 +24,24 @@ pub fn lock_commands(alloc: Global, task: &Task<'_>) -> Result<Vec<Blob>, Memory
     commands(alloc, lock_source(task), lock_mode(task))
 }
 
-/// Expands the text that names the lock file, with the outputs of its commands in their order.
-pub fn lock_word(
+/// The word that names the lock file, if any, by the outputs of the commands in its text.
+pub fn lock_word<'a>(
     alloc: Global,
-    task: &Task<'_>,
+    task: &Task<'a>,
     outputs: &[Blob],
     process: &Process,
-) -> Result<LockText, Memory>
+) -> Result<Option<Blob>, Refusal<'a>>
     requires { length outputs.now ≡ length (ProgramActions.lock_commands (task_of task.now)) }
-    ensures { IfOk result (λ text. IsLockText (task_of task.now) outputs.now (mind_of process.now) text) }
+    ensures { (next : Option (List ℕ) → Plan ActEnd) → let p = mind_of process.now in
+        Continues next (lock_first (task_of task.now) outputs.now next p) p result }
 {
     let source = lock_source(task);
     match expand_text(alloc, source, lock_mode(task), &process.vars, outputs)? {
         Expansion::Words(words) => {
             let value = first_word(alloc, words);
-            Ok(LockText::Word(named_lock(task, value, process)?))
+            Ok(named_lock(task, value, process)?)
         }
-        Expansion::TooLong(length) => Ok(LockText::TooLong(length)),
+        Expansion::TooLong(length) => Err(Refusal::TooLong(length)),
     }
 }
 

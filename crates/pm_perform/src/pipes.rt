@@ -15,10 +15,11 @@ ghost use Rattle.pm_meaning.specs.Apart.{acted_with};
 ghost use Rattle.pm_perform.specs.Undelivered.{Undelivered};
 
 use crate::delivering::Order;
-use crate::errands::write_errand;
-use crate::lock_texts::{LockText, lock_commands, lock_word};
-use crate::refusing::overflow;
-use crate::tasks::{Purpose, Task, do_line, do_named};
+use crate::errands::{errand_for, write_errand};
+use crate::job::{Job, job_of, lock_of};
+use crate::lock_texts::lock_commands;
+use crate::refusing::tell_refusal;
+use crate::tasks::{Purpose, Task, do_free};
 use pm_bytes::{Blob, Memory};
 use pm_journal::Effects;
 use pm_meaning::{
@@ -179,7 +180,7 @@ fn text_commands(alloc: Global, text: &[u8], reading: Reading) -> Result<Vec<Blo
     }
 }
 
-// Expands the text of the lock file, and then that of the task.
+// Runs the program by the outputs of the commands.
 fn do_ready<D: Effects>(
     alloc: Global,
     run: &mut Run<D>,
@@ -195,24 +196,17 @@ fn do_ready<D: Effects>(
         run.old.journal run.new.journal (D.told run.old.outside) (D.told run.new.outside) }
     ensures sure { OnErr result (Undelivered task.now.flags run.old.journal run.new.journal) }
 {
-    let text = lock_word(alloc, task, ready.lock_outputs.as_slice(), &run.process)?;
-    match text {
-        LockText::TooLong(length) => overflow(alloc, run, length),
-        LockText::Word(word) => {
-            let line = read_text(
-                alloc,
-                task.text,
-                reading,
-                ready.outputs.as_slice(),
-                &run.process,
-            )?;
-            do_line(alloc, run, task, word, line)
+    match job_of(alloc, task, reading, ready, &run.process) {
+        Ok(Job { lock, command }) => {
+            let errand = errand_for(alloc, task, command, &run.process)?;
+            do_free(alloc, run, task, lock, errand)
         }
+        Err(refusal) => tell_refusal(alloc, run, refusal),
     }
 }
 
-// The text as a program with its words, with the outputs of its commands.
-fn read_text(
+/// The text as a program with its words, with the outputs of its commands.
+pub fn read_text(
     alloc: Global,
     text: &[u8],
     reading: Reading,
@@ -253,7 +247,7 @@ pub fn write_out<D: Effects>(
     write_ready(alloc, run, &task, &ready)
 }
 
-// Expands the text of the lock file, and then writes.
+// Writes by the outputs of the commands.
 fn write_ready<D: Effects>(
     alloc: Global,
     run: &mut Run<D>,
@@ -267,12 +261,11 @@ fn write_ready<D: Effects>(
         run.old.journal run.new.journal (D.told run.old.outside) (D.told run.new.outside) }
     ensures sure { OnErr result (Undelivered task.now.flags run.old.journal run.new.journal) }
 {
-    let text = lock_word(alloc, task, ready.lock_outputs.as_slice(), &run.process)?;
-    match text {
-        LockText::TooLong(length) => overflow(alloc, run, length),
-        LockText::Word(word) => {
+    match lock_of(alloc, task, ready, &run.process) {
+        Ok(lock) => {
             let errand = write_errand(alloc, task.flags, &run.process)?;
-            do_named(alloc, run, task, word, errand)
+            do_free(alloc, run, task, lock, errand)
         }
+        Err(refusal) => tell_refusal(alloc, run, refusal),
     }
 }

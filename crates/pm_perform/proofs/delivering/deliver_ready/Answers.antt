@@ -1,38 +1,24 @@
-use Rattle.std.proofs.Common.{refl, rules, ap, ◌∙◌}
-use Rattle.pm_journal.proofs.WantsMemory.{on_err, out_anywhere}
-use Rattle.pm_meaning.specs.Assigning.{first_word}
-use Rattle.pm_meaning.specs.Delivering.{deliver_text, deliver_with}
+use Rattle.std.proofs.Common.{ap, ◌∙◌}
+use Rattle.pm_meaning.specs.Delivering.{deliver_with, file_and_say}
 use Rattle.pm_meaning.specs.Minds.{mind_of}
 use Rattle.pm_meaning.specs.Ready.{ready_of}
 use Rattle.pm_meaning.proofs.Choices.{carried}
-use Rattle.pm_meaning.specs.Turns.{failed, overflow_act}
-use Rattle.pm_meaning.specs.declared.acted.Cause.TheVariants as cause
-use Rattle.pm_perform.proofs.DeliverLemmas.{lock_expands}
-use Rattle.pm_meaning.proofs.Choices.{err_map}
-use Rattle.pm_meaning.specs.Changes.{overflowed}
-use Rattle.pm_perform.proofs.CalmLemmas.{calm_out, calm_said, calm_sure, sure_none}
 use Rattle.pm_perform.proofs.delivering.deliver_ready.Goals as goal
 
-pub returns-in_err-words-clause-carries : goal.returns-in_err-words-clause-carries
-returns-in_err-words-clause-carries g c = (search rules, on_err _ _ (out_anywhere _ _ _ _ refl))
-
-pub returns-in-Words-clause-carries : goal.returns-in-Words-clause-carries
-returns-in-Words-clause-carries g c =
+pub returns-in-Ok-clause-carries : goal.returns-in-Ok-clause-carries
+returns-in-Ok-clause-carries g c =
     let o = c.args.order.now in
     let p = mind_of c.args.run.now.process in
-    let r = ready_of c.args.ready.now p in
-    let value = c.first_word-value.result in
-    let fits = rw (c.in-Words.is, c.lock_text-lock.ensures, c.as_slice.ensures.value) at c.in_ok-words.ensures in
-    let same = ap (λ l. deliver_text o.flags o.lock.now value o.text.now l p) c.as_slice-outputs.ensures.value ∙ lock_expands o.flags o.lock.now value o.text.now r fits.0 (c.first_word-value.ensures ∙ ap first_word fits.1) in
-    carried _ (deliver_with o.flags o.lock.now o.text.now r) _ _ _ _ _ _ same c.deliver_text.ensures.carries
+    let target = c.in-Ok.target in
+    let known = rw c.in-Ok.is at c.target_of.ensures.target in
+    let same = ap (λ l. file_and_say o.flags target.lock o.text.now l p) c.as_slice.ensures.value ∙ known in
+    carried (file_and_say o.flags target.lock o.text.now c.as_slice.result.now p) (deliver_with o.flags o.lock.now o.text.now (ready_of c.args.ready.now p)) _ _ _ _ _ _ same c.file_and_say.ensures.carries
 
-pub returns-in_err-words-clause-sure : goal.returns-in_err-words-clause-sure
-returns-in_err-words-clause-sure g c = on_err _ _ (sure_none c.args.order.now.flags c.args.run.now.journal c.args.run.now.journal refl)
+pub returns-in-Err-clause-carries : goal.returns-in-Err-clause-carries
+returns-in-Err-clause-carries g c =
+    let o = c.args.order.now in
+    let p = mind_of c.args.run.now.process in
+    c.tell_refusal.ensures.carries (deliver_with o.flags o.lock.now o.text.now (ready_of c.args.ready.now p)) (rw c.in-Err.is at c.target_of.ensures.target)
 
-pub returns-in-Words-clause-sure : goal.returns-in-Words-clause-sure
-returns-in-Words-clause-sure g c = c.deliver_text.ensures.sure
-
-pub returns-in-TooLong-clause-sure : goal.returns-in-TooLong-clause-sure
-returns-in-TooLong-clause-sure g c =
-    let came = failed (cause.Overflow c.in-TooLong.length) (overflowed (mind_of c.args.run.now.process)) in
-    err_map c.overflow.result _ _ (λ out. calm_sure c.args.order.now.flags c.args.run.now.journal c.overflow.new.run.journal (calm_out c.args.order.now.flags (overflow_act c.in-TooLong.length (mind_of c.args.run.now.process)) c.args.run.now.journal c.overflow.new.run.journal _ _ (calm_said c.args.order.now.flags (mind_of c.args.run.now.process) _ came) out)) c.overflow.ensures.carries.1
+pub returns-in-Err-clause-sure : goal.returns-in-Err-clause-sure
+returns-in-Err-clause-sure g c = c.tell_refusal.ensures.sure c.args.order.now.flags

@@ -1,59 +1,43 @@
-use Rattle.std.proofs.Common.{Option, List, ℕ, refl, rules, ap, ◌∙◌}
-use Rattle.pm_host.specs.declared.command.Command.{Command}
+use Rattle.std.proofs.Common.{refl, rules}
 use Rattle.pm_journal.specs.Plan.{Plan}
 use Rattle.pm_journal.proofs.WantsMemory.{on_err, out_anywhere}
-use Rattle.pm_meaning.specs.Changes.{overflowed}
 use Rattle.pm_meaning.specs.Minds.{Mind, mind_of}
-use Rattle.pm_meaning.specs.ProgramActions.{Tried, work_of, fed_piece, do_line, program_with}
-use Rattle.pm_perform.specs.Errands.{task_of}
+use Rattle.pm_meaning.specs.ProgramActions.{Tried, work_of, fed_piece, program_with}
 use Rattle.pm_meaning.specs.Ready.{ready_of}
-use Rattle.pm_perform.specs.Programs.{reading_of}
 use Rattle.pm_meaning.proofs.Choices.{carried}
-use Rattle.pm_meaning.specs.Turns.{ActEnd, failed, overflow_act}
-use Rattle.pm_meaning.specs.declared.acted.Cause.TheVariants as cause
-use Rattle.pm_perform.proofs.TaskLemmas.{lock_too_long, lock_worded}
-use Rattle.pm_meaning.proofs.Choices.{err_map}
-use Rattle.pm_perform.proofs.CalmLemmas.{calm_out, calm_said, calm_sure, sure_none}
+use Rattle.pm_perform.specs.Errands.{task_of}
+use Rattle.pm_perform.specs.Jobs.{try_at}
+use Rattle.pm_perform.specs.Programs.{reading_of}
+use Rattle.pm_perform.proofs.CalmLemmas.{sure_none}
 use Rattle.pm_perform.proofs.pipes.do_ready.Goals as goal
 
-pub returns-in_err-text-clause-carries : goal.returns-in_err-text-clause-carries
-returns-in_err-text-clause-carries g c = (search rules, on_err _ _ (out_anywhere _ _ _ _ refl))
+pub returns-in_err-errand-in-Ok-clause-carries : goal.returns-in_err-errand-in-Ok-clause-carries
+returns-in_err-errand-in-Ok-clause-carries g c = (search rules, on_err _ _ (out_anywhere _ _ _ _ refl))
 
-pub returns-in_err-line-in-Word-clause-carries : goal.returns-in_err-line-in-Word-clause-carries
-returns-in_err-line-in-Word-clause-carries g c = (search rules, on_err _ _ (out_anywhere _ _ _ _ refl))
-
-pub returns-in-TooLong-clause-carries : goal.returns-in-TooLong-clause-carries
-returns-in-TooLong-clause-carries g c =
+pub returns-in_ok-errand-in-Ok-clause-carries : goal.returns-in_ok-errand-in-Ok-clause-carries
+returns-in_ok-errand-in-Ok-clause-carries g c =
     let t = task_of c.args.task.now in
     let p = mind_of c.args.run.now.process in
     let reading = reading_of c.args.reading t.text in
-    let r = ready_of c.args.ready.now p in
-    let next : Option (List ℕ) → Plan ActEnd = λ word. do_line t word (work_of t.purpose t.flags (fed_piece t.flags p)) (reading.read r.outputs p) p in
-    let h = rw (c.in-TooLong.is, c.as_slice.ensures.value) at c.in_ok-text.ensures in
-    carried (overflow_act c.in-TooLong.length p) (program_with t reading r) _ _ _ _ _ _ (lock_too_long t r.lock_outputs next c.in-TooLong.length p h) c.overflow.ensures.carries
+    let work : Mind → Plan Tried = work_of t.purpose t.flags (fed_piece t.flags p) c.in-Ok.field-0.command in
+    let known = rw c.in-Ok.is at c.job_of.ensures.job in
+    carried (try_at t work p c.in-Ok.field-0.lock) (program_with t reading (ready_of c.args.ready.now p)) _ _ _ _ _ _ known (c.do_free.ensures.carries work c.in_ok-errand-in-Ok.ensures)
 
-pub returns-in_ok-line-in-Word-clause-carries : goal.returns-in_ok-line-in-Word-clause-carries
-returns-in_ok-line-in-Word-clause-carries g c =
+pub returns-in-Err-clause-carries : goal.returns-in-Err-clause-carries
+returns-in-Err-clause-carries g c =
     let t = task_of c.args.task.now in
     let p = mind_of c.args.run.now.process in
-    let reading = reading_of c.args.reading t.text in
-    let r = ready_of c.args.ready.now p in
-    let work : Command → Mind → Plan Tried = work_of t.purpose t.flags (fed_piece t.flags p) in
-    let next : Option (List ℕ) → Plan ActEnd = λ word. do_line t word work (reading.read r.outputs p) p in
-    let h = rw (c.in-Word.is, c.as_slice.ensures.value) at c.in_ok-text.ensures in
-    let read = c.in_ok-line-in-Word.ensures ∙ ap (λ l. reading.read l p) c.as_slice-in-Word.ensures.value in
-    carried (do_line t c.in-Word.word work c.in_ok-line-in-Word.line p) (program_with t reading r) _ _ _ _ _ _ (ap (λ l. do_line t c.in-Word.word work l p) read ∙ lock_worded t r.lock_outputs next c.in-Word.word p h) c.do_line.ensures.carries
+    c.tell_refusal.ensures.carries (program_with t (reading_of c.args.reading t.text) (ready_of c.args.ready.now p)) (rw c.in-Err.is at c.job_of.ensures.job)
 
-pub returns-in_err-text-clause-sure : goal.returns-in_err-text-clause-sure
-returns-in_err-text-clause-sure g c = on_err _ _ (sure_none c.args.task.now.flags c.args.run.now.journal c.args.run.now.journal refl)
+pub returns-in_err-errand-in-Ok-clause-sure : goal.returns-in_err-errand-in-Ok-clause-sure
+returns-in_err-errand-in-Ok-clause-sure g c = on_err _ _ (sure_none c.args.task.now.flags c.args.run.now.journal c.args.run.now.journal refl)
 
-pub returns-in_err-line-in-Word-clause-sure : goal.returns-in_err-line-in-Word-clause-sure
-returns-in_err-line-in-Word-clause-sure g c = on_err _ _ (sure_none c.args.task.now.flags c.args.run.now.journal c.args.run.now.journal refl)
+pub returns-in_ok-errand-in-Ok-clause-sure : goal.returns-in_ok-errand-in-Ok-clause-sure
+returns-in_ok-errand-in-Ok-clause-sure g c =
+    let t = task_of c.args.task.now in
+    let p = mind_of c.args.run.now.process in
+    let work : Mind → Plan Tried = work_of t.purpose t.flags (fed_piece t.flags p) c.in-Ok.field-0.command in
+    c.do_free.ensures.sure work c.in_ok-errand-in-Ok.ensures
 
-pub returns-in-TooLong-clause-sure : goal.returns-in-TooLong-clause-sure
-returns-in-TooLong-clause-sure g c =
-    let came = failed (cause.Overflow c.in-TooLong.length) (overflowed (mind_of c.args.run.now.process)) in
-    err_map c.overflow.result _ _ (λ out. calm_sure c.args.task.now.flags c.args.run.now.journal c.overflow.new.run.journal (calm_out c.args.task.now.flags (overflow_act c.in-TooLong.length (mind_of c.args.run.now.process)) c.args.run.now.journal c.overflow.new.run.journal _ _ (calm_said c.args.task.now.flags (mind_of c.args.run.now.process) _ came) out)) c.overflow.ensures.carries.1
-
-pub returns-in_ok-line-in-Word-clause-sure : goal.returns-in_ok-line-in-Word-clause-sure
-returns-in_ok-line-in-Word-clause-sure g c = c.do_line.ensures.sure
+pub returns-in-Err-clause-sure : goal.returns-in-Err-clause-sure
+returns-in-Err-clause-sure g c = c.tell_refusal.ensures.sure c.args.task.now.flags
