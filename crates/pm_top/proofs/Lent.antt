@@ -1,6 +1,5 @@
 -- Objects that are lent to a process come back, and what was done doesn't depend on the references that held them.
-use Rattle.std.proofs.Common.{◌≡◌, Result, Ok, Err, IfOk, OnErr, ◌∙◌}
-use Rattle.pm_bytes.specs.declared.error.Memory.{Memory}
+use Rattle.std.proofs.Common.{◌≡◌, ◌∙◌}
 use Rattle.pm_journal.specs.JournalState.{JournalState}
 use Rattle.pm_journal.specs.Entries.{View}
 use Rattle.pm_journal.specs.Walking.{Completes}
@@ -9,10 +8,10 @@ use Rattle.pm_meaning.specs.declared.ending.Ending.{Ending}
 use Rattle.pm_meaning.proofs.Beside.{plain, accounts_plain, takes_plain}
 use Rattle.pm_run.specs.RunningOut.{GaveUp}
 
-completes_plain : (c : Course) (end : Ending) (x y : JournalState) (a b : View) → Completes advance c end x y a b → Completes advance c end x y (plain a) (plain b)
+pub completes_plain : (c : Course) (end : Ending) (x y : JournalState) (a b : View) → Completes advance c end x y a b → Completes advance c end x y (plain a) (plain b)
 completes_plain s end x y a b h = record { more = h.more; entries = h.entries; means = h.means; accounts = accounts_plain h.more a b h.accounts }
 
-gave_up_plain : (c : Course) (x y : JournalState) (a b : View) → GaveUp c x y a b → GaveUp c x y (plain a) (plain b)
+pub gave_up_plain : (c : Course) (x y : JournalState) (a b : View) → GaveUp c x y a b → GaveUp c x y (plain a) (plain b)
 gave_up_plain s x y a b k = let h = k.abandoned in record {
   abandoned = record {
     done = h.done;
@@ -32,17 +31,9 @@ gave_up_plain s x y a b k = let h = k.abandoned in record {
   place = k.place;
 }
 
-pub ends_plain : (c : Course) (result : Result Ending Memory) (x y : JournalState) (a b : View) → IfOk result (λ end. Completes advance c end x y a b) → IfOk result (λ end. Completes advance c end x y (plain a) (plain b))
-ends_plain s (Ok end) x y a b h = completes_plain s end x y a b h
-ends_plain s (Err m) x y a b h = tt
+-- the references after a process that ended, and after one that was left off, are those before it
+pub lent_back : (c : Course) (end : Ending) (x y : JournalState) (a b : View) → Completes advance c end x y a b → b.references ≡ a.references
+lent_back c end x y a b h = h.accounts.same
 
-pub starves_plain : (c : Course) (result : Result Ending Memory) (x y : JournalState) (a b : View) → OnErr result (GaveUp c x y a b)
-    → OnErr result (GaveUp c x y (plain a) (plain b))
-starves_plain s (Ok end) x y a b h = tt
-starves_plain s (Err m) x y a b h = gave_up_plain s x y a b h
-
--- the references after the process are those before it
-pub lent_back : (c : Course) (result : Result Ending Memory) (x y : JournalState) (a b : View) → IfOk result (λ end. Completes advance c end x y a b)
-    → OnErr result (GaveUp c x y a b) → b.references ≡ a.references
-lent_back s (Ok end) x y a b h k = h.accounts.same
-lent_back s (Err m) x y a b h k = k.abandoned.back.same ∙ (k.abandoned.took.same ∙ k.abandoned.accounts.same)
+pub given_back : (c : Course) (x y : JournalState) (a b : View) → GaveUp c x y a b → b.references ≡ a.references
+given_back c x y a b h = let k = h.abandoned in k.back.same ∙ (k.took.same ∙ k.accounts.same)

@@ -1,10 +1,7 @@
 //! The whole run of the program, from its words to its exit status.
-ghost use Rattle.std.specs.Prelude.{◌≡◌, [], IfOk, OnErr};
+ghost use Rattle.std.specs.Prelude.{◌≡◌, []};
 ghost use Rattle.pm_journal.specs.Entries.{view_of};
-ghost use Rattle.pm_journal.specs.Walking.{Completes};
-ghost use Rattle.pm_meaning.specs.Courses.{advance, run_of};
 ghost use Rattle.pm_meaning.specs.Status.{status_number};
-ghost use Rattle.pm_run.specs.RunningOut.{GaveUp};
 ghost use Rattle.pm_top.specs.Outcome.{SaysLine, LastLine, status_line};
 ghost use Rattle.pm_top.specs.Promise.{Promise};
 ghost use Rattle.pm_top.specs.Traced.{RunsLine, RunsMail};
@@ -186,6 +183,7 @@ fn run_line<'a, S: Source, H: Host, O: Sink, E: Sink, K: Entries, N: Observer>(
     }
 }
 
+// The processes, after which the objects are the same ones, and the status.
 fn run_mail<'a, H: Host, O: Sink, E: Sink, K: Entries, N: Observer>(
     alloc: Global,
     arrival: Arrival<'_>,
@@ -210,34 +208,10 @@ fn run_mail<'a, H: Host, O: Sink, E: Sink, K: Entries, N: Observer>(
     ensures out { objects.new.out.ghost_name ≡ objects.old.out.ghost_name }
     ensures err { objects.new.err.ghost_name ≡ objects.old.err.ghost_name }
 {
-    match run_objects(alloc, arrival, objects, idle, observer) {
+    match run_processes(alloc, arrival, objects, idle, observer) {
         Ok(ending) => finish(&mut *objects.err, ending),
         Err(Memory) => refuse(&mut *objects.err, Status::SystemError),
     }
-}
-
-// The processes, after which the objects are the same ones.
-fn run_objects<'a, H: Host, O: Sink, E: Sink, K: Entries, N: Observer>(
-    alloc: Global,
-    arrival: Arrival<'_>,
-    objects: &mut Objects<'a, H, &'a mut O, E, K>,
-    idle: &mut Idle<K>,
-    observer: &mut N,
-) -> Result<Ending, Memory>
-    ensures ok { IfOk result (λ ending.
-        Completes advance (run_of arrival.entry.line arrival.entry.env.now arrival.entry.bytes) ending
-        idle.old.journal idle.new.journal
-        (view_of (H.told objects.old.host.now) (O.told objects.old.out.now) (E.told objects.old.err.now))
-        (view_of (H.told objects.new.host.now) (O.told objects.new.out.now) (E.told objects.new.err.now))) }
-    ensures memory { OnErr result (GaveUp (run_of arrival.entry.line arrival.entry.env.now arrival.entry.bytes)
-        idle.old.journal idle.new.journal
-        (view_of (H.told objects.old.host.now) (O.told objects.old.out.now) (E.told objects.old.err.now))
-        (view_of (H.told objects.new.host.now) (O.told objects.new.out.now) (E.told objects.new.err.now))) }
-    ensures host { objects.new.host.ghost_name ≡ objects.old.host.ghost_name }
-    ensures out { objects.new.out.ghost_name ≡ objects.old.out.ghost_name }
-    ensures err { objects.new.err.ghost_name ≡ objects.old.err.ghost_name }
-{
-    run_processes(alloc, arrival, objects, idle, observer)
 }
 
 // The status of a run that ended so; a mail filter without its rcfile says so.

@@ -21,22 +21,18 @@ fn main(rt: HostRuntime) -> ExitCode {
     ExitCode::from(status)
 }
 
-fn begin(rt: &HostRuntime, setup: &Setup<File>) -> u8 {
-    match RealSink::stderr(rt, rt.alloc(), setup) {
-        Ok(mut err) => run(rt, setup, &mut err),
-        Err(Memory) => Status::SystemError.number(),
-    }
-}
-
 // Words that aren't UTF-8 are refused like all others that aren't read.
-fn run(rt: &HostRuntime, setup: &Setup<File>, err: &mut RealSink<Stderr>) -> u8 {
+fn begin(rt: &HostRuntime, setup: &Setup<File>) -> u8 {
+    let Ok(mut err) = RealSink::stderr(rt, rt.alloc(), setup) else {
+        return Status::SystemError.number();
+    };
     match read_words(rt.alloc(), rt) {
-        Words::Read(words) => match deliver(rt, setup, words.as_slice(), err) {
+        Words::Read(words) => match deliver(rt, setup, words.as_slice(), &mut err) {
             Ok(status) => status,
-            Err(Memory) => refuse(err, Status::SystemError),
+            Err(Memory) => refuse(&mut err, Status::SystemError),
         },
-        Words::NoText => refuse(err, Status::Usage),
-        Words::Memory => refuse(err, Status::SystemError),
+        Words::NoText => refuse(&mut err, Status::Usage),
+        Words::Memory => refuse(&mut err, Status::SystemError),
     }
 }
 
