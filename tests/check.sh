@@ -508,7 +508,7 @@ printf ':0:\nmbox\n' > rc
 while read -r code; do ends 0 --no-disk --allow "$code" rc; done < named
 
 # Each message of the page is one of the definitions, and the other way round.
-sed -n 's/^[a-z_]*_text [A-Za-z.]* =//p; s/^    codes/ codes/p' "$top/crates/check_text/specs/Messages.antt" "$top/crates/check_moving/specs/Messages.antt" |
+sed -n 's/^[a-z_]*_text [A-Za-z.]* =//p; s/^    codes/ codes/p' "$top/crates/check_find/specs/Messages.antt" "$top/crates/check_moving/specs/Messages.antt" |
     sed -n 's/^ codes "\(.*\)"$/\1/p' | sed 's/\\\\/\\/g; s/\\"/"/g' | sort -u > defined
 sed -n 's/^\.\(It \)\{0,1\}Dq "\([^"]*\)".*/\2/p' codes | sed 's/\\(ha/^/g; s/\\(ti/~/g; s/\\-/-/g; s/\\(aq/\x27/g; s/\\e/\\/g' | sort -u > named
 [ "$(wc -l < defined)" -ge 20 ] && cmp -s defined named || fail "the messages of the page: $(diff defined named)"

@@ -17,6 +17,7 @@ mod conditions;
 mod edits;
 mod failed;
 mod host_calls;
+mod interrupted;
 mod listing;
 mod locks;
 mod mailboxes;
@@ -92,5 +93,6 @@ fn make_report(alloc: Global) -> Report {
     mailboxes::show(alloc, &mut report);
     caches::show(alloc, &mut report);
     turns::show(alloc, &mut report);
+    interrupted::show(&mut report);
     report
 }

@@ -1,8 +1,8 @@
 -- The exit status of a check.
 use Rattle.std.specs.Prelude.{ℕ, List, if◌then◌else◌}
 use Rattle.std.specs.List.{list_any}
-use Rattle.check_text.specs.declared.line.Line.{Line}
-use Rattle.check_text.specs.Objects.{is_error_word, is_warning_word}
+use Rattle.check_find.specs.declared.line.Line.{Line}
+use Rattle.check_find.specs.Objects.{is_error_word, is_warning_word}
 use Rattle.check_cli.specs.declared.status.Status.{Status}
 use Rattle.check_cli.specs.declared.status.Status.TheVariants.{Clean, Warnings, Errors, Usage, NoInput, SystemError, NoOutput}
 

@@ -6,7 +6,7 @@ use crate::places::{below, column_of, is_absolute};
 use crate::remarks::{Checked, Remark, of_disk};
 use crate::steps::{Step, steps_of};
 use crate::walk::{Next, Walk};
-use check_text::DiskMistake;
+use check_find::DiskMistake;
 use pm_bytes::{Blob, Memory};
 use pm_recipe::RcRefused;
 use std::alloc::Global;

@@ -1,8 +1,7 @@
 //! What is found in the text of one rcfile by itself.
 use crate::remarks::{Remark, of_disk, of_finding, of_form};
-use check_find::{Finding, find};
+use check_find::{DiskMistake, Finding, find};
 use check_moving::{Finding as FoundForm, find_forms};
-use check_text::DiskMistake;
 use pm_bytes::Memory;
 use pm_recipe::RcRefused;
 use std::alloc::Global;

@@ -2,10 +2,10 @@
 use crate::forms::is_form_code;
 use crate::places::column_of;
 use check_find::{
-    Code, Fault, Finding, Hint, Mistake, Severity, name_of, severity_of as severity_in,
+    Code, DiskMistake, Fault, Finding, Hint, Mistake, Severity, disk_message, disk_name,
+    disk_severity, is_disk_code, message, name_of, severity_of as severity_in,
 };
 use check_moving::{Finding as FoundForm, Form, form_code, form_message};
-use check_text::{DiskMistake, disk_message, disk_name, disk_severity, is_disk_code, message};
 use std::alloc::{AllocError, Global};
 
 /// Where it comes from.

@@ -7,7 +7,7 @@ use crate::fixed::fix_all;
 use crate::options::{Format, Options, VERSION};
 use crate::remarks::{Checked, Remark, code_of, is_code, severity_of};
 use crate::status::{Status, status_of};
-use check_text::{Line, findings_json, lines_text, sarif_log};
+use check_find::{Line, findings_json, lines_text, sarif_log};
 use pm_bytes::Memory;
 use std::alloc::{AllocError, Global};
 use std::env;

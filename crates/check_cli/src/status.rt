@@ -1,11 +1,10 @@
 //! The exit status.
 ghost use Rattle.std.specs.Prelude.{◌≡◌};
 ghost use Rattle.std.specs.List.{list_any};
-ghost use Rattle.check_text.specs.Objects.{is_error_word, is_warning_word};
+ghost use Rattle.check_find.specs.Objects.{is_error_word, is_warning_word};
 ghost use Rattle.check_cli.specs.Status.{status_number, status_of};
 
-use check_find::Severity;
-use check_text::Line;
+use check_find::{Line, Severity};
 
 /// The exit statuses of procmail-check.
 #[derive(Clone, Copy)]

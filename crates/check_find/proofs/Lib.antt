@@ -2,3 +2,4 @@ pub mod Lines
 pub mod Telling
 pub mod Reading
 pub mod Quiet
+pub mod Uris

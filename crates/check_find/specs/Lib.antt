@@ -3,3 +3,9 @@ pub mod Faults
 pub mod Statements
 pub mod Reports
 pub mod Examples
+pub mod Codes
+pub mod Lines
+pub mod Messages
+pub mod Uris
+pub mod Objects
+pub mod UriExamples

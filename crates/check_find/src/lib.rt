@@ -1,5 +1,5 @@
-//! What is wrong in an rcfile, by its text alone: each line that procmail skips, each condition that it can't read, and
-//! the commonest mistakes that it doesn't log.
+//! What is wrong in an rcfile, by its text alone, as lines, as JSON and as SARIF 2.1.0: each line that procmail skips,
+//! each condition that it can't read, and the commonest mistakes that it doesn't log.
 #![tactic(auto)]
 
 mod actions;
@@ -9,15 +9,25 @@ mod defects;
 mod finding;
 mod forms;
 mod hints;
+mod json;
 mod judged;
 mod laws;
+mod line;
+mod messages;
 mod mistakes;
 mod notices;
 mod reports;
+mod rules;
+mod sarif;
 mod searching;
 mod words;
 
 pub use codes::{Code, Fault, Hint, Mistake, Severity, name_of, severity_of};
 pub use finding::Finding;
-pub use laws::examples;
+pub use json::findings_json;
+pub use laws::{examples, uri_examples};
+pub use line::{Line, lines_text};
+pub use messages::{disk_message, message};
+pub use rules::{DiskMistake, disk_name, disk_severity, is_disk_code};
+pub use sarif::sarif_log;
 pub use searching::find;

@@ -8,10 +8,11 @@ use crate::running::{Ran, Runs};
 use crate::status::{Status, Stopped};
 use crate::words::{line_of, owned, telling};
 use explain_host::Machine;
-use explain_json::{mail_object, outcome_object, run_object};
-use explain_mails::{Outcome, mail_heading, mail_line, subject_of};
+use explain_mails::{
+    Outcome, mail_heading, mail_line, mail_object, outcome_object, run_object, subject_of,
+};
 use explain_notes::explain as run_text;
-use explain_started::with_started;
+use explain_run::with_started;
 use explain_text::{result_line, steps_of};
 use pm_bytes::{Blob, Memory};
 use pm_meaning::CommandLine;

@@ -2,10 +2,9 @@
 ghost use Rattle.std.specs.Prelude.{◌≡◌};
 ghost use Rattle.pm_host.specs.declared.answers.Child.{Child};
 
-use explain_host::Machine;
+use explain_host::{Machine, OwnCode, lines_of};
 use explain_mails::{Outcome, destination_names};
 use explain_notes::Notes;
-use explain_programs::{OwnCode, lines_of};
 use explain_run::{Script, Stepping, next_start, started_after};
 use pm_bytes::{Blob, Memory};
 use pm_conds::{NoObserver, Observer};

@@ -6,3 +6,7 @@ pub mod Names
 pub mod Subjects
 pub mod Went
 pub mod Words
+pub mod ObjectExamples
+pub mod Members
+pub mod Objects
+pub mod Recipes

@@ -1,1 +1,3 @@
 pub mod Weaving
+pub mod Fitting
+pub mod Standing

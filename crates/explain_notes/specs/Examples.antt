@@ -9,7 +9,7 @@ use Rattle.pm_journal.specs.declared.acts.Reply.{Reply}
 use Rattle.pm_journal.specs.declared.acts.Reply.TheVariants.{Content, Done, Now}
 use Rattle.pm_meaning.specs.declared.question.Factors.{Factors}
 use Rattle.pm_meaning.specs.declared.question.Outcome.TheVariants.{Holds, Matched, Fails, Counted, Compared, Exited, Defective, TooLong}
-use Rattle.explain_lines.specs.declared.recipe.Line.{Line}
+use Rattle.explain_notes.specs.declared.recipe.Line.{Line}
 use Rattle.explain_notes.specs.Came.{came}
 use Rattle.explain_notes.specs.Explained.{explained}
 use Rattle.explain_notes.specs.Lines.{told_line}

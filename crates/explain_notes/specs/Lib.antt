@@ -6,3 +6,7 @@ pub mod Lines
 pub mod Reads
 pub mod Shown
 pub mod Told
+pub mod RcExamples
+pub mod RcLaws
+pub mod RcLines
+pub mod Steps

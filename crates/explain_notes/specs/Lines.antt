@@ -4,7 +4,7 @@ use Rattle.pm_journal.specs.LogText.{quoted}
 use Rattle.pm_meaning.specs.declared.question.Outcome.{Outcome}
 use Rattle.pm_recipe.specs.Colon.{flags_of, flags_part}
 use Rattle.pm_recipe.specs.declared.tree.Flags.{Flags}
-use Rattle.explain_lines.specs.declared.recipe.Line.{Line}
+use Rattle.explain_notes.specs.declared.recipe.Line.{Line}
 use Rattle.explain_notes.specs.Came.{came}
 use Rattle.explain_notes.specs.declared.told.Told.{Told}
 use Rattle.explain_notes.specs.declared.told.What.{What}

@@ -5,8 +5,8 @@ use Rattle.pm_journal.specs.declared.acts.Act.TheVariants.{ReadFile}
 use Rattle.pm_journal.specs.declared.acts.Entry.{Entry}
 use Rattle.pm_journal.specs.declared.acts.Reply.{Reply}
 use Rattle.pm_journal.specs.declared.acts.Reply.TheVariants.{Content}
-use Rattle.explain_lines.specs.Lines.{Lines}
-use Rattle.explain_lines.specs.Steps.{lines_of, recipe_at}
+use Rattle.explain_notes.specs.RcLines.{Lines}
+use Rattle.explain_notes.specs.Steps.{lines_of, recipe_at}
 use Rattle.explain_notes.specs.declared.reads.Read.{Read}
 
 -- a file was read

@@ -2,8 +2,8 @@
 use Rattle.std.specs.Prelude.{ℕ, List, [], ◌∷◌, drop, Option, Some, None}
 use Rattle.pm_conds.specs.declared.observer.Note.{Note}
 use Rattle.pm_conds.specs.declared.observer.Note.TheVariants.{CameTo, Judged}
-use Rattle.explain_lines.specs.Lines.{Lines}
-use Rattle.explain_lines.specs.declared.recipe.Line.{Line}
+use Rattle.explain_notes.specs.RcLines.{Lines}
+use Rattle.explain_notes.specs.declared.recipe.Line.{Line}
 use Rattle.explain_notes.specs.Reads.{recipe_in}
 use Rattle.explain_notes.specs.declared.reads.Read.{Read}
 use Rattle.explain_notes.specs.declared.told.Told.{Told}

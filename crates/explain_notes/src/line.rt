@@ -6,8 +6,8 @@ ghost use Rattle.pm_journal.specs.LogText.{quoted};
 
 use crate::came::push_came;
 use crate::pushing::{push_in_columns, push_number, push_quoted};
+use crate::recipe::Line;
 use crate::told::{Told, What};
-use explain_lines::Line;
 use pm_bytes::{Blob, Memory};
 use pm_meaning::question::Outcome;
 use pm_recipe::{Flags, read_flags};

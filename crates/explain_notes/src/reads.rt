@@ -1,9 +1,10 @@
 //! The rcfiles that a run read, by the entries of its journal.
 ghost use Rattle.std.specs.Prelude.{◌≡◌, ◌++◌, IfOk, OnOk, option_copied};
 ghost use Rattle.explain_notes.specs.Reads.{read_of, reads_from, listed, last_read, recipe_in, comes_first};
-ghost use Rattle.explain_lines.specs.Steps.{lines_of};
+ghost use Rattle.explain_notes.specs.Steps.{lines_of};
 
-use explain_lines::{RcLines, RecipeLines};
+use crate::rcfile::RcLines;
+use crate::recipe::RecipeLines;
 use pm_bytes::{Blob, Memory};
 use pm_journal::{Act, Entry, Reply};
 use std::alloc::Global;

@@ -5,7 +5,7 @@ ghost use Rattle.explain_notes.specs.Told.{colon_of, conditions_of, first};
 
 use crate::outcomes::copy_outcome;
 use crate::reads::{Read, recipe_in};
-use explain_lines::{Line, RecipeLines};
+use crate::recipe::{Line, RecipeLines};
 use pm_bytes::{Blob, Memory, Name};
 use pm_conds::Note;
 use pm_meaning::question::Outcome;

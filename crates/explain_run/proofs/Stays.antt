@@ -1,6 +1,6 @@
 -- Programs that no condition follows.
 use Rattle.std.proofs.Common.{◌≡◌, ℕ, Bool, true, false, not, ◌&&◌, ◌||◌, if◌then◌else◌, List, [], ◌∷◌, ◌++◌, Some, refl, ap, ◌∙◌}
-use Rattle.explain_answers.specs.Tools.{has_answer}
+use Rattle.pm_overlay.specs.Tools.{has_answer}
 use Rattle.pm_conds.specs.declared.observer.Note.{Note}
 use Rattle.pm_conds.specs.declared.observer.Note.TheVariants.{CameTo, Judged}
 use Rattle.pm_host.specs.declared.command.Command.{Command}

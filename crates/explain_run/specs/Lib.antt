@@ -6,3 +6,5 @@ pub mod Laws
 pub mod Programs
 pub mod Scripts
 pub mod Starting
+pub mod LineExamples
+pub mod Lines

@@ -1,6 +1,6 @@
 -- Which programs of a run may be started: those of conditions, commands in backquotes, and filters.
 use Rattle.std.specs.Prelude.{ℕ, ◌+◌, Bool, true, false, not, ◌&&◌, ◌||◌, nat_lt, List, [], ◌∷◌, ◌++◌, Option, Some, None, if◌then◌else◌}
-use Rattle.explain_answers.specs.Tools.{has_answer}
+use Rattle.pm_overlay.specs.Tools.{has_answer}
 use Rattle.pm_conds.specs.declared.observer.Note.{Note}
 use Rattle.pm_journal.specs.declared.acts.Act.{Act}
 use Rattle.pm_journal.specs.declared.acts.Act.TheVariants.{Run}

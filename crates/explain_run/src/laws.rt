@@ -1,6 +1,7 @@
 //! What holds of the definitions, as contracts of calls that do nothing.
 ghost use Rattle.explain_run.specs.Examples.{OfStarts, OfCaptures, OfScripts};
 ghost use Rattle.explain_run.specs.Laws.{DeliveriesStay, FindsConditions, LeavesActions};
+ghost use Rattle.explain_run.specs.LineExamples.{OfLines};
 
 /// A program whose output isn't wanted isn't started if no condition is judged between it and the next recipe. So none
 /// is that gets the mail as a delivery.
@@ -20,4 +21,9 @@ pub fn examples()
     ensures starts { OfStarts }
     ensures captures { OfCaptures }
     ensures scripts { OfScripts }
+{}
+
+/// The definitions print short runs as procmail-explain(1) says.
+pub fn line_examples()
+    ensures { OfLines }
 {}

@@ -6,10 +6,10 @@ ghost use Rattle.explain_run.specs.Starting.{can_repeat, goes_on, next_start};
 use crate::captures::may_be_captured;
 use crate::heard::is_of_condition;
 use crate::programs::program_at;
-use explain_answers::has_answer;
 use pm_bytes::{Blob, Memory};
 use pm_conds::Note;
 use pm_journal::{Act, Entry, Reply};
+use pm_overlay::has_answer;
 use std::alloc::Global;
 
 /// The place of the program that is started next, after the one that was started last, by the journal and the notes of

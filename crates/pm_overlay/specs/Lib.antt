@@ -3,3 +3,4 @@ pub mod Changes
 pub mod Steps
 pub mod Given
 pub mod Programs
+pub mod Tools

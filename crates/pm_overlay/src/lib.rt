@@ -2,6 +2,7 @@
 //! they have given answers.
 #![tactic(auto)]
 
+mod answers;
 mod base;
 mod changed;
 mod finding;
@@ -11,10 +12,13 @@ mod moment;
 mod overlay;
 mod part;
 mod programs;
+mod tool;
 mod tree;
 mod void;
 
+pub use answers::{has_answer, is_answered};
 pub use base::{Base, ReadOnly};
 pub use overlay::Overlay;
 pub use programs::{Given, line_of};
+pub use tool::{Tool, tool_of};
 pub use void::Void;

@@ -4,8 +4,9 @@
 ghost use Rattle.std.specs.Prelude.{◌≡◌, ◌≤◌, ◌<◌, length, IfSome};
 ghost use Rattle.pm_host.specs.World.{FedAtMost};
 
+use crate::again;
+use crate::again::MOST_TRIES;
 use crate::kept_file::OWNER_ONLY;
-use pm_again::MOST_TRIES;
 use pm_host::{Command, Fed, Finished};
 use std::alloc::Global;
 use std::fs::OpenOptions;
@@ -36,7 +37,7 @@ pub fn open_output<R: Files>(rt: &R, alloc: Global, pid: u32) -> io::Result<R::F
     how.mode(OWNER_ONLY);
     for count in 0..MOST_TRIES {
         let name = format!(in alloc; "/tmp/procmail.{pid}.{count}")?;
-        match pm_again::open(rt, &how, name.as_str()) {
+        match again::open(rt, &how, name.as_str()) {
             Ok(file) => {
                 fs::remove_file(rt, name.as_str())?;
                 return Ok(file);
@@ -111,7 +112,7 @@ impl<P: OpenProcess + Drop, F: FileExt + Drop> Running<P, F> {
         let Some(output) = &self.output else {
             return Some(0);
         };
-        let count = pm_again::read_at(output, room, self.taken)?;
+        let count = again::read_at(output, room, self.taken)?;
         self.taken = self.taken.saturating_add(count as u64);
         Some(count)
     }

@@ -7,6 +7,7 @@ ghost use Rattle.pm_real.specs.Kept.{just_opened, is_open, in_use, is_open_targe
 ghost use Rattle.pm_real.specs.Calls.{state_of, IsAfterRead, IsAfterCut, IsEmptied, IsMade, IsUsed};
 ghost use Rattle.pm_real.specs.Calls.{Adds, AddedTo, Stays, StaysOpen, IsThatFile};
 
+use crate::again;
 use crate::inode::Inode;
 use crate::limit::SizeLimit;
 use crate::mode::Mode;
@@ -138,7 +139,7 @@ impl<F: Read + Write + OpenFile + FileExt + Drop> KeptFile<F> {
     {
         self.close();
         let kept_name = String::from_str(alloc, name)?;
-        self.opened = Some(Opened::new(kept_name, mode, pm_again::open(rt, how, name)?));
+        self.opened = Some(Opened::new(kept_name, mode, again::open(rt, how, name)?));
         Ok(())
     }
 

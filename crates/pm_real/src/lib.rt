@@ -1,8 +1,9 @@
 //! The host on a machine: standard input, standard output and standard error, files, the clock, and child processes.
 //! What is here calls the operating system, which is trusted to do what the traits say of contents; the counts, and
-//! whether a child runs, are proved.
+//! whether a child runs, are proved. A call that a signal interrupts is made again.
 #![tactic(auto)]
 
+mod again;
 mod child;
 mod folders;
 mod host;
@@ -18,6 +19,7 @@ mod sink;
 mod source;
 mod state;
 
+pub use again::{read, write};
 pub use host::RealHost;
 pub use host_name::{can_be_host_name, read_regular};
 pub use laws::{examples, no_more_is_cut};

@@ -5,6 +5,7 @@ ghost use Rattle.std.specs.Io.KnownBytes.{Appends, Keeps};
 ghost use Rattle.pm_real.specs.Kept.{just_opened, is_use, is_target_of, made_target};
 ghost use Rattle.pm_real.specs.Calls.{IsAfterRead, IsAfterAppend, IsAfterCut};
 
+use crate::again;
 use crate::inode::Inode;
 use crate::limit::SizeLimit;
 use crate::mode::Mode;
@@ -114,7 +115,7 @@ impl<F: Read + Write + OpenFile + FileExt + Drop> Opened<F> {
         ensures within { IfSome result (λ count. count ≤ length room.new) }
         ensures state { IsAfterRead result self.old.state self.new.state }
     {
-        match pm_again::read_at(&self.file, room, at) {
+        match again::read_at(&self.file, room, at) {
             Some(count) => Some(count),
             None => self.read_on(room, at),
         }
@@ -127,7 +128,7 @@ impl<F: Read + Write + OpenFile + FileExt + Drop> Opened<F> {
         if at != self.state.passed() || self.is_regular() {
             return None;
         }
-        let count = pm_again::read(&mut self.file, room)?;
+        let count = again::read(&mut self.file, room)?;
         self.state.pass(count);
         Some(count)
     }
@@ -144,7 +145,7 @@ impl<F: Read + Write + OpenFile + FileExt + Drop> Opened<F> {
         if !self.may_grow(limit) {
             return None;
         }
-        let count = pm_again::write(&mut self.file, piece)?;
+        let count = again::write(&mut self.file, piece)?;
         self.state.append(count);
         Some(count)
     }

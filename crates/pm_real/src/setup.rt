@@ -1,5 +1,6 @@
 //! What a program settles before it opens anything else: the standard streams that were closed when it began, and the
 //! limit on the size of files.
+use crate::again;
 use crate::limit::SizeLimit;
 use std::fs::OpenOptions;
 use std::io;
@@ -65,8 +66,8 @@ fn stand_in<R: Files>(rt: &R, for_writing: bool) -> io::Result<R::File> {
     } else {
         how.read(true);
     }
-    match pm_again::open(rt, &how, "/dev/null") {
+    match again::open(rt, &how, "/dev/null") {
         Ok(file) => Ok(file),
-        Err(_) => pm_again::open(rt, OpenOptions::new().read(true), "/"),
+        Err(_) => again::open(rt, OpenOptions::new().read(true), "/"),
     }
 }

@@ -5,7 +5,7 @@ use pm_bytes::Blob;
 use pm_overlay::Given;
 use std::alloc::{AllocError, Global};
 use std::fs;
-use test_file::{Answer, Fault, Reading, Reason, Tests, read_tests};
+use test_text::{Answer, Fault, Reading, Reason, Tests, read_tests};
 
 /// A place in a file of tests, and the home directory: by these names of files are read.
 #[derive(Clone, Copy)]

@@ -2,16 +2,14 @@
 use crate::files::{Place, bytes_of, given_of};
 use crate::status::Stopped;
 use bstr::ByteSlice;
-use explain_host::Machine;
-use explain_programs::{OwnCode, lines_of};
+use explain_host::{Machine, OwnCode, lines_of};
 use explain_text::{Destination, destinations_of, last_program, value_in};
 use pm_bytes::{Blob, Memory, Pair};
 use pm_journal::{Entry, Journal};
 use pm_overlay::{Given, Overlay, Void};
 use pm_top::{MessageSource, procmail};
 use std::alloc::Global;
-use test_file::Test;
-use test_text::{Places, Report, is_same, mailbox_name, name_of, shown_name, told_text};
+use test_text::{Places, Report, Test, is_same, mailbox_name, name_of, shown_name, told_text};
 
 /// Where a run delivered the mail to, as the names that tests have for it, what names mean in it, and its exit status.
 #[derive(Drop)]

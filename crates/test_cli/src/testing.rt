@@ -6,8 +6,7 @@ use crate::status::{Status, Stopped};
 use explain_host::Machine;
 use explain_text::value_in;
 use std::io::{self, Write};
-use test_file::{Test, Tests};
-use test_text::{Report, junit_report, tap_report};
+use test_text::{Report, Test, Tests, junit_report, tap_report};
 
 /// Runs the tests and prints their report. Where a file can't be read nothing is printed but that.
 pub fn test_files(rt: &HostRuntime, options: &Options<'_>) -> Status {

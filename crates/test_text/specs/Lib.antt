@@ -4,3 +4,10 @@ pub mod Junit
 pub mod Names
 pub mod Tap
 pub mod Told
+pub mod Answers
+pub mod Cuts
+pub mod FileExamples
+pub mod Expected
+pub mod Readings
+pub mod Said
+pub mod Statements

@@ -1,4 +1,0 @@
-pub mod Examples
-pub mod Members
-pub mod Objects
-pub mod Recipes

@@ -1,8 +1,0 @@
-use Rattle.std.proofs.Common.{refl}
-use Rattle.bstr.proofs.Computing.{computing}
-use Rattle.explain_started.proofs.laws.examples.Goals as goal
-
--- each by computing
-pub returns : goal.returns
-unfolding computing
-returns c = record { filter = refl; second = refl; log = refl; quiet = refl }
