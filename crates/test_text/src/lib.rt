@@ -1,5 +1,5 @@
-//! Tests of rcfiles (procmail-test(1)): the files that say which mail is to go where, what came of it, and the report as
-//! TAP or as JUnit's XML.
+//! Tests of rcfiles (procmail-test(1)): the files that say which mail is to go where, what came of it, and the report
+//! as TAP or as JUnit's XML.
 #![tactic(auto)]
 
 mod answer;
