@@ -7,7 +7,7 @@ use std::marker::Model;
 use std::rc::Rc;
 
 /// Some of the bytes of a vector that may have other owners.
-#[derive(Debug, Drop)]
+#[derive(Drop)]
 pub struct Shared {
     bytes: Rc<Vec<u8>>,
     start: usize,

@@ -12,7 +12,7 @@ use pm_journal::FileEnd;
 const MOST: u32 = 100;
 
 /// How the filing in a folder ended.
-#[derive(Debug, Drop)]
+#[derive(Drop)]
 pub enum PlaceEnd {
     /// One new file stands under this name, and holds the piece.
     Done { name: Name },

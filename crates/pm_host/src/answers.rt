@@ -63,7 +63,7 @@ pub enum Moved {
 }
 
 /// The last parts of the names in a folder, in the order of their bytes.
-#[derive(Debug, Drop)]
+#[derive(Drop)]
 pub enum Listed {
     Names(Names),
     Failed,

@@ -4,7 +4,7 @@ use crate::{
 };
 use pm_bytes::{Blob, Names};
 
-#[derive(Debug, Drop)]
+#[derive(Drop)]
 pub enum Call {
     Look { name: Blob },
     Read { name: Blob, at: u64, room: u64 },
@@ -27,7 +27,7 @@ pub enum Call {
 
 /// `Read` and `Take` have the bytes that came, `Now` seconds since 1970 in UTC. `Failed` is that of a `read`, of
 /// `names` and of a `take`, and `Memory` that of `names`.
-#[derive(Debug, Drop)]
+#[derive(Drop)]
 pub enum Answer {
     Look(Looked),
     Read(Blob),
@@ -51,7 +51,7 @@ pub enum Answer {
 }
 
 /// A call that was made, with its answer.
-#[derive(Debug, Drop)]
+#[derive(Drop)]
 pub struct Logged {
     pub call: Call,
     pub answer: Answer,

@@ -19,7 +19,7 @@ use std::alloc::Global;
 
 /// A piece that is filed in a folder as a file of its own, with what makes its name; `prefix` is that of a plain
 /// folder.
-#[derive(Debug, Drop)]
+#[derive(Drop)]
 pub struct Filing {
     pub kind: FolderKind,
     pub folder: Name,

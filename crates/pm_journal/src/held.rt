@@ -8,7 +8,7 @@ use std::marker::Model;
 
 /// The names of held locks in the order of taking. Contracts see them in the order of giving back, the last taken
 /// first.
-#[derive(Debug, Drop)]
+#[derive(Drop)]
 pub struct HeldLocks {
     names: Vec<Name>,
 }

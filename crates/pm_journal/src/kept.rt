@@ -39,7 +39,7 @@ pub trait Entries: Drop {
 }
 
 /// All entries.
-#[derive(Debug, Drop)]
+#[derive(Drop)]
 pub struct AllEntries {
     noted: Vec<Entry>,
 }

@@ -11,7 +11,7 @@ pub enum FolderKind {
 
 /// What makes a name in a folder: the moment in seconds since 1970 in UTC, the process number, a count, and the name of
 /// the machine.
-#[derive(Debug, Drop)]
+#[derive(Drop)]
 pub struct Stamp {
     pub moment: i64,
     pub pid: u32,
@@ -20,7 +20,7 @@ pub struct Stamp {
 }
 
 /// A name at which a file is made, and the name to which it is moved once it is whole, where there is one.
-#[derive(Debug, Drop)]
+#[derive(Drop)]
 pub struct Candidate {
     pub at: Name,
     pub to: Option<Name>,

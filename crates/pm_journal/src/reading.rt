@@ -2,7 +2,7 @@
 use pm_bytes::Blob;
 
 /// How the reading of a file ended; `TooLong` has the count of bytes that came.
-#[derive(Debug, Drop)]
+#[derive(Drop)]
 pub enum ReadEnd {
     Content(Blob),
     Missing,

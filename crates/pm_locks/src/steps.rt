@@ -20,7 +20,7 @@ pub enum LockAnswer {
 }
 
 /// The taking of a lock by a rule, as a state machine.
-#[derive(Debug, Drop)]
+#[derive(Drop)]
 pub struct LockCore {
     rule: LockRule,
     at: LockState,

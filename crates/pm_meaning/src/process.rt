@@ -65,7 +65,7 @@ impl Process {
 }
 
 /// Where the mail was last delivered to, as LASTFOLDER has it, and how many bytes were (procmailrc(5), "Environment").
-#[derive(Debug, Drop)]
+#[derive(Drop)]
 pub struct Stored {
     pub folder: Blob,
     pub size: u64,
@@ -86,14 +86,14 @@ pub enum End {
 
 /// A destination of a recipe (procmailrc(5), "Recipe action line"): its name, and the kind of folder that its ending
 /// asks for. One without such an ending is a file, unless a folder stands there.
-#[derive(Debug, Drop)]
+#[derive(Drop)]
 pub struct Destination {
     pub kind: Option<FolderKind>,
     pub name: Name,
 }
 
 /// What came of the delivery to one destination, or to several in order up to one that didn't get the mail.
-#[derive(Debug, Drop)]
+#[derive(Drop)]
 pub enum Filed {
     /// Each destination has the mail.
     Stored,
@@ -111,7 +111,7 @@ pub enum Filed {
 }
 
 /// What came of an attempt to deliver to the destinations of an action, under a lock file where one was asked for.
-#[derive(Debug, Drop)]
+#[derive(Drop)]
 pub enum Attempt {
     /// No lock file was asked for.
     Unlocked(Filed),
@@ -130,7 +130,7 @@ pub enum Attempt {
 }
 
 /// A program line as it is read (procmailrc(5), "Recipe action line").
-#[derive(Debug, Drop)]
+#[derive(Drop)]
 pub enum ProgramLine {
     /// This program runs.
     Runs(Command),
@@ -163,7 +163,7 @@ pub enum Outcome {
 }
 
 /// What came of it under a lock file, where one was asked for.
-#[derive(Debug, Drop)]
+#[derive(Drop)]
 pub enum Trial {
     /// No lock file was asked for.
     Unlocked(Outcome),

@@ -14,7 +14,7 @@ use std::alloc::Global;
 use std::marker::Model;
 
 /// A mailbox, absent or with its bytes.
-#[derive(Debug, Drop)]
+#[derive(Drop)]
 pub struct Mailbox {
     present: bool,
     bytes: Vec<u8>,

@@ -13,7 +13,7 @@ use std::alloc::Global;
 use std::marker::Model;
 
 /// Writers that share a mailbox and a lock.
-#[derive(Debug, Drop)]
+#[derive(Drop)]
 pub struct Turns {
     mailbox: Mailbox,
     locked: bool,

@@ -8,7 +8,7 @@ use pm_locks::LockCore;
 /// A delivery of a piece, under a lock that is taken as these numbers say: after a lost try it sleeps so many
 /// seconds, a lock file that is older than `limit` seconds is removed by force (if that isn't 0) and `suspend`
 /// seconds of sleep follow, and after so many lost tries it gives up.
-#[derive(Debug, Drop)]
+#[derive(Drop)]
 pub struct Writer {
     pub piece: Blob,
     pub sleep: u64,
@@ -37,7 +37,7 @@ pub enum Stepped {
 }
 
 /// Where a writer stands.
-#[derive(Debug, Drop)]
+#[derive(Drop)]
 pub enum Place {
     /// It takes the lock.
     Locking(LockCore),
@@ -52,7 +52,7 @@ pub enum Place {
 }
 
 /// A piece, and where its writer stands.
-#[derive(Debug, Drop)]
+#[derive(Drop)]
 pub struct Delivery {
     pub piece: Blob,
     pub place: Place,

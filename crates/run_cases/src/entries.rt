@@ -4,7 +4,7 @@ use cases::Told;
 use pm_bytes::{Blob, Memory, Name};
 use pm_host::Command;
 use pm_journal::{Act, Entry, FolderKind, Reply};
-use std::alloc::{AllocError, Global};
+use std::alloc::Global;
 
 /// Tells an entry: its act and its reply.
 pub fn push_entry(
@@ -17,7 +17,7 @@ pub fn push_entry(
         told.begin("says")?;
         told.add(text.as_slice())?;
         if !matches!(entry.reply, Reply::Wrote) {
-            told.add(debug_of(alloc, &entry.reply)?.as_str().as_bytes())?;
+            push_plain(alloc, told, &entry.reply)?;
         }
         return Ok(());
     }
@@ -143,7 +143,7 @@ fn push_reply(alloc: Global, told: &mut Told, plan: &Plan, entry: &Entry) -> Res
             let text = format!(in alloc; "Broken({took})")?;
             told.add(text.as_str().as_bytes())
         }
-        reply => told.add(debug_of(alloc, reply)?.as_str().as_bytes()),
+        reply => push_plain(alloc, told, reply),
     }
 }
 
@@ -168,6 +168,34 @@ fn push_content(told: &mut Told, plan: &Plan, act: &Act, bytes: &Blob) -> Result
     told.add(bytes.as_slice())
 }
 
-fn debug_of(alloc: Global, reply: &Reply) -> Result<String, AllocError> {
-    format!(in alloc; "{reply:?}")
+// A reply that is a name, or a name and a number.
+fn push_plain(alloc: Global, told: &mut Told, reply: &Reply) -> Result<(), Memory> {
+    let text = match reply {
+        Reply::TooLong(came) => format!(in alloc; "TooLong({came})")?,
+        Reply::Found(found) => format!(in alloc; "Found({found:?})")?,
+        Reply::Torn(left) => format!(in alloc; "Torn({left})")?,
+        Reply::Short(taken) => format!(in alloc; "Short({taken})")?,
+        Reply::Now(seconds) => format!(in alloc; "Now({seconds})")?,
+        _ => return told.add(name_of(reply)),
+    };
+    told.add(text.as_str().as_bytes())
+}
+
+fn name_of(reply: &Reply) -> &'static [u8] {
+    match reply {
+        Reply::Missing => b"Missing",
+        Reply::NotPlain => b"NotPlain",
+        Reply::Faulted => b"Faulted",
+        Reply::Done => b"Done",
+        Reply::Undone => b"Undone",
+        Reply::IsFolder => b"IsFolder",
+        Reply::Raced => b"Raced",
+        Reply::NamesOut => b"NamesOut",
+        Reply::Busy => b"Busy",
+        Reply::Removed => b"Removed",
+        Reply::Gone => b"Gone",
+        Reply::NotStarted => b"NotStarted",
+        Reply::Wrote => b"Wrote",
+        _ => b"another reply",
+    }
 }
