@@ -7,7 +7,7 @@ use crate::fixed::fix_all;
 use crate::options::{Format, Options, VERSION};
 use crate::remarks::{Checked, Remark, code_of, is_code, severity_of};
 use crate::status::{Status, status_of};
-use check_find::{Line, findings_json, lines_text, sarif_log};
+use check_find::{Line, json_text, lines_text, sarif_text};
 use pm_bytes::Memory;
 use std::alloc::{AllocError, Global};
 use std::env;
@@ -231,8 +231,8 @@ fn print_lines(rt: &HostRuntime, options: &Options<'_>, lines: &[Line<'_>]) -> i
     if !options.quiet {
         match options.format {
             Format::Text => print_text(rt, lines)?,
-            Format::Json => print_json(rt, lines)?,
-            Format::Sarif => print_sarif(rt, lines)?,
+            Format::Json => rt.println(json_text(rt.alloc(), lines)?)?,
+            Format::Sarif => rt.println(sarif_text(rt.alloc(), VERSION, lines)?)?,
         }
     }
     Ok(status_of(lines))
@@ -241,24 +241,6 @@ fn print_lines(rt: &HostRuntime, options: &Options<'_>, lines: &[Line<'_>]) -> i
 fn print_text(rt: &HostRuntime, lines: &[Line<'_>]) -> io::Result<()> {
     let text = lines_text(rt.alloc(), lines)?;
     io::writer(rt).write_all(text.as_slice())
-}
-
-fn print_json(rt: &HostRuntime, lines: &[Line<'_>]) -> io::Result<()> {
-    rt.println(json_text(rt.alloc(), lines)?)
-}
-
-fn json_text(alloc: Global, lines: &[Line<'_>]) -> Result<String, AllocError> {
-    let findings = findings_json(alloc, lines)?;
-    findings.to_string(alloc)
-}
-
-fn print_sarif(rt: &HostRuntime, lines: &[Line<'_>]) -> io::Result<()> {
-    rt.println(sarif_text(rt.alloc(), lines)?)
-}
-
-fn sarif_text(alloc: Global, lines: &[Line<'_>]) -> Result<String, AllocError> {
-    let log = sarif_log(alloc, VERSION, lines)?;
-    log.to_string(alloc)
 }
 
 /// The lines of rcfiles.

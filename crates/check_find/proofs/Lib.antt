@@ -3,3 +3,4 @@ pub mod Telling
 pub mod Reading
 pub mod Quiet
 pub mod Uris
+pub mod NoFloats

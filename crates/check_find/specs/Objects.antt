@@ -61,7 +61,7 @@ result_data line = object (
     text_member (codes "ruleId") line.code.now no_members))))
 
 -- a log of one run of this version with these results
-abbrev pub log_data : List ℕ → List Data → Data
+unfoldable pub log_data : List ℕ → List Data → Data
 log_data version results = object (
     text_member (codes "$schema") (codes "https://json.schemastore.org/sarif-2.1.0.json") (
     member (codes "runs") (array (item (object (

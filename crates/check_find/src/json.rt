@@ -1,6 +1,7 @@
 //! Findings as one JSON object.
-ghost use Rattle.std.specs.Prelude.{◌≡◌, IfOk, map, count_by};
+ghost use Rattle.std.specs.Prelude.{◌≡◌, IfOk, map, count_by, string_bytes};
 ghost use Rattle.serde_json.specs.View.{view};
+ghost use Rattle.serde_json.specs.Written.{compact_text};
 ghost use Rattle.check_find.specs.Objects.{findings_data, finding_data, is_error_word, is_warning_word};
 
 use crate::codes::Severity;
@@ -8,9 +9,16 @@ use crate::line::{Line, severity_word};
 use serde_json::{Value, json};
 use std::alloc::{AllocError, Global};
 
-/// The numbers `errors` and `warnings`, and `findings`, each with `code`, `column`, `file`, `line`, `message` and
-/// `severity`.
-pub fn findings_json(alloc: Global, lines: &[Line<'_>]) -> Result<Value, AllocError>
+/// One object on one line (RFC 8259), without a newline: the numbers `errors` and `warnings`, and `findings`, each with
+/// `code`, `column`, `file`, `line`, `message` and `severity`.
+#[tactic(auto, using(crate::proofs::NoFloats::of_findings))]
+pub fn json_text(alloc: Global, lines: &[Line<'_>]) -> Result<String, AllocError>
+    ensures { IfOk result (λ text. string_bytes text ≡ compact_text (findings_data lines.now)) }
+{
+    findings_json(alloc, lines)?.to_string(alloc)
+}
+
+fn findings_json(alloc: Global, lines: &[Line<'_>]) -> Result<Value, AllocError>
     ensures { IfOk result (λ object. view object ≡ findings_data lines.now) }
 {
     let errors = count_errors(lines) as u64;

@@ -24,10 +24,10 @@ mod words;
 
 pub use codes::{Code, Fault, Hint, Mistake, Severity, name_of, severity_of};
 pub use finding::Finding;
-pub use json::findings_json;
+pub use json::json_text;
 pub use laws::{examples, uri_examples};
 pub use line::{Line, lines_text};
 pub use messages::{disk_message, message};
 pub use rules::{DiskMistake, disk_name, disk_severity, is_disk_code};
-pub use sarif::sarif_log;
+pub use sarif::sarif_text;
 pub use searching::find;

@@ -1,6 +1,7 @@
 //! Findings as a log of SARIF 2.1.0, which code hosts and editors read.
 ghost use Rattle.std.specs.Prelude.{◌≡◌, IfOk, map, string_bytes};
 ghost use Rattle.serde_json.specs.View.{view};
+ghost use Rattle.serde_json.specs.Written.{compact_text};
 ghost use Rattle.check_find.specs.Objects.{location_data, log_data, result_data};
 ghost use Rattle.check_find.specs.Uris.{path_of};
 
@@ -19,8 +20,17 @@ const ESCAPED: AsciiSet = ascii_set!(
         .remove(b'~')
 );
 
-/// One run of procmail-check, with each finding as a result. `version` is that of the program.
-pub fn sarif_log(alloc: Global, version: &str, lines: &[Line<'_>]) -> Result<Value, AllocError>
+/// One run of procmail-check, with each finding as a result, on one line without a newline. `version` is that of the
+/// program.
+#[tactic(auto, using(crate::proofs::NoFloats::of_log))]
+pub fn sarif_text(alloc: Global, version: &str, lines: &[Line<'_>]) -> Result<String, AllocError>
+    ensures { IfOk result (λ text. string_bytes text ≡ compact_text (log_data version.now (map result_data lines.now))) }
+{
+    sarif_log(alloc, version, lines)?.to_string(alloc)
+}
+
+#[tactic(auto, unfolding(crate::specs::Objects::log_data))]
+fn sarif_log(alloc: Global, version: &str, lines: &[Line<'_>]) -> Result<Value, AllocError>
     ensures { IfOk result (λ log. view log ≡ log_data version.now (map result_data lines.now)) }
 {
     let results = Value::Array(results(alloc, lines)?);
