@@ -1,7 +1,7 @@
 //! The log files are read and the sums of all of them printed.
 use crate::Status;
 use crate::options::{Format, Options};
-use crate::written::{json, total, write_text};
+use crate::written::{json_line, total, write_text};
 use log_summary::{Summary, add_log};
 use pm_bytes::Memory;
 use std::alloc::Global;
@@ -50,6 +50,6 @@ fn print(rt: &HostRuntime, sums: &Summary, format: Format) -> io::Result<()> {
             write_text(&mut out, sums, rt.stdout().is_terminal())?;
             out.flush()
         }
-        Format::Json => rt.println(json(alloc, sums)?.to_string(alloc)?),
+        Format::Json => io::writer(rt).write_all(json_line(alloc, sums)?.as_slice()),
     }
 }

@@ -1,8 +1,8 @@
 //! The sums as text and as JSON.
 use bstr::ByteSlice;
+use json::Writer;
 use log_summary::{Summary, Table, Tally};
-use serde_json::{Value, json};
-use std::alloc::Global;
+use std::alloc::{AllocError, Global};
 use std::io::{self, Write};
 
 /// The widest bar, in characters.
@@ -52,26 +52,55 @@ fn bar_length(count: u64, most: u64) -> u64 {
     count.saturating_mul(WIDEST).div_ceil(most.max(1))
 }
 
-/// The sums as one JSON object. Names that aren't UTF-8 have U+FFFD for each byte that is none.
-pub fn json(alloc: Global, sums: &Summary) -> io::Result<Value> {
+/// The sums as one JSON object on one line. Names that aren't UTF-8 have U+FFFD for each byte that is none.
+pub fn json_line(alloc: Global, sums: &Summary) -> Result<Vec<u8>, AllocError> {
     let all = total(&sums.folders);
-    let mut folders = Vec::new(alloc);
-    for (name, tally) in sums.folders.rows() {
-        let name = name.as_slice().to_str_lossy(alloc)?;
-        folders.push(
-            json!(in alloc; {"folder": name.as_str(), "mails": tally.count, "bytes": tally.bytes})?,
-        )?;
+    let mut writer = Writer::new(Vec::new(alloc));
+    writer.begin_object()?;
+    put_number(&mut writer, "bytes", all.bytes)?;
+    writer.key("folders")?;
+    put_folders(alloc, &mut writer, &sums.folders)?;
+    put_number(&mut writer, "mails", all.count)?;
+    writer.key("messages")?;
+    put_messages(alloc, &mut writer, &sums.messages)?;
+    writer.end_object()?;
+    let mut line = writer.into_inner();
+    line.push(b'\n')?;
+    Ok(line)
+}
+
+fn put_folders(alloc: Global, writer: &mut Writer, folders: &Table) -> Result<(), AllocError> {
+    writer.begin_array()?;
+    for (name, tally) in folders.rows() {
+        writer.begin_object()?;
+        put_number(writer, "bytes", tally.bytes)?;
+        put_text(alloc, writer, "folder", name.as_slice())?;
+        put_number(writer, "mails", tally.count)?;
+        writer.end_object()?;
     }
-    let mut messages = Vec::new(alloc);
-    for (text, tally) in sums.messages.rows() {
-        let text = text.as_slice().to_str_lossy(alloc)?;
-        messages.push(json!(in alloc; {"message": text.as_str(), "count": tally.count})?)?;
+    writer.end_array()
+}
+
+fn put_messages(alloc: Global, writer: &mut Writer, messages: &Table) -> Result<(), AllocError> {
+    writer.begin_array()?;
+    for (text, tally) in messages.rows() {
+        writer.begin_object()?;
+        put_number(writer, "count", tally.count)?;
+        put_text(alloc, writer, "message", text.as_slice())?;
+        writer.end_object()?;
     }
-    let folders = Value::Array(folders);
-    let messages = Value::Array(messages);
-    Ok(
-        json!(in alloc; {"mails": all.count, "bytes": all.bytes, "folders": folders, "messages": messages})?,
-    )
+    writer.end_array()
+}
+
+fn put_number(writer: &mut Writer, name: &str, number: u64) -> Result<(), AllocError> {
+    writer.key(name)?;
+    writer.u64(number)
+}
+
+fn put_text(alloc: Global, writer: &mut Writer, name: &str, text: &[u8]) -> Result<(), AllocError> {
+    let text = text.to_str_lossy(alloc)?;
+    writer.key(name)?;
+    writer.string(text.as_str())
 }
 
 /// The mails and bytes of all folders together.
