@@ -27,8 +27,6 @@ done
 # What is known to grow faster, with the most that it may: `bound DIMENSION`.
 bound() {
     case $1 in
-        # The variables behind one that goes move up.
-        unset) echo 1.7 ;;
         # A variable of the environment is asked for by its number, and the library counts to it.
         environment) echo 1.7 ;;
         # A lock is looked for among all that are held.

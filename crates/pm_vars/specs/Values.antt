@@ -1,6 +1,6 @@
 -- The variables as a list, whatever the map does with its memory.
-use Rattle.std.specs.Prelude.{ℕ, List, Option, Some, None, codes, map}
-use Rattle.pm_vars.specs.Held.{variable_of_held}
+use Rattle.std.specs.Prelude.{ℕ, List, Option, Some, None, codes}
+use Rattle.pm_vars.specs.Held.{live}
 use Rattle.pm_vars.specs.Variables.{Variable, with_value}
 use Rattle.pm_vars.specs.declared.values.Values.TheInside.{Inside}
 
@@ -11,4 +11,4 @@ with_last (Some value) variables = with_value (codes "LASTFOLDER") value variabl
 
 -- what contracts see of them
 abbrev pub values_of : Inside → List Variable
-values_of inside = with_last inside.last_folder (map variable_of_held inside.held.entries)
+values_of inside = with_last inside.last_folder (live inside.held.entries)

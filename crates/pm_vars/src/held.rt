@@ -5,7 +5,8 @@ use std::alloc::{AllocError, Global};
 #[derive(Drop)]
 pub(crate) struct Held {
     pub alloc: Global,
-    pub value: Blob,
+    /// None where the variable is gone.
+    pub value: Option<Blob>,
 }
 
 impl Clone for Held {
@@ -14,12 +15,16 @@ impl Clone for Held {
     ghost is_clone = { λ held clone. clone.value ≡ held.value };
 
     fn clone(&self) -> Result<Held, AllocError> {
-        match self.value.copy(self.alloc) {
-            Ok(value) => Ok(Held {
-                alloc: self.alloc,
-                value,
-            }),
-            Err(_) => Err(AllocError),
-        }
+        let value = match &self.value {
+            None => None,
+            Some(value) => match value.copy(self.alloc) {
+                Ok(value) => Some(value),
+                Err(_) => return Err(AllocError),
+            },
+        };
+        Ok(Held {
+            alloc: self.alloc,
+            value,
+        })
     }
 }

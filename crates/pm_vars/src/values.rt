@@ -1,7 +1,11 @@
 //! The variables themselves, in the order in which their names came. The map holds them, except for a value that
 //! LASTFOLDER got after a delivery, when no memory may be asked for: that is held apart until another one is set.
-ghost use Rattle.std.specs.Prelude.{◌≡◌, [], List, None, IfOk, OnOk, OnErr, codes, map, filter, option_copied};
-ghost use Rattle.pm_vars.specs.Held.{variable_of_held};
+//! An entry stays in the map when its variable is unset, as a gone one, so that the entries behind it needn't move.
+//! Once half of them may be gone all of those leave.
+ghost use Rattle.std.specs.Prelude.{◌≡◌, [], List, None, IfOk, OnOk, OnErr, IfSome, IsSome, is_some, bytes_eq, codes};
+ghost use Rattle.std.specs.Prelude.{map, filter, option_copied};
+ghost use Rattle.std.specs.Map.{lookup};
+ghost use Rattle.pm_vars.specs.Held.{live};
 ghost use Rattle.pm_vars.specs.Values.{with_last};
 ghost use Rattle.pm_vars.specs.Variables.{Variable, value_of, with_value, without, is_exported, variable_of};
 
@@ -18,6 +22,8 @@ const LAST_FOLDER: &[u8] = b"LASTFOLDER";
 pub(crate) struct Values {
     alloc: Global,
     held: IndexMap<Vec<u8>, Held>,
+    // At least as many as the gone entries: an unset of a name that has no value counts too.
+    gone: usize,
     last_folder: Option<Blob>,
 }
 
@@ -39,6 +45,7 @@ impl Values {
         Values {
             alloc,
             held: IndexMap::new(alloc),
+            gone: 0,
             last_folder: None,
         }
     }
@@ -78,6 +85,11 @@ impl Values {
     {
         forget(&mut self.last_folder, name);
         remove(&mut self.held, name);
+        self.gone = self.gone.saturating_add(1);
+        if self.gone > self.held.len() / 2 {
+            drop_gone(&mut self.held);
+            self.gone = 0;
+        }
     }
 
     pub fn copy(&self) -> Result<Values, Memory>
@@ -88,6 +100,7 @@ impl Values {
         Ok(Values {
             alloc: self.alloc,
             held,
+            gone: self.gone,
             last_folder,
         })
     }
@@ -107,12 +120,10 @@ impl Values {
 }
 
 fn find<'a>(held: &'a IndexMap<Vec<u8>, Held>, name: &[u8]) -> Option<&'a Blob>
-    ensures { option_copied result ≡ value_of name.now (map variable_of_held held.now.entries) }
+    ensures { option_copied result ≡ value_of name.now (live held.now.entries) }
 {
-    match held.get(name) {
-        None => None,
-        Some(found) => Some(&found.value),
-    }
+    let index = held.get_index_of(name)?;
+    held[index].value.as_ref()
 }
 
 fn put(
@@ -121,13 +132,28 @@ fn put(
     name: &[u8],
     value: Blob,
 ) -> Result<(), Memory>
-    ensures ok { OnOk result (map variable_of_held held.new.entries
-        ≡ with_value name.now value (map variable_of_held held.old.entries)) }
-    ensures err { OnErr result (held.new.entries ≡ held.old.entries) }
+    ensures ok { OnOk result (live held.new.entries
+        ≡ with_value name.now value (live held.old.entries)) }
+    ensures err { OnErr result (live held.new.entries ≡ live held.old.entries) }
 {
     let owned = owned_name(alloc, name)?;
+    clear_place(held, name);
+    let value = Some(value);
     held.insert(owned, Held { alloc, value })?;
     Ok(())
+}
+
+// A gone entry leaves, since the name comes last when it is set again.
+fn clear_place(held: &mut IndexMap<Vec<u8>, Held>, name: &[u8])
+    ensures same { live held.new.entries ≡ live held.old.entries }
+    ensures clear { IfSome (lookup (λ k. bytes_eq name.now k.items) held.new.entries) (λ found. IsSome found.value) }
+{
+    let Some(found) = held.get(name) else {
+        return;
+    };
+    if found.value.is_none() {
+        let _ = held.shift_remove(name);
+    }
 }
 
 fn owned_name(alloc: Global, name: &[u8]) -> Result<Vec<u8>, Memory>
@@ -138,9 +164,21 @@ fn owned_name(alloc: Global, name: &[u8]) -> Result<Vec<u8>, Memory>
 }
 
 fn remove(held: &mut IndexMap<Vec<u8>, Held>, name: &[u8])
-    ensures { map variable_of_held held.new.entries ≡ without name.now (map variable_of_held held.old.entries) }
+    ensures { live held.new.entries ≡ without name.now (live held.old.entries) }
 {
-    let _ = held.shift_remove(name);
+    if let Some(found) = held.get_mut(name) {
+        found.value = None;
+    }
+}
+
+fn drop_gone(held: &mut IndexMap<Vec<u8>, Held>)
+    ensures { live held.new.entries ≡ live held.old.entries }
+{
+    held.retain(
+        |_name: &Vec<u8>, found: &mut Held| -> bool
+            ensures { (result ≡ is_some found.old.value) × (found.new ≡ found.old) }
+        { found.value.is_some() },
+    );
 }
 
 // The value that is held apart goes, if it is that of this name.
@@ -160,8 +198,8 @@ fn settle(
     held: &mut IndexMap<Vec<u8>, Held>,
     last_folder: &mut Option<Blob>,
 ) -> Result<(), Memory>
-    ensures same { with_last last_folder.new (map variable_of_held held.new.entries)
-        ≡ with_last last_folder.old (map variable_of_held held.old.entries) }
+    ensures same { with_last last_folder.new (live held.new.entries)
+        ≡ with_last last_folder.old (live held.old.entries) }
     ensures settled { OnOk result (last_folder.new ≡ None) }
 {
     if let Some(value) = last_folder {
@@ -173,7 +211,7 @@ fn settle(
 }
 
 fn copy_held(held: &IndexMap<Vec<u8>, Held>) -> Result<IndexMap<Vec<u8>, Held>, Memory>
-    ensures { IfOk result (λ copy. map variable_of_held copy.entries ≡ map variable_of_held held.now.entries) }
+    ensures { IfOk result (λ copy. live copy.entries ≡ live held.now.entries) }
 {
     let copy = held.clone()?;
     Ok(copy)
@@ -190,11 +228,13 @@ fn copy_last(alloc: Global, last_folder: &Option<Blob>) -> Result<Option<Blob>, 
 
 fn export_held(alloc: Global, held: &IndexMap<Vec<u8>, Held>) -> Result<Vec<Pair>, Memory>
     ensures { IfOk result (λ pairs. map variable_of pairs.items
-        ≡ filter is_exported (map variable_of_held held.now.entries)) }
+        ≡ filter is_exported (live held.now.entries)) }
 {
     let mut pairs = Vec::new(alloc);
     for (name, found) in held {
-        push_exported(alloc, &mut pairs, name, found.value.as_slice())?;
+        if let Some(value) = &found.value {
+            push_exported(alloc, &mut pairs, name, value.as_slice())?;
+        }
     }
     Ok(pairs)
 }

@@ -1,6 +1,8 @@
-use Rattle.std.proofs.Common.{map}
-use Rattle.pm_vars.specs.Held.{variable_of_held}
+use Rattle.pm_vars.specs.Held.{live}
 use Rattle.pm_vars.proofs.values.Values.unset.Goals as goal
 
-pub returns : goal.returns
-returns c = rw (← c.self.view_is, c.remove.ensures) (c.forget.ensures (map variable_of_held c.self.inside.held.entries))
+pub returns-then-self-len : goal.returns-then-self-len
+returns-then-self-len c = rw (← c.self.view_is, c.drop_gone.ensures, c.remove.ensures) (c.forget.ensures (live c.self.inside.held.entries))
+
+pub returns-else-self-len : goal.returns-else-self-len
+returns-else-self-len c = rw (← c.self.view_is, c.remove.ensures) (c.forget.ensures (live c.self.inside.held.entries))
