@@ -24,7 +24,8 @@ const ESCAPED: AsciiSet = ascii_set!(
 /// program.
 #[tactic(auto, using(crate::proofs::NoFloats::of_log))]
 pub fn sarif_text(alloc: Global, version: &str, lines: &[Line<'_>]) -> Result<String, AllocError>
-    ensures { IfOk result (λ text. string_bytes text ≡ compact_text (log_data version.now (map result_data lines.now))) }
+    ensures { IfOk result (λ text. string_bytes text
+        ≡ compact_text (log_data version.now (map result_data lines.now))) }
 {
     sarif_log(alloc, version, lines)?.to_string(alloc)
 }
