@@ -10,7 +10,7 @@ ghost use Rattle.pm_folders.specs.Filing.{place_reply};
 ghost use Rattle.pm_pipe.specs.Replied.{AreReply};
 
 use crate::output::Output;
-use pm_append::{AppendEnd, ReadEnd, WriteEnd, append_by, append_whole, read_file, write_text};
+use pm_append::{AppendEnd, ReadEnd, WriteEnd, append_by, read_file, write_text};
 use pm_bytes::{Blob, Memory, Name};
 use pm_folders::{PlaceEnd, place};
 use pm_host::{Command, Host, Looked, Removed, Sink};
@@ -119,7 +119,7 @@ impl<'a, H: Host, O: Output, E: Sink, K: Entries> Asks for Objects<'a, H, O, E, 
 impl<'a, H: Host, O: Output, E: Sink, K: Entries> Effects for Objects<'a, H, O, E, K> {
     fn append(&mut self, journal: &mut Journal<K>, name: Name, piece: Blob) -> AppendEnd {
         let before = self.counts();
-        let end = append_whole(&mut *self.host, &name, piece.as_slice());
+        let end = append_by(&mut *self.host, &name, piece.as_slice(), true);
         let after = self.counts();
         journal.note(Entry {
             act: Act::Append { name, piece },

@@ -1,5 +1,5 @@
 -- Deliveries to files and folders in plans.
-use Rattle.std.proofs.Common.{◌≡◌, Bool, true, false, Option, Some, None, List, ℕ, [], ◌∷◌, length, map, refl, sym, ap, ◌∙◌, subst}
+use Rattle.std.proofs.Common.{◌≡◌, ◌≤◌, ◌+◌, Bool, true, false, Option, Some, None, List, ℕ, [], ◌∷◌, length, map, refl, sym, ap, ◌∙◌, subst}
 use Rattle.std.specs.Prelude.{if◌then◌else◌}
 use Rattle.pm_bytes.specs.Name.{is_usable}
 use Rattle.pm_bytes.specs.Path.{full_name}
@@ -120,6 +120,12 @@ behind flags ds filing = if is_stored filing.filed then file_all flags ds filing
 as_one : (flags : Flags) (d : Destination) (copy : Copy) (p : Mind) (filing : Filing) (y z : JournalState) (b c : View) → copy ≡ copy_for flags p d → Executes (file_copy flags copy p) filing y z b c
     → Executes (file_one flags d p) filing y z b c
 as_one flags d copy p filing y z b c is h = subst (λ plan. Executes plan filing y z b c) (copy_files flags d copy p is) h
+
+-- what came of a copy, whatever it goes to: the same locks are held, and the journal has lost at most three places
+pub record Copied {L : Type 0} (flags : Flags) (copy : Copy) (filed : Filed) (p q : Mind) (held kept : L) (x y : JournalState) (a b : View) : Type 0 where
+  pub comes : Executes (file_copy flags copy p) (filing_of filed q) x y a b
+  pub locks : kept ≡ held
+  pub room : x.room ≤ y.room + 3
 
 -- a copy was taken, and the next comes
 pub copy_on : (whole : Plan Filing) (flags : Flags) (items copies : List Copy) (copy : Copy) (filed : Filed) (p q : Mind) (x y z : JournalState) (a b c : View) → RestOf whole flags items p x y a b → items ≡ copy ∷ copies

@@ -8,7 +8,7 @@ ghost use Rattle.pm_journal.specs.Held.{holds_name};
 ghost use Rattle.pm_meaning.specs.Delivering;
 ghost use Rattle.pm_meaning.specs.Locks.{is_fault};
 ghost use Rattle.pm_meaning.specs.Minds.{mind_of};
-ghost use Rattle.pm_perform.specs.Copies.{attempted_of, IsFreeLock};
+ghost use Rattle.pm_perform.specs.Copies.{attempted_of};
 ghost use Rattle.pm_perform.specs.Filing.{HasNone};
 
 use crate::filing::{copies_for, file_each};
@@ -20,28 +20,9 @@ use pm_meaning::{Attempt, Cause, Destination, Run};
 use pm_recipe::Flags;
 use std::alloc::Global;
 
-/// Delivers to each destination in order, up to one that doesn't get the mail, under the lock of this name. After want
-/// of memory nothing was noted, unless a folder was met.
-pub fn attempt<D: Effects>(
-    alloc: Global,
-    run: &mut Run<D>,
-    lock: Option<Name>,
-    flags: Flags,
-    destinations: &[Destination],
-) -> Result<Attempt, Memory>
-    requires free { IsFreeLock lock run.old.process.locks.names }
-    ensures carries { Carries (Delivering.attempt lock flags destinations.now (mind_of run.old.process))
-        (λ attempt. attempted_of attempt (mind_of run.new.process)) result
-        run.old.journal run.new.journal (D.told run.old.outside) (D.told run.new.outside) }
-    ensures untouched { OnErr result (HasNone run.old.journal run.new.journal) }
-{
-    match lock {
-        None => file_all(alloc, run, flags, destinations),
-        Some(name) => file_locked(alloc, run, name, flags, destinations),
-    }
-}
-
-fn file_all<D: Effects>(
+/// Delivers to each destination in order, up to one that doesn't get the mail. After want of memory nothing was noted,
+/// unless a folder was met.
+pub fn file_all<D: Effects>(
     alloc: Global,
     run: &mut Run<D>,
     flags: Flags,
@@ -59,8 +40,8 @@ fn file_all<D: Effects>(
     Ok(Attempt::Unlocked(filed))
 }
 
-// The lock's entry and that of its removal have room too.
-fn file_locked<D: Effects>(
+/// The same under the lock of this name. The lock's entry and that of its removal have room too.
+pub fn file_locked<D: Effects>(
     alloc: Global,
     run: &mut Run<D>,
     name: Name,

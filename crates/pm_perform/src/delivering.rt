@@ -1,23 +1,19 @@
 //! Recipes that deliver to mailboxes (procmailrc(5), "Recipe action line"), and default mailboxes.
-ghost use Rattle.std.specs.Prelude.{◌≡◌, [], length, OnErr};
+ghost use Rattle.std.specs.Prelude.{◌≡◌, OnErr};
 ghost use Rattle.pm_journal.specs.Executed.{Carries};
-ghost use Rattle.pm_subst.specs.Commands.{commands_in};
-ghost use Rattle.pm_subst.specs.declared.kinds.Mode.TheVariants.{One, Many};
 ghost use Rattle.pm_recipe.specs.View.{act_of, top_of};
 ghost use Rattle.pm_meaning.specs.Acting.{act_on};
-ghost use Rattle.pm_meaning.specs.Locks.{text_or};
 ghost use Rattle.pm_meaning.specs.Delivering.{attempt_acted, settled};
 ghost use Rattle.pm_meaning.specs.Delivering;
 ghost use Rattle.pm_meaning.specs.Turns.{refuse_name};
-ghost use Rattle.pm_meaning.specs.Delivering.{deliver_with, deliver};
+ghost use Rattle.pm_meaning.specs.Delivering.{deliver};
 ghost use Rattle.pm_meaning.specs.Minds.{mind_of};
 ghost use Rattle.pm_perform.specs.Copies.{IsFreeLock};
-ghost use Rattle.pm_meaning.specs.Ready.{ready_of};
 ghost use Rattle.pm_meaning.specs.Apart.{acted_with};
 ghost use Rattle.pm_meaning.specs.Turning.{turn_of};
 ghost use Rattle.pm_perform.specs.Undelivered.{Undelivered};
 
-use crate::attempting::attempt;
+use crate::attempting::{file_all, file_locked};
 use crate::filing::is_stored;
 use crate::locks::lock_text;
 use crate::pipes::{capture, forward, pipe, write_out};
@@ -141,7 +137,7 @@ fn no_flags() -> Flags
     }
 }
 
-// Runs the commands of the lock file's text and of the action's, and then delivers.
+// Runs the commands of the lock file's text and of the action's, and then delivers by their outputs.
 fn deliver_mail<D: Effects>(
     alloc: Global,
     run: &mut Run<D>,
@@ -161,25 +157,7 @@ fn deliver_mail<D: Effects>(
         lock_commands.as_slice(),
         text_commands.as_slice(),
     )?;
-    deliver_ready(alloc, run, order, &ready)
-}
-
-// Delivers by the outputs of the commands.
-fn deliver_ready<D: Effects>(
-    alloc: Global,
-    run: &mut Run<D>,
-    order: &Order<'_>,
-    ready: &Ready,
-) -> Result<Acted, Memory>
-    requires locks { length ready.now.lock_outputs.items ≡ length (commands_in One (text_or [] order.now.lock.now)) }
-    requires each { length ready.now.outputs.items ≡ length (commands_in Many order.now.text.now) }
-    ensures carries { let o = order.now in
-        Carries (deliver_with o.flags o.lock.now o.text.now (ready_of ready.now (mind_of run.old.process)))
-        (λ acted. acted_with acted (mind_of run.new.process)) result
-        run.old.journal run.new.journal (D.told run.old.outside) (D.told run.new.outside) }
-    ensures sure { OnErr result (Undelivered order.now.flags run.old.journal run.new.journal) }
-{
-    match target_of(alloc, order, ready, &run.process) {
+    match target_of(alloc, order, &ready, &run.process) {
         Ok(target) => file_and_say(
             alloc,
             run,
@@ -206,7 +184,10 @@ fn file_and_say<D: Effects>(
         run.old.journal run.new.journal (D.told run.old.outside) (D.told run.new.outside) }
     ensures sure { OnErr result (Undelivered order.now.flags run.old.journal run.new.journal) }
 {
-    let attempt = attempt(alloc, run, lock, order.flags, destinations)?;
+    let attempt = match lock {
+        None => file_all(alloc, run, order.flags, destinations)?,
+        Some(name) => file_locked(alloc, run, name, order.flags, destinations)?,
+    };
     settle(&attempt, &mut run.process);
     let acted = acted_by(order.flags, &attempt);
     let mut lines = attempt_lines(alloc, order.text, &attempt)?;

@@ -10,7 +10,7 @@ ghost use Rattle.pm_meaning.specs.Delivering.{file_all, to_file, in_plain};
 ghost use Rattle.pm_meaning.specs.Minds.{mind_of};
 ghost use Rattle.pm_meaning.specs.declared.process.Destination.{Destination as Asked};
 ghost use Rattle.pm_perform.specs.Copies.{copy_for, file_copy_for, folder_copy_for, filing_of, with_kept};
-ghost use Rattle.pm_perform.specs.Copies.{IsShown, AllShown};
+ghost use Rattle.pm_perform.specs.Copies.{AllShown};
 ghost use Rattle.pm_perform.specs.Copies;
 ghost use Rattle.pm_perform.specs.Filing.{is_folder_there, filed_by, mind_after, HasMet};
 
@@ -220,33 +220,15 @@ pub fn file_each<D: Effects>(
     ensures met { OnErr result (HasMet run.old.journal run.new.journal) }
 {
     while let Some(copy) = copies.pop_front() {
-        let filed = file_copy(alloc, run, flags, copy)?;
+        let filed = match copy {
+            Copy::ToFile(copy) => append_copy(alloc, run, flags, copy)?,
+            Copy::ToFolder(copy) => file_in_folder(alloc, run, copy)?,
+        };
         if !is_stored(&filed) {
             return Ok(filed);
         }
     }
     Ok(Filed::Stored)
-}
-
-fn file_copy<D: Effects>(
-    alloc: Global,
-    run: &mut Run<D>,
-    flags: Flags,
-    copy: Copy,
-) -> Result<Filed, Memory>
-    requires room { length run.old.process.locks.names + 3 ≤ run.old.journal.room }
-    requires shown { IsShown copy }
-    ensures carries { Carries (Copies.file_copy flags copy (mind_of run.old.process))
-        (λ filed. filing_of filed (mind_of run.new.process)) result
-        run.old.journal run.new.journal (D.told run.old.outside) (D.told run.new.outside) }
-    ensures locks { run.new.process.locks ≡ run.old.process.locks }
-    ensures room { IfOk result (λ _. run.old.journal.room ≤ run.new.journal.room + 3) }
-    ensures met { OnErr result (HasMet run.old.journal run.new.journal) }
-{
-    match copy {
-        Copy::ToFile(copy) => append_copy(alloc, run, flags, copy),
-        Copy::ToFolder(copy) => file_in_folder(alloc, run, copy),
-    }
 }
 
 // A file gets the piece; where a folder stands, that gets it.

@@ -1,5 +1,5 @@
 //! The lines that are due after an attempt to deliver (the log texts of procmail(1), "DIAGNOSTICS").
-ghost use Rattle.std.specs.Prelude.{◌≡◌, ◌++◌, ◌∷◌, [], false, nat_lt, IfOk, OnOk, OnErr};
+ghost use Rattle.std.specs.Prelude.{◌≡◌, ◌++◌, false, nat_lt, IfOk, OnOk, OnErr};
 ghost use Rattle.pm_journal.specs.Executed.{Carries};
 ghost use Rattle.pm_journal.specs.LogText.{forcing_lock_line, couldnt_unlock_line};
 ghost use Rattle.pm_meaning.specs.Delivering.{is_without};

@@ -9,7 +9,6 @@ ghost use Rattle.pm_meaning.specs.Locks;
 ghost use Rattle.pm_meaning.specs.Locks.{text_or};
 ghost use Rattle.pm_meaning.specs.Minds.{Mind, mind_of};
 ghost use Rattle.pm_meaning.specs.Ready.{ready_of};
-ghost use Rattle.pm_recipe.specs.declared.tree.Flags.{Flags};
 ghost use Rattle.pm_perform.specs.Copies.{IsFreeLock};
 ghost use Rattle.pm_perform.specs.Refusals.{Continues};
 ghost use Rattle.pm_perform.specs.Targets.{file_at};

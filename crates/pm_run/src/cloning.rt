@@ -1,5 +1,5 @@
 //! Copies of a process for blocks with the flag c (procmailrc(5), "Flags").
-ghost use Rattle.std.specs.Prelude.{◌≡◌, ◌<◌, ◌≤◌, IfOk, List, drop};
+ghost use Rattle.std.specs.Prelude.{◌≡◌, ◌<◌, ◌≤◌, List, drop};
 ghost use Rattle.pm_code.specs.Ahead.{others, lists_of};
 ghost use Rattle.pm_journal.specs.Executed.{Carries};
 ghost use Rattle.pm_journal.specs.Walking.{Go};

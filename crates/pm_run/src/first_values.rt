@@ -4,9 +4,9 @@ ghost use Rattle.std.specs.List.{list_all};
 ghost use Rattle.pm_bytes.specs.Name.{has_zero};
 ghost use Rattle.pm_vars.specs.Variables.{with_value};
 ghost use Rattle.pm_meaning.specs.Minds.{mind_of};
-ghost use Rattle.pm_meaning.specs.FirstValues.{environment_value, is_filled, is_login, login_name};
+ghost use Rattle.pm_meaning.specs.FirstValues.{environment_value, is_login, login_name};
 ghost use Rattle.pm_meaning.specs.FirstValues.{home_folder, search_path, time_zone, first_folder};
-ghost use Rattle.pm_meaning.specs.FirstValues.{system_mailbox, user_values, place_values, mailbox_values};
+ghost use Rattle.pm_meaning.specs.FirstValues.{user_values, place_values, mailbox_values};
 ghost use Rattle.pm_meaning.specs.FirstValues.{program_values, file_values, all_set, first_table, first_process};
 
 use pm_bytes::{Blob, Environ, Memory, Name, Names};

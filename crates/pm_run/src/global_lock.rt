@@ -1,5 +1,5 @@
 //! LOCKFILE (procmailrc(5), "Environment"): a lock that a process holds from one statement to another.
-ghost use Rattle.std.specs.Prelude.{◌≡◌, true, false, nat_lt, if◌then◌else◌, IfOk, OnErr};
+ghost use Rattle.std.specs.Prelude.{◌≡◌, true, false, nat_lt, if◌then◌else◌, OnErr};
 ghost use Rattle.pm_journal.specs.Executed.{Carries};
 ghost use Rattle.pm_journal.specs.Held.{holds_name};
 ghost use Rattle.pm_journal.specs.Locking.{lock_act};

@@ -13,7 +13,6 @@ ghost use Rattle.pm_perform.specs.Undelivered.{Undelivered};
 ghost use Rattle.pm_meaning.specs.Turning.{turn_of};
 ghost use Rattle.pm_run.specs.Coming.{ComesTo, HearsCome};
 ghost use Rattle.pm_run.specs.Drafts.{IsDrafted};
-ghost use Rattle.pm_run.specs.RunningOut.{LeavesUndelivered, OfNew};
 
 use crate::draft::Draft;
 use crate::drafting::renew;
@@ -76,30 +75,8 @@ fn execute(flags: &Flags, process: &mut Process)
     process.chain = after(flags, &process.chain, true, true, false);
 }
 
-/// Comes to a recipe without a block, and does its action where it is executed.
-pub fn run_recipe<D: Effects, N: Observer>(
-    alloc: Global,
-    run: &mut Run<D>,
-    recipe: &Recipe,
-    place: usize,
-    draft: &mut Option<Draft>,
-    observer: &mut N,
-) -> Result<Option<End>, Memory>
-    ensures carries { let top = top_of recipe.now in
-        Carries (judge_first top (λ p. acting top (act_of recipe.now.action) p) (mind_of run.old.process))
-        (λ end. turn_of end (mind_of run.new.process)) result
-        run.old.journal run.new.journal (D.told run.old.outside) (D.told run.new.outside) }
-    ensures sure { OnErr result (OfNew (LeavesUndelivered (top_of recipe.now) (mind_of run.old.process))
-        run.old.journal run.new.journal) }
-{
-    if come_to(alloc, run, recipe, place, observer)? {
-        return act(alloc, run, recipe, draft);
-    }
-    Ok(None)
-}
-
-// Does the action, and before it the draft of its abstract.
-fn act<D: Effects>(
+/// Does the action of a recipe that is executed, and before it the draft of its abstract.
+pub fn act<D: Effects>(
     alloc: Global,
     run: &mut Run<D>,
     recipe: &Recipe,

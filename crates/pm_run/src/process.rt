@@ -1,5 +1,5 @@
 //! A whole run, from the mail's arrival to the end of the last of its processes.
-ghost use Rattle.std.specs.Prelude.{◌≡◌, ◌≤◌, true, [], map, IfOk, OnErr};
+ghost use Rattle.std.specs.Prelude.{◌≡◌, ◌≤◌, true, map, IfOk, OnErr};
 ghost use Rattle.pm_journal.specs.Executed.{GivesEach};
 ghost use Rattle.pm_journal.specs.Walking.{Stop, Completes};
 ghost use Rattle.pm_meaning.specs.FirstValues.{home_folder};

@@ -3,7 +3,6 @@ ghost use Rattle.std.specs.Prelude.{◌≡◌, ◌≤◌, true, map};
 ghost use Rattle.pm_meaning.specs.Minds.{mind_of};
 ghost use Rattle.pm_meaning.specs.Running.{Running, Over};
 ghost use Rattle.pm_run.specs.Ends.{copies_left, opened_at};
-ghost use Rattle.pm_run.specs.Frames.{items_of};
 ghost use Rattle.pm_run.specs.Nested.{are_nested, frame_of, items_in};
 ghost use Rattle.pm_run.specs.Stretches.{Proceeds};
 ghost use Rattle.pm_run.specs.Tasks.{begun_at, AreBegun};
@@ -72,7 +71,7 @@ pub fn run_opened<D: Effects, N: Observer>(
     match opened {
         ControlFlow::Continue(Some(code)) => {
             let mut frame = begin_frame(alloc, code);
-            let ended = run_rest(alloc, run, &mut frame, queue, draft, observer);
+            let ended = run_frame(alloc, run, &mut frame, queue, draft, observer);
             drop(frame);
             ended
         }
@@ -100,31 +99,10 @@ pub fn run_frames<D: Effects, N: Observer>(
     match resume(alloc, frames) {
         Ok(None) => fall_off(alloc, run, draft),
         Ok(Some(mut frame)) => {
-            let ended = run_rest(alloc, run, &mut frame, queue, draft, observer);
+            let ended = run_frame(alloc, run, &mut frame, queue, draft, observer);
             drop(frame);
             ended
         }
-        Err(Memory) => Err(Memory),
-    }
-}
-
-// The same, while they are those of a process that runs.
-fn run_rest<D: Effects, N: Observer>(
-    alloc: Global,
-    run: &mut Run<D>,
-    frame: &mut Frames,
-    queue: &mut Queue,
-    draft: &mut Option<Draft>,
-    observer: &mut N,
-) -> Result<End, Memory>
-    ensures proceeds { Proceeds queue.old queue.new (Running (items_of frame.old) (mind_of run.old.process))
-        (λ end. Over end (mind_of run.new.process)) result
-        run.old.journal run.new.journal (D.told run.old.outside) (D.told run.new.outside) }
-    ensures few { copies_left queue.new ≤ copies_left queue.old }
-{
-    match run_frame(alloc, run, frame, queue, draft, observer) {
-        Ok(Some(end)) => Ok(end),
-        Ok(None) => fall_off(alloc, run, draft),
         Err(Memory) => Err(Memory),
     }
 }

@@ -1,5 +1,5 @@
 //! A task's rcfiles, as those of a process that runs.
-ghost use Rattle.std.specs.Prelude.{◌≡◌, true, ◌∷◌, [], ◌++◌, map, IfOk};
+ghost use Rattle.std.specs.Prelude.{◌≡◌, true, ◌∷◌, map, IfOk};
 ghost use Rattle.pm_run.specs.Nested.{are_nested, goes_back, frame_of, frames_in, frames_if, name_first, outer_frames};
 
 use crate::frames::{Frames, Open, RcFrame, Waiting};

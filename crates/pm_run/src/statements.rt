@@ -11,7 +11,7 @@ ghost use Rattle.pm_run.specs.Walk.{plan_of, StatementMay};
 
 use crate::assigning::{assign_text, unset_variable};
 use crate::draft::Draft;
-use crate::judging::run_recipe;
+use crate::judging::{act, come_to};
 use crate::turned::{Turned, turned_by, turned_of};
 use pm_bytes::Memory;
 use pm_code::Step;
@@ -40,7 +40,10 @@ pub fn run_statement<D: Effects, N: Observer>(
         Step::Assign { name, value } => assign_text(alloc, run, name.as_slice(), value.as_slice()),
         Step::Unset { name } => unset_variable(alloc, run, name.as_slice()),
         Step::Plain(recipe) => {
-            let ended = run_recipe(alloc, run, recipe, place, draft, observer)?;
+            if !come_to(alloc, run, recipe, place, observer)? {
+                return Ok(Turned::Goes);
+            }
+            let ended = act(alloc, run, recipe, draft)?;
             Ok(turned_of(ended))
         }
         Step::Defect { text, .. } => turned_by(skip_line(alloc, run, text.as_slice())),

@@ -3,15 +3,16 @@ ghost use Rattle.std.specs.Prelude.{◌≡◌, ◌<◌, ◌≤◌, ◌+◌, [], 
 ghost use Rattle.pm_code.specs.Ahead.{others, lists_of};
 ghost use Rattle.pm_code.specs.Flat.{flats_of};
 ghost use Rattle.pm_meaning.specs.Minds.{mind_of};
-ghost use Rattle.pm_meaning.specs.Running.{Running, Leaving, left_by};
+ghost use Rattle.pm_meaning.specs.Running.{Running, Leaving, Over, left_by};
 ghost use Rattle.pm_meaning.specs.declared.process.End.TheVariants.{HostOff};
-ghost use Rattle.pm_run.specs.Ends.{stands_at, copies_left};
+ghost use Rattle.pm_run.specs.Ends.{copies_left};
 ghost use Rattle.pm_run.specs.Frames.{items_of, steps_of, left_over, all_locks};
 ghost use Rattle.pm_run.specs.Stretches.{Walks, Proceeds};
 ghost use Rattle.pm_run.specs.Walk.{after_item, after_statement, after_gate, Falls, IsStepAt, EndsAt, ComesBack};
 
 use crate::cloning::make_clone;
 use crate::draft::Draft;
+use crate::falling_off::fall_off;
 use crate::frames::{Frames, Open, Waiting};
 use crate::gates::{Gate, pass_gate};
 use crate::leaving::{give_maybe, leave_blocks};
@@ -28,8 +29,9 @@ use pm_meaning::{End, Process, Run, new_chain, succeed};
 use std::alloc::Global;
 use std::ops::ControlFlow;
 
-/// Runs what is left of the rcfiles, up to the process's end, if a statement ends it. Then the open blocks are left.
-/// The draft is that of the last action's abstract. The observer hears of the recipes and their conditions.
+/// Runs what is left of the rcfiles, up to the process's end, and then leaves the open blocks. A process that no
+/// statement ends falls off. The draft is that of the last action's abstract. The observer hears of the recipes and
+/// their conditions.
 pub fn run_frame<D: Effects, N: Observer>(
     alloc: Global,
     run: &mut Run<D>,
@@ -37,16 +39,17 @@ pub fn run_frame<D: Effects, N: Observer>(
     queue: &mut Queue,
     draft: &mut Option<Draft>,
     observer: &mut N,
-) -> Result<Option<End>, Memory>
+) -> Result<End, Memory>
     ensures proceeds { Proceeds queue.old queue.new (Running (items_of frame.old) (mind_of run.old.process))
-        (λ end. stands_at end (mind_of run.new.process)) result
+        (λ end. Over end (mind_of run.new.process)) result
         run.old.journal run.new.journal (D.told run.old.outside) (D.told run.new.outside) }
     ensures few { copies_left queue.new ≤ copies_left queue.old }
 {
     loop {
         match step_frame(alloc, run, frame, queue, draft, observer)? {
             ControlFlow::Continue(()) => {}
-            ControlFlow::Break(ended) => return Ok(ended),
+            ControlFlow::Break(Some(end)) => return Ok(end),
+            ControlFlow::Break(None) => return fall_off(alloc, run, draft),
         }
     }
 }

@@ -12,13 +12,13 @@ use Rattle.pm_meaning.specs.Status.{status_number}
 use Rattle.pm_meaning.specs.declared.command_line.CommandLine.{CommandLine}
 use Rattle.pm_meaning.specs.declared.ending.Ending.{Ending}
 use Rattle.pm_meaning.specs.declared.status.Status.{Status}
-use Rattle.pm_meaning.specs.declared.status.Status.TheVariants.{Usage, DataError, SystemError, InputOutput}
+use Rattle.pm_meaning.specs.declared.status.Status.TheVariants.{Success, Usage, DataError, NoInput, SystemError, CannotCreate, InputOutput, TemporaryFailure}
 use Rattle.pm_run.specs.RunningOut.{GaveUp}
 use Rattle.pm_streams.specs.Reading.{Drained, ReadPast, StopsFailed}
 use Rattle.pm_top.specs.Run.{Run}
 use Rattle.pm_top.specs.Outcome.{SaysLine, LastLine, status_line, Refused, BadWords, ReadFault, TooLong, NotBegun, HasMeaning, LeftOff, Outcome, bad_words, read_fault, too_long, not_begun, left_off, meant}
 use Rattle.pm_top.specs.Account.{SaysLast, Account}
-use Rattle.pm_top.specs.Traced.{Traced}
+use Rattle.pm_top.specs.Traced.{IsUnbegun, Traced}
 
 took_none : (v : View) → TakesCalls [] v v
 took_none v = record { ran = ran_none v.host; out_same = refl; err_same = refl; same = refl }
@@ -51,24 +51,35 @@ pub refused : (run : Run) (status : Status) → run.status ≡ status_number sta
     → SaysLine (status_line status) run.before.err run.after.err → Refused status run
 refused run status is none hs os s = record { status_is = is; nothing = none; host_same = hs; out_same = os; said = s }
 
-pub bad_words_run : (run : Run) → command_line run.words ≡ None → run.rest ≡ run.source → Refused Usage run → Traced run
+bad_words_run : (run : Run) → command_line run.words ≡ None → run.rest ≡ run.source → Refused Usage run → Traced run
 bad_words_run run n same r =
     let h : BadWords run = record { unread = n; source_same = same; refused = r } in record { how = bad_words h; account = refused_account run Usage (bad_words h) tt r r.said }
 
-pub read_fault_run : (run : Run) (line : CommandLine) → command_line run.words ≡ Some line → StopsFailed run.source run.rest → Refused InputOutput run → Traced run
+read_fault_run : (run : Run) (line : CommandLine) → command_line run.words ≡ Some line → StopsFailed run.source run.rest → Refused InputOutput run → Traced run
 read_fault_run run line is stopped r =
     let h : ReadFault run = record { line = line; read = is; stopped = stopped; refused = r } in record { how = read_fault h; account = refused_account run InputOutput (read_fault h) tt r r.said }
 
-pub too_long_run : (run : Run) (line : CommandLine) → command_line run.words ≡ Some line → ReadPast run.source run.rest → Refused DataError run → Traced run
+too_long_run : (run : Run) (line : CommandLine) → command_line run.words ≡ Some line → ReadPast run.source run.rest → Refused DataError run → Traced run
 too_long_run run line is past r =
     let h : TooLong run = record { line = line; read = is; past = past; refused = r } in record { how = too_long h; account = refused_account run DataError (too_long h) tt r r.said }
 
-pub not_begun_run : (run : Run) (line : CommandLine) → command_line run.words ≡ Some line → Refused SystemError run → Traced run
+not_begun_run : (run : Run) (line : CommandLine) → command_line run.words ≡ Some line → Refused SystemError run → Traced run
 not_begun_run run line is r = let h : NotBegun run = record { line = line; read = is; refused = r } in record { how = not_begun h; account = refused_account run SystemError (not_begun h) tt r r.said }
 
-pub not_begun_read : (run : Run) (found : Option CommandLine) → command_line run.words ≡ found → IsSome found → Refused SystemError run → Traced run
-not_begun_read run (Some line) e some r = not_begun_run run line e r
-not_begun_read run None e some r = let e : false ≡ true = some in cc
+some_line : (found : Option CommandLine) → IsSome found → (line : CommandLine) × (found ≡ Some line)
+some_line (Some line) some = (line, refl)
+some_line None some = let e : false ≡ true = some in cc
+
+-- no process began, for this status
+pub unbegun_run : (run : Run) (status : Status) → IsUnbegun status run.words run.source run.rest → Refused status run → Traced run
+unbegun_run run Usage h r = bad_words_run run h.0 h.1 r
+unbegun_run run InputOutput h r = let read = some_line (command_line run.words) h.0 in read_fault_run run read.0 read.1 h.1 r
+unbegun_run run DataError h r = let read = some_line (command_line run.words) h.0 in too_long_run run read.0 read.1 h.1 r
+unbegun_run run SystemError h r = let read = some_line (command_line run.words) h in not_begun_run run read.0 read.1 r
+unbegun_run run Success h r = absurd h
+unbegun_run run NoInput h r = absurd h
+unbegun_run run CannotCreate h r = absurd h
+unbegun_run run TemporaryFailure h r = absurd h
 
 -- a process that came to its end
 pub meant_run : (run : Run) (line : CommandLine) (mail : List ℕ) (ending : Ending) (x y : JournalState) (middle : View) → x.entries ≡ [] → run.entries ≡ y.entries

@@ -1,8 +1,8 @@
 //! What the words read so far ask for besides the options.
-ghost use Rattle.std.specs.Prelude.{◌≡◌, true, false, IfOk, IfSome, OnOk, string_bytes, ◌++◌, ◌∷◌, []};
+ghost use Rattle.std.specs.Prelude.{◌≡◌, true, false, IfOk, OnOk, ◌++◌, ◌∷◌, []};
 ghost use Rattle.pm_bytes.specs.Name.{has_zero};
 ghost use Rattle.pm_top.specs.Words.{no_words, renewal as renewal_of, variable_of, is_equals, kept as kept_of};
-ghost use Rattle.pm_top.specs.Words.{filter_line, has_some};
+ghost use Rattle.pm_top.specs.Words.{filter_line};
 ghost use Rattle.pm_top.specs.Words.{closed};
 ghost use Rattle.std.specs.List.{list_any};
 ghost use Rattle.pm_top.specs.Reading.{CanAdd, added, line_of, at};

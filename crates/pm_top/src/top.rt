@@ -1,10 +1,10 @@
 //! The whole run of the program, from its words to its exit status.
-ghost use Rattle.std.specs.Prelude.{◌≡◌, []};
+ghost use Rattle.std.specs.Prelude.{◌≡◌, [], IfOk, IfErr};
 ghost use Rattle.pm_journal.specs.Entries.{view_of};
 ghost use Rattle.pm_meaning.specs.Status.{status_number};
 ghost use Rattle.pm_top.specs.Outcome.{SaysLine, LastLine, status_line};
 ghost use Rattle.pm_top.specs.Promise.{Promise};
-ghost use Rattle.pm_top.specs.Traced.{RunsLine, RunsMail};
+ghost use Rattle.pm_top.specs.Traced.{Arrives, IsUnbegun, RunsMail};
 
 use crate::words::read_words;
 use pm_append::write_text;
@@ -12,7 +12,7 @@ use pm_bytes::{Environ, Memory};
 use pm_conds::{NoObserver, Observer};
 use pm_host::{Child, Host, Sink, Source};
 use pm_journal::{Entries, Journal};
-use pm_meaning::{CommandLine, End, Ending, Idle, Status};
+use pm_meaning::{End, Ending, Idle, Status};
 use pm_objects::{Objects, lend};
 use pm_run::{Arrival, run_processes};
 use pm_streams::{Mail, read_mail};
@@ -83,103 +83,42 @@ pub fn deliver_observed<S: Source, H: Host, O: Sink, E: Sink, K: Entries, N: Obs
       after = view_of (H.told host.new) (O.told out.new) (E.told err.new);
     }) }
 {
-    let mut objects = lend(host, out, err);
-    let call = Call { words, env };
-    run_words(alloc, call, source, &mut objects, journal, observer)
-}
-
-// What the program is called with.
-#[derive(Clone, Copy)]
-struct Call<'a> {
-    words: &'a [String],
-    env: &'a Environ,
-}
-
-fn run_words<'a, S: Source, H: Host, O: Sink, E: Sink, K: Entries, N: Observer>(
-    alloc: Global,
-    call: Call<'_>,
-    source: &mut S,
-    objects: &mut Objects<'a, H, &'a mut O, E, K>,
-    journal: &mut Journal<K>,
-    observer: &mut N,
-) -> u8
-    requires empty { journal.old.entries ≡ [] }
-    requires no_child { (H.told objects.old.host.now).child ≡ Child.NoChild }
-    ensures promise { Promise (record {
-      words = call.entry.words.now;
-      env = call.entry.env.now;
-      status = result;
-      source = S.told source.old;
-      rest = S.told source.new;
-      entries = journal.new.entries;
-      before = view_of (H.told objects.old.host.now) (O.told objects.old.out.now)
-          (E.told objects.old.err.now);
-      after = view_of (H.told objects.new.host.now) (O.told objects.new.out.now)
-          (E.told objects.new.err.now);
-    }) }
-    ensures host { objects.new.host.ghost_name ≡ objects.old.host.ghost_name }
-    ensures out { objects.new.out.ghost_name ≡ objects.old.out.ghost_name }
-    ensures err { objects.new.err.ghost_name ≡ objects.old.err.ghost_name }
-{
-    match read_words(alloc, call.words) {
-        Ok(Some(line)) => {
-            let request = Request {
-                line,
-                env: call.env,
-            };
+    match read_arrival(alloc, words, env, source) {
+        Ok(arrival) => {
+            let mut objects = lend(host, out, err);
             let mut idle = Idle {
                 journal: mem::replace(journal, Journal::empty(alloc)),
             };
-            let status = run_line(alloc, request, source, objects, &mut idle, observer);
+            let status = run_mail(alloc, arrival, &mut objects, &mut idle, observer);
             *journal = idle.journal;
             status
         }
-        Ok(None) => refuse(&mut *objects.err, Status::Usage),
-        Err(Memory) => refuse(&mut *objects.err, Status::SystemError),
+        Err(status) => refuse(err, status),
     }
 }
 
-// What its words ask for, and its environment.
-#[derive(Drop)]
-struct Request<'a> {
-    line: CommandLine,
-    env: &'a Environ,
-}
-
-fn run_line<'a, S: Source, H: Host, O: Sink, E: Sink, K: Entries, N: Observer>(
+// What the words ask for, and the mail of the source. Where either is wanting, no process begins, and the run has this
+// status.
+fn read_arrival<'a, S: Source>(
     alloc: Global,
-    request: Request<'_>,
+    words: &[String],
+    env: &'a Environ,
     source: &mut S,
-    objects: &mut Objects<'a, H, &'a mut O, E, K>,
-    idle: &mut Idle<K>,
-    observer: &mut N,
-) -> u8
-    requires empty { idle.old.journal.entries ≡ [] }
-    ensures run { RunsLine request.entry.line (λ words. record {
-      words = words;
-      env = request.entry.env.now;
-      status = result;
-      source = S.told source.old;
-      rest = S.told source.new;
-      entries = idle.new.journal.entries;
-      before = view_of (H.told objects.old.host.now) (O.told objects.old.out.now)
-          (E.told objects.old.err.now);
-      after = view_of (H.told objects.new.host.now) (O.told objects.new.out.now)
-          (E.told objects.new.err.now);
-    }) }
-    ensures host { objects.new.host.ghost_name ≡ objects.old.host.ghost_name }
-    ensures out { objects.new.out.ghost_name ≡ objects.old.out.ghost_name }
-    ensures err { objects.new.err.ghost_name ≡ objects.old.err.ghost_name }
+) -> Result<Arrival<'a>, Status>
+    ensures ok { IfOk result (λ arrival.
+        Arrives words.now env.now arrival (S.told source.old) (S.told source.new)) }
+    ensures err { IfErr result (λ status. IsUnbegun status words.now (S.told source.old) (S.told source.new)) }
 {
+    let line = match read_words(alloc, words) {
+        Ok(Some(line)) => line,
+        Ok(None) => return Err(Status::Usage),
+        Err(Memory) => return Err(Status::SystemError),
+    };
     match read_mail(alloc, source) {
-        Ok(Mail::Bytes(bytes)) => {
-            let Request { line, env } = request;
-            let arrival = Arrival { line, env, bytes };
-            run_mail(alloc, arrival, objects, idle, observer)
-        }
-        Ok(Mail::TooMany) => refuse(&mut *objects.err, Status::DataError),
-        Ok(Mail::Failed) => refuse(&mut *objects.err, Status::InputOutput),
-        Err(Memory) => refuse(&mut *objects.err, Status::SystemError),
+        Ok(Mail::Bytes(bytes)) => Ok(Arrival { line, env, bytes }),
+        Ok(Mail::TooMany) => Err(Status::DataError),
+        Ok(Mail::Failed) => Err(Status::InputOutput),
+        Err(Memory) => Err(Status::SystemError),
     }
 }
 

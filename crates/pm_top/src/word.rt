@@ -1,9 +1,8 @@
 //! One word by itself: a group of letters, the text of a letter, a variable or an rcfile (procmail(1)).
-ghost use Rattle.std.specs.Prelude.{◌≡◌, ◌<◌, ◌||◌, ◌&&◌, true, false, not, nat_le};
-ghost use Rattle.std.specs.Prelude.{IsSome, IfSome, option_map, drop, length};
-ghost use Rattle.std.specs.List.{list_any, list_all};
+ghost use Rattle.std.specs.Prelude.{◌≡◌, ◌<◌, ◌&&◌, true, false, nat_le};
+ghost use Rattle.std.specs.Prelude.{IfSome, option_map, drop};
+ghost use Rattle.std.specs.List.{list_all};
 ghost use Rattle.pm_bytes.specs.Letter.{is_name_byte};
-ghost use Rattle.pm_bytes.specs.Name.{has_zero};
 ghost use Rattle.pm_top.specs.Words.{is_sender as can_send, is_variable as can_name, is_options, operand as operand_of};
 ghost use Rattle.pm_top.specs.Words.{read_word, letters, text_word as text_of, rest_or_next as rest_of};
 ghost use Rattle.pm_top.specs.Words.{awaited as awaited_by};

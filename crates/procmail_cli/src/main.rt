@@ -13,27 +13,24 @@ use std::fs::File;
 use std::io::Stderr;
 use std::process::ExitCode;
 
-fn main(rt: HostRuntime) -> ExitCode {
-    let status = match Setup::new(&rt) {
-        Ok(setup) => begin(&rt, &setup),
-        Err(_) => Status::SystemError.number(),
-    };
-    ExitCode::from(status)
-}
-
 // Words that aren't UTF-8 are refused like all others that aren't read.
-fn begin(rt: &HostRuntime, setup: &Setup<File>) -> u8 {
-    let Ok(mut err) = RealSink::stderr(rt, rt.alloc(), setup) else {
-        return Status::SystemError.number();
+fn main(rt: HostRuntime) -> ExitCode {
+    let not_begun = ExitCode::from(Status::SystemError.number());
+    let Ok(setup) = Setup::new(&rt) else {
+        return not_begun;
     };
-    match read_words(rt.alloc(), rt) {
-        Words::Read(words) => match deliver(rt, setup, words.as_slice(), &mut err) {
+    let Ok(mut err) = RealSink::stderr(&rt, rt.alloc(), &setup) else {
+        return not_begun;
+    };
+    let status = match read_words(rt.alloc(), &rt) {
+        Words::Read(words) => match deliver(&rt, &setup, words.as_slice(), &mut err) {
             Ok(status) => status,
             Err(Memory) => refuse(&mut err, Status::SystemError),
         },
         Words::NoText => refuse(&mut err, Status::Usage),
         Words::Memory => refuse(&mut err, Status::SystemError),
-    }
+    };
+    ExitCode::from(status)
 }
 
 fn deliver(

@@ -24,7 +24,7 @@ returns-in-Ok-None-clause-proceeds g c =
 pub returns-in-Ok-Some-clause-proceeds : goal.returns-in-Ok-Some-clause-proceeds
 returns-in-Ok-Some-clause-proceeds g c = λ first.
     let same = sym (items_as_frames c.in-Ok-Some.frame) ∙ ap items_in (rw c.in-Ok-Some.field-0-is at c.in-Ok-Some.ensures) in
-    rw same at c.run_rest-ended.ensures.proceeds first
+    rw same at c.run_frame-ended.ensures.proceeds first
 
 pub returns-in-Err-clause-proceeds : goal.returns-in-Err-clause-proceeds
 returns-in-Err-clause-proceeds g c =

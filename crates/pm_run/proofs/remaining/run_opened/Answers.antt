@@ -9,7 +9,7 @@ use Rattle.pm_run.proofs.remaining.run_opened.Goals as goal
 pub returns-in-Continue-Some-clause-proceeds : goal.returns-in-Continue-Some-clause-proceeds
 returns-in-Continue-Some-clause-proceeds g c = rw (c.in-Continue-Some.is, c.in-Continue-Some.field-0-is) (λ first.
     let f = c.begin_frame-frame.ensures in
-    rw (begun_frame c.begin_frame-frame.result c.in-Continue-Some.code f.place f.code f.blocks f.outer) at c.run_rest-ended.ensures.proceeds first)
+    rw (begun_frame c.begin_frame-frame.result c.in-Continue-Some.code f.place f.code f.blocks f.outer) at c.run_frame-ended.ensures.proceeds first)
 
 pub returns-in-Break-clause-proceeds : goal.returns-in-Break-clause-proceeds
 returns-in-Break-clause-proceeds g c = rw c.in-Break.is (λ first. (runs_itself c.args.queue.now (Over c.in-Break.end (mind_of c.args.run.now.process)) c.args.run.now.journal (g.D.Asks.told c.args.run.now.outside) first, tt))
