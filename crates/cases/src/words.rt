@@ -16,7 +16,7 @@ enum Place {
     FirstDigit,
     SecondDigit(u8),
     Times(usize),
-    BehindQuote,
+    AfterQuote,
     Name,
 }
 
@@ -74,7 +74,7 @@ impl WordReader {
             }
             Place::SecondDigit(first) => self.numbered(first, byte),
             Place::Times(times) => self.times(times, byte),
-            Place::BehindQuote => self.behind_quote(byte),
+            Place::AfterQuote => self.after_quote(byte),
             Place::Name => self.named(byte, texts),
         }
     }
@@ -104,7 +104,7 @@ impl WordReader {
 
     fn quoted(&mut self, byte: u8) -> Result<(), Refused> {
         match byte {
-            b'"' => self.place = Place::BehindQuote,
+            b'"' => self.place = Place::AfterQuote,
             b'\\' => self.place = Place::Escape,
             _ => self.word.push(byte)?,
         }
@@ -166,7 +166,7 @@ impl WordReader {
         Ok(())
     }
 
-    fn behind_quote(&mut self, byte: u8) -> Result<(), Refused> {
+    fn after_quote(&mut self, byte: u8) -> Result<(), Refused> {
         if is_blank(byte) {
             return self.end_word();
         }
@@ -216,7 +216,7 @@ impl WordReader {
         match self.place {
             Place::Between => {}
             Place::Plain => self.end_word()?,
-            Place::BehindQuote => self.end_word()?,
+            Place::AfterQuote => self.end_word()?,
             Place::Name => {
                 self.put_named(texts)?;
                 self.end_word()?;

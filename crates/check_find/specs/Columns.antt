@@ -8,10 +8,10 @@ abbrev pub last_newline : List ℕ → Option ℕ
 last_newline text = last_of (places (is_byte NEWLINE) text)
 
 -- the column after a text, by its last newline
-abbrev pub column_behind : List ℕ → Option ℕ → ℕ
-column_behind text None = length text + 1
-column_behind text (Some newline) = length text - newline
+abbrev pub column_after : List ℕ → Option ℕ → ℕ
+column_after text None = length text + 1
+column_after text (Some newline) = length text - newline
 
 -- the column of a place, from 1
 abbrev pub column_of : List ℕ → ℕ → ℕ
-column_of text place = column_behind (take place text) (last_newline (take place text))
+column_of text place = column_after (take place text) (last_newline (take place text))

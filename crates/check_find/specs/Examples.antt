@@ -4,7 +4,7 @@ use Rattle.pm_recipe.specs.Weights.{condition_of}
 use Rattle.pm_recipe.specs.Listed.{rc_of}
 use Rattle.check_find.specs.declared.codes.Fault.{Fault}
 use Rattle.check_find.specs.declared.codes.Fault.TheVariants.{Weight, Size}
-use Rattle.check_find.specs.Columns.{column_behind}
+use Rattle.check_find.specs.Columns.{column_after}
 use Rattle.check_find.specs.Faults.{fault_of}
 use Rattle.check_find.specs.Statements.{defect_lines}
 
@@ -39,6 +39,6 @@ pub record OfLines : Type 0 where
 
 -- columns
 pub record OfColumns : Type 0 where
-  pub first : column_behind [] None ≡ 1
+  pub first : column_after [] None ≡ 1
   -- after a newline and a byte
-  pub second : column_behind (codes "ab\nc") (Some 2) ≡ 2
+  pub second : column_after (codes "ab\nc") (Some 2) ≡ 2

@@ -1,16 +1,16 @@
 -- Calls of formail, as docs/MOVING.md, "formail", has them.
 use Rattle.std.specs.Prelude.{ℕ, ◌+◌, Bool, not, ◌||◌, ◌&&◌, List, [], ◌++◌, drop, length, nat_eq, codes, if◌then◌else◌, position}
 use Rattle.std.specs.List.{starts_with}
-use Rattle.check_moving.specs.Text.{behind_blanks, from_place, has_part}
+use Rattle.check_moving.specs.Text.{after_blanks, from_place, has_part}
 use Rattle.check_moving.specs.Words.{is_break_byte}
 use Rattle.check_fix.specs.Edits.{edit_at}
-use Rattle.check_fix.specs.Parts.{before, behind_digits, ends_command, from_part, is_above}
+use Rattle.check_fix.specs.Parts.{before, after_digits, ends_command, from_part, is_above}
 use Rattle.check_fix.specs.declared.edits.Edit.{Edit}
 
 -- a part with which a command ends
 abbrev pub whole_call : List ℕ → List ℕ → List ℕ
 whole_call part text =
-    if ends_command (behind_blanks (drop (length part) (from_part part text))) then from_part part text else []
+    if ends_command (after_blanks (drop (length part) (from_part part text))) then from_part part text else []
 
 -- another command
 abbrev pub call_edits : ℕ → List ℕ → List ℕ → List ℕ → List Edit
@@ -41,8 +41,8 @@ abbrev pub is_reply_letter : ℕ → Bool
 is_reply_letter byte = nat_eq byte 114 || nat_eq byte 116
 
 -- what follows them
-abbrev pub behind_reply : List ℕ → List ℕ
-behind_reply text = from_place text (position (λ byte. not (is_reply_letter byte)) text)
+abbrev pub after_reply : List ℕ → List ℕ
+after_reply text = from_place text (position (λ byte. not (is_reply_letter byte)) text)
 
 -- `z`, `x` or `X`
 abbrev pub begins_field : List ℕ → Bool
@@ -56,12 +56,12 @@ same_word text = if begins_field text then text else []
 -- or of the next one
 abbrev pub next_word : List ℕ → List ℕ
 next_word text =
-    if starts_with nat_eq text (codes " ") && starts_with nat_eq (behind_blanks text) (codes "-")
-    && begins_field (drop 1 (behind_blanks text)) then text else []
+    if starts_with nat_eq text (codes " ") && starts_with nat_eq (after_blanks text) (codes "-")
+    && begins_field (drop 1 (after_blanks text)) then text else []
 
 -- what follows the letters of the first reply of this program
 abbrev pub reply_of : List ℕ → List ℕ → List ℕ
-reply_of program text = behind_reply (drop (length program + 3) (from_part (program ++ codes " -r") text))
+reply_of program text = after_reply (drop (length program + 3) (from_part (program ++ codes " -r") text))
 
 -- what is asked for by letters is asked of the reply
 abbrev pub split_edits : ℕ → List ℕ → List ℕ → List Edit
@@ -116,14 +116,14 @@ removed_edits first text =
 
 -- the length of a cache, and what follows it
 abbrev pub cache_length : List ℕ → List ℕ
-cache_length text = behind_blanks (drop 3 (from_part (codes " -D") text))
+cache_length text = after_blanks (drop 3 (from_part (codes " -D") text))
 
 -- `formail -D 2000000`: `formail -D 1048576`
 abbrev pub length_edits : ℕ → List ℕ → List Edit
 length_edits first text =
     if is_above 1048576 (cache_length text)
     then edit_at first text (cache_length text)
-    (length (before (cache_length text) (behind_digits (cache_length text)))) (codes "1048576")
+    (length (before (cache_length text) (after_digits (cache_length text)))) (codes "1048576")
     else []
 
 -- `formail -f >>out`: `formail >>out`

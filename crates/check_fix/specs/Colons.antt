@@ -6,7 +6,7 @@ use Rattle.pm_recipe.specs.Colon.{flags_of, flags_part}
 use Rattle.pm_recipe.specs.declared.fronts.Kind.{Kind}
 use Rattle.pm_recipe.specs.declared.fronts.Kind.TheVariants as kind
 use Rattle.pm_recipe.specs.declared.tree.Flags.{Flags}
-use Rattle.check_moving.specs.Text.{behind_blanks, has_part}
+use Rattle.check_moving.specs.Text.{after_blanks, has_part}
 use Rattle.check_fix.specs.Copies.{before_braces, has_front}
 use Rattle.check_fix.specs.Edits.{edit_at}
 use Rattle.check_fix.specs.Parts.{before, from_part}
@@ -23,7 +23,7 @@ second_colon text = from_colon (drop 1 text)
 
 -- from the name of its lock file on
 abbrev pub lock_name : List ℕ → List ℕ
-lock_name text = behind_blanks (drop 1 (second_colon text))
+lock_name text = after_blanks (drop 1 (second_colon text))
 
 -- `:0:` where there is no automatic lock file: `:0`
 abbrev pub automatic_edits : ℕ → List ℕ → List Edit

@@ -5,15 +5,15 @@ use Rattle.pm_bytes.specs.Letter.{is_blank_byte, is_digit_byte, is_name_byte}
 use Rattle.pm_recipe.specs.Weights.{condition_of}
 use Rattle.pm_recipe.specs.declared.tree.Weight.{Weight}
 use Rattle.pm_recipe.specs.declared.tree.Weight.TheVariants as weight
-use Rattle.check_moving.specs.Conditions.{behind_sign, is_size}
-use Rattle.check_moving.specs.Text.{behind_blanks, from_place, has_part}
+use Rattle.check_moving.specs.Conditions.{after_sign, is_size}
+use Rattle.check_moving.specs.Text.{after_blanks, from_place, has_part}
 use Rattle.check_fix.specs.Edits.{edit_at}
-use Rattle.check_fix.specs.Parts.{before, behind_digits, from_blank, from_part, is_above}
+use Rattle.check_fix.specs.Parts.{before, after_digits, from_blank, from_part, is_above}
 use Rattle.check_fix.specs.declared.edits.Edit.{Edit}
 
 -- what follows the star and blanks
-abbrev pub behind_star : List ℕ → List ℕ
-behind_star text = behind_blanks (drop 1 text)
+abbrev pub after_star : List ℕ → List ℕ
+after_star text = after_blanks (drop 1 text)
 
 -- a weight that can't be read
 abbrev pub is_bad : Weight → Bool
@@ -22,32 +22,32 @@ is_bad _ = false
 
 -- digits above the greatest weight, and the caret of a weight
 abbrev pub is_great : List ℕ → Bool
-is_great text = is_above 2147483647 text && starts_with nat_eq (behind_digits text) (codes "^")
+is_great text = is_above 2147483647 text && starts_with nat_eq (after_digits text) (codes "^")
 
 -- the first number of a weight above the greatest, and what follows
 abbrev pub great_number : List ℕ → List ℕ
-great_number text = if is_great (behind_sign (behind_star text)) then behind_sign (behind_star text) else []
+great_number text = if is_great (after_sign (after_star text)) then after_sign (after_star text) else []
 
 -- `* 9876543210^0`: `* 2147483647^0`
 abbrev pub great_edits : ℕ → List ℕ → List Edit
 great_edits first text =
     if is_bad (condition_of (drop 1 text)).weight
     then edit_at first text (great_number text)
-    (length (before (great_number text) (behind_digits (great_number text)))) (codes "2147483647")
+    (length (before (great_number text) (after_digits (great_number text)))) (codes "2147483647")
     else []
 
 -- without a `!`
-abbrev pub behind_bang : List ℕ → List ℕ
-behind_bang text = if starts_with nat_eq text (codes "!") then behind_blanks (drop 1 text) else text
+abbrev pub after_bang : List ℕ → List ℕ
+after_bang text = if starts_with nat_eq text (codes "!") then after_blanks (drop 1 text) else text
 
 -- a size that a variable gives
 abbrev pub is_variable_size : List ℕ → Bool
-is_variable_size text = is_size text && starts_with nat_eq (behind_blanks (drop 1 text)) (codes "$")
+is_variable_size text = is_size text && starts_with nat_eq (after_blanks (drop 1 text)) (codes "$")
 
 -- `* < $SIZE`: `* $ < $SIZE`
 abbrev pub size_edits : ℕ → List ℕ → List Edit
 size_edits first text =
-    if is_variable_size (behind_bang (behind_star text)) then edit_at first text (behind_star text) 0 (codes "$ ") else []
+    if is_variable_size (after_bang (after_star text)) then edit_at first text (after_star text) 0 (codes "$ ") else []
 
 -- a digit or a sign
 abbrev pub begins_weight : ℕ → Bool
@@ -72,7 +72,7 @@ weight_from last gap (byte ∷ rest) =
 
 -- of a condition
 abbrev pub late_weight : List ℕ → List ℕ
-late_weight text = weight_from 0 false (behind_star text)
+late_weight text = weight_from 0 false (after_star text)
 
 -- the word at the front
 abbrev pub word_of : List ℕ → List ℕ
@@ -93,17 +93,17 @@ blank_before text = if starts_with nat_eq (drop 1 text) (codes " ") then [] else
 -- the weight, and then what was before it
 abbrev pub weight_first : List ℕ → List ℕ
 weight_first text =
-    ((blank_before text ++ word_of (late_weight text)) ++ codes " ") ++ before (behind_star text) (late_weight text)
+    ((blank_before text ++ word_of (late_weight text)) ++ codes " ") ++ before (after_star text) (late_weight text)
 
 -- the bytes up to what follows the weight
 abbrev pub late_length : List ℕ → ℕ
-late_length text = length (behind_star text) - length (behind_blanks (from_blank (late_weight text)))
+late_length text = length (after_star text) - length (after_blanks (from_blank (late_weight text)))
 
 -- `* B ?? 1^1 ..`: `* 1^1 B ?? ..`
 abbrev pub late_edits : ℕ → List ℕ → List Edit
 late_edits first text =
     if is_whole (word_of (late_weight text))
-    then edit_at first text (behind_star text) (late_length text) (weight_first text) else []
+    then edit_at first text (after_star text) (late_length text) (weight_first text) else []
 
 -- a variable of this length: the greatest weight
 abbrev pub greatest_at : ℕ → List ℕ → List ℕ → ℕ → List Edit
@@ -120,8 +120,8 @@ abbrev pub is_front_byte : ℕ → Bool
 is_front_byte byte = is_blank_byte byte || is_lead_byte byte || is_weight_byte byte || nat_eq byte 46
 
 -- the expression, if nothing of it is such a byte
-abbrev pub behind_front : List ℕ → List ℕ
-behind_front text = from_place (drop 1 text) (position (λ byte. not (is_front_byte byte)) (drop 1 text))
+abbrev pub after_front : List ℕ → List ℕ
+after_front text = from_place (drop 1 text) (position (λ byte. not (is_front_byte byte)) (drop 1 text))
 
 -- a backslash that joins no lines
 abbrev pub is_escape : List ℕ → Bool
@@ -129,7 +129,7 @@ is_escape text = starts_with nat_eq text (codes "\\") && not (starts_with nat_eq
 
 -- `* \<joe`: `* ()\<joe`
 abbrev pub backslash_edits : ℕ → List ℕ → List Edit
-backslash_edits first text = if is_escape (behind_front text) then edit_at first text (behind_front text) 0 (codes "()") else []
+backslash_edits first text = if is_escape (after_front text) then edit_at first text (after_front text) 0 (codes "()") else []
 
 -- `$` after what takes the rest of a line
 abbrev pub is_idle_end : List ℕ → Bool
@@ -150,7 +150,7 @@ joined_blanks text =
 
 -- none
 abbrev pub indent_edits : ℕ → List ℕ → List ℕ → List Edit
-indent_edits first text rest = edit_at first text rest (length rest - length (behind_blanks rest)) []
+indent_edits first text rest = edit_at first text rest (length rest - length (after_blanks rest)) []
 
 -- at each place from this rest of the text on
 abbrev pub indents_from : ℕ → List ℕ → List ℕ → List Edit

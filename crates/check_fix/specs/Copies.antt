@@ -10,7 +10,7 @@ use Rattle.pm_recipe.specs.declared.spans.Span.{Span}
 use Rattle.pm_recipe.specs.declared.tree.Flags.{Flags}
 use Rattle.check_moving.specs.Conditions.{begins_variable}
 use Rattle.check_fix.specs.Edits.{edit_at}
-use Rattle.check_fix.specs.Numbers.{behind_whole, name_on, variable_name}
+use Rattle.check_fix.specs.Numbers.{after_whole, name_on, variable_name}
 use Rattle.check_fix.specs.Parts.{before, from_part, is_some}
 use Rattle.check_fix.specs.declared.edits.Edit.{Edit}
 
@@ -35,8 +35,8 @@ has_front front =
     starts_with nat_eq front (codes ":0") && list_all is_flag_byte (drop 2 front) && is_delivering (flags_of (flags_part front))
 
 -- what follows the variable
-abbrev pub behind_copy : List ℕ → List ℕ
-behind_copy text = drop 4 (behind_whole (from_braces text))
+abbrev pub after_copy : List ℕ → List ℕ
+after_copy text = drop 4 (after_whole (from_braces text))
 
 -- the flags end here
 abbrev pub ends_flags : List ℕ → Bool
@@ -45,11 +45,11 @@ ends_flags (byte ∷ rest) = is_blank_byte byte || nat_eq byte COLON
 
 -- a variable that gives the flag c if it has a value, and nothing otherwise
 abbrev pub is_giving : List ℕ → Bool
-is_giving rest = begins_variable (name_on rest) && starts_with nat_eq (behind_whole rest) (codes ":+c}")
+is_giving rest = begins_variable (name_on rest) && starts_with nat_eq (after_whole rest) (codes ":+c}")
 
 -- a colon line with such a variable: `:0 W ${CC:+c}:my.lock`
 abbrev pub gives_copy : List ℕ → Bool
-gives_copy text = has_front (before_braces text) && is_giving (from_braces text) && ends_flags (behind_copy text)
+gives_copy text = has_front (before_braces text) && is_giving (from_braces text) && ends_flags (after_copy text)
 
 -- the name of the variable
 abbrev pub copy_name : List ℕ → List ℕ
@@ -95,7 +95,7 @@ is_copied text action spans = gives_copy text && is_delivery action && can_stop 
 abbrev pub copy_edits : ℕ → List ℕ → Kind → List Span → List Edit
 copy_edits first text action spans =
     if is_copied text action spans
-    then edit_at first text (from_braces text) (length (from_braces text) - length (behind_copy text)) (codes "c")
+    then edit_at first text (from_braces text) (length (from_braces text) - length (after_copy text)) (codes "c")
     else []
 
 -- what can stand between a colon line and its action

@@ -191,16 +191,16 @@ colon_behind text [] = text
 colon_behind text (span ∷ spans) = colon_behind (colon_after span text) spans
 
 -- behind the action at the place 30 of a recipe with such a variable, and these spans between
-abbrev pub behind_copy : List Span → Span → List Edit
-behind_copy between action =
+abbrev pub after_copy : List Span → Span → List Edit
+after_copy between action =
     stop_edits action (gap 40 ∷ []) (colon_behind [] (bare Colon 0 (codes ":0 ${CC:+c}") ∷ between))
 
 -- with no such span, and with one before a program
 abbrev pub stops : Span → List Edit
-stops action = behind_copy [] action
+stops action = after_copy [] action
 
 abbrev pub under : Span → List Edit
-under span = behind_copy (span ∷ []) (bare Pipe 30 (codes "| cat"))
+under span = after_copy (span ∷ []) (bare Pipe 30 (codes "| cat"))
 
 -- copies that a variable decides on
 pub record OfCopies : Type 0 where

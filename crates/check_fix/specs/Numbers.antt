@@ -27,20 +27,20 @@ abbrev pub name_on : List ℕ → List ℕ
 name_on text = if is_braced text then drop 2 text else drop 1 text
 
 -- behind the name
-abbrev pub behind_whole : List ℕ → List ℕ
-behind_whole text = behind_name (name_on text)
+abbrev pub after_whole : List ℕ → List ℕ
+after_whole text = behind_name (name_on text)
 
 -- the name of the variable at the front
 abbrev pub variable_name : List ℕ → List ℕ
-variable_name text = before (name_on text) (behind_whole text)
+variable_name text = before (name_on text) (after_whole text)
 
 -- a brace after the name, where one is before it
 abbrev pub is_closed : List ℕ → Bool
-is_closed text = not (is_braced text) || starts_with nat_eq (behind_whole text) (codes "}")
+is_closed text = not (is_braced text) || starts_with nat_eq (after_whole text) (codes "}")
 
 -- behind the variable
-abbrev pub behind_braces : List ℕ → List ℕ
-behind_braces text = if is_braced text then drop 1 (behind_whole text) else behind_whole text
+abbrev pub after_braces : List ℕ → List ℕ
+after_braces text = if is_braced text then drop 1 (after_whole text) else after_whole text
 
 -- an assignment
 abbrev pub is_assignment : Kind → Bool
@@ -96,7 +96,7 @@ is_only name value spans = is_number (without_quotes value) && keep_value name v
 -- this number in the place of the variable at the front of a rest of a text
 abbrev pub value_edits : ℕ → List ℕ → List ℕ → List ℕ → List Edit
 value_edits first text rest value =
-    if is_closed rest then edit_at first text rest (length rest - length (behind_braces rest)) (without_quotes value) else []
+    if is_closed rest then edit_at first text rest (length rest - length (after_braces rest)) (without_quotes value) else []
 
 -- if it is the only value
 abbrev pub only_edits : ℕ → List ℕ → List ℕ → List ℕ → List Span → List Edit

@@ -13,8 +13,8 @@ from_part part [] = []
 from_part part (byte ∷ rest) = if starts_with nat_eq (byte ∷ rest) part then byte ∷ rest else from_part part rest
 
 -- without the digits at the front
-abbrev pub behind_digits : List ℕ → List ℕ
-behind_digits text = from_place text (position (λ byte. not (is_digit_byte byte)) text)
+abbrev pub after_digits : List ℕ → List ℕ
+after_digits text = from_place text (position (λ byte. not (is_digit_byte byte)) text)
 
 -- from the first blank on
 abbrev pub from_blank : List ℕ → List ℕ
@@ -31,7 +31,7 @@ exceeds most digits (Some number) = nat_lt most number
 
 -- the digits at the front of a text write such a number
 abbrev pub is_above : ℕ → List ℕ → Bool
-is_above most text = exceeds most (before text (behind_digits text)) (count_of (before text (behind_digits text)))
+is_above most text = exceeds most (before text (after_digits text)) (count_of (before text (after_digits text)))
 
 -- a command ends here
 abbrev pub ends_command : List ℕ → Bool

@@ -2,7 +2,7 @@
 ghost use Rattle.std.specs.Prelude.{◌≡◌, ◌++◌, ◌<◌, IfOk, IfSome, OnOk, length, not, position};
 ghost use Rattle.check_fix.specs.Calls;
 ghost use Rattle.check_fix.specs.Calls.{call_edits, header_edits, body_edits, empty_edits};
-ghost use Rattle.check_fix.specs.Calls.{behind_reply};
+ghost use Rattle.check_fix.specs.Calls.{after_reply};
 ghost use Rattle.check_fix.specs.Calls.{replied_by};
 ghost use Rattle.check_fix.specs.Calls.{reply_edits};
 ghost use Rattle.check_fix.specs.Calls.{reply_start};
@@ -119,7 +119,7 @@ fn reply_end(text: &[u8]) -> Option<usize>
 }
 
 fn past_reply(text: &[u8]) -> &[u8]
-    ensures { result.now ≡ behind_reply text.now }
+    ensures { result.now ≡ after_reply text.now }
 {
     match reply_end(text) {
         None => &[],

@@ -2,15 +2,15 @@
 ghost use Rattle.std.specs.Prelude.{◌≡◌, ◌++◌, IfOk, OnOk, codes, drop, false, length};
 ghost use Rattle.std.specs.List.{list_all};
 ghost use Rattle.pm_recipe.specs.Weights.{condition_of};
-ghost use Rattle.check_moving.specs.Conditions.{behind_sign, is_size};
+ghost use Rattle.check_moving.specs.Conditions.{after_sign, is_size};
 ghost use Rattle.check_fix.specs.Conditions;
-ghost use Rattle.check_fix.specs.Conditions.{behind_star};
-ghost use Rattle.check_fix.specs.Conditions.{great_edits, behind_bang, size_edits};
+ghost use Rattle.check_fix.specs.Conditions.{after_star};
+ghost use Rattle.check_fix.specs.Conditions.{great_edits, after_bang, size_edits};
 ghost use Rattle.check_fix.specs.Conditions.{weight_from};
 ghost use Rattle.check_fix.specs.Conditions.{word_of};
 ghost use Rattle.check_fix.specs.Edits.{edit_at};
 ghost use Rattle.check_fix.specs.Parts;
-ghost use Rattle.check_fix.specs.Parts.{behind_digits};
+ghost use Rattle.check_fix.specs.Parts.{after_digits};
 ghost use Rattle.check_fix.specs.Conditions.{late_edits, greatest_at, supreme_edits};
 
 use crate::edits::{Edit, put};
@@ -25,7 +25,7 @@ use std::alloc::Global;
 
 /// What follows the star and blanks.
 pub fn past_star(text: &[u8]) -> &[u8]
-    ensures { result.now ≡ behind_star text.now }
+    ensures { result.now ≡ after_star text.now }
 {
     past_blanks(past(1, text))
 }
@@ -41,7 +41,7 @@ fn is_bad(weight: Weight) -> bool
 
 /// The text without a sign at its front.
 pub fn past_sign(text: &[u8]) -> &[u8]
-    ensures { result.now ≡ behind_sign text.now }
+    ensures { result.now ≡ after_sign text.now }
 {
     if text.starts_with(b"-") || text.starts_with(b"+") {
         past(1, text)
@@ -78,7 +78,7 @@ fn put_number(
     edits: &mut Vec<Edit>,
 ) -> Result<(), Memory>
     ensures { OnOk result (edits.new.items ≡ edits.old.items ++ edit_at span.now.first span.now.bytes.now number.now
-        (length (Parts.before number.now (behind_digits number.now))) (codes "2147483647")) }
+        (length (Parts.before number.now (after_digits number.now))) (codes "2147483647")) }
 {
     let count = before(number, past_digits(number)).len();
     put(alloc, span, number, count, b"2147483647", edits)
@@ -96,7 +96,7 @@ pub fn put_great(alloc: Global, span: &Span<'_>, edits: &mut Vec<Edit>) -> Resul
 }
 
 fn past_bang(text: &[u8]) -> &[u8]
-    ensures { result.now ≡ behind_bang text.now }
+    ensures { result.now ≡ after_bang text.now }
 {
     if text.starts_with(b"!") {
         past_blanks(past(1, text))

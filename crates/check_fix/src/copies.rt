@@ -50,7 +50,7 @@ pub fn has_front(front: &[u8]) -> bool
 }
 
 fn past_copy(text: &[u8]) -> &[u8]
-    ensures { result.now ≡ Copies.behind_copy text.now }
+    ensures { result.now ≡ Copies.after_copy text.now }
 {
     past(4, past_whole(from_braces(text)))
 }

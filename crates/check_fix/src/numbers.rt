@@ -53,7 +53,7 @@ pub fn name_on(text: &[u8]) -> &[u8]
 
 /// What is behind the name of the variable at the front.
 pub fn past_whole(text: &[u8]) -> &[u8]
-    ensures { result.now ≡ Numbers.behind_whole text.now }
+    ensures { result.now ≡ Numbers.after_whole text.now }
 {
     past_name(name_on(text))
 }
@@ -72,7 +72,7 @@ fn is_closed(text: &[u8]) -> bool
 }
 
 fn past_braces(text: &[u8]) -> &[u8]
-    ensures { result.now ≡ Numbers.behind_braces text.now }
+    ensures { result.now ≡ Numbers.after_braces text.now }
 {
     if is_braced(text) {
         past(1, past_whole(text))

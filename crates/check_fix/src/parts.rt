@@ -2,9 +2,9 @@
 ghost use Rattle.std.specs.Prelude.{◌≡◌, ◌≤◌, ◌<◌, IfSome, length, drop, not, position};
 ghost use Rattle.std.specs.Str.{bytes_eq};
 ghost use Rattle.pm_bytes.specs.Letter.{is_blank_byte, is_digit_byte, is_name_byte};
-ghost use Rattle.check_moving.specs.Text.{behind_blanks, behind_name, has_part, without_quotes};
+ghost use Rattle.check_moving.specs.Text.{after_blanks, behind_name, has_part, without_quotes};
 ghost use Rattle.check_moving.specs.Words.{is_break_byte};
-ghost use Rattle.check_fix.specs.Parts.{from_part, behind_digits, from_blank, before, exceeds};
+ghost use Rattle.check_fix.specs.Parts.{from_part, after_digits, from_blank, before, exceeds};
 ghost use Rattle.check_fix.specs.Parts;
 
 use pm_bytes::{BACKQUOTE, BAR, NEWLINE, continues_name, is_blank, is_digit, read_count};
@@ -57,7 +57,7 @@ pub fn past(count: usize, text: &[u8]) -> &[u8]
 
 /// The text without the blanks at its front.
 pub fn past_blanks(text: &[u8]) -> &[u8]
-    ensures { result.now ≡ behind_blanks text.now }
+    ensures { result.now ≡ after_blanks text.now }
 {
     match blanks_end(text) {
         None => &[],
@@ -74,7 +74,7 @@ fn blanks_end(text: &[u8]) -> Option<usize>
 
 /// The text without the digits at its front.
 pub fn past_digits(text: &[u8]) -> &[u8]
-    ensures { result.now ≡ behind_digits text.now }
+    ensures { result.now ≡ after_digits text.now }
 {
     match digits_end(text) {
         None => &[],

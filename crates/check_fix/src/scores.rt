@@ -26,7 +26,7 @@ pub struct Score {
 }
 
 fn past_dollar(text: &[u8]) -> &[u8]
-    ensures { result.now ≡ Scores.behind_dollar text.now }
+    ensures { result.now ≡ Scores.after_dollar text.now }
 {
     if past_star(text).starts_with(b"$") {
         past_blanks(past(1, past_star(text)))
@@ -58,7 +58,7 @@ fn lead_end(text: &[u8]) -> Option<usize>
 }
 
 fn past_lead(text: &[u8]) -> &[u8]
-    ensures { result.now ≡ Scores.behind_lead text.now }
+    ensures { result.now ≡ Scores.after_lead text.now }
 {
     match lead_end(text) {
         None => &[],
@@ -223,7 +223,7 @@ fn is_empty_block(spans: &[Span<'_>]) -> bool
 }
 
 fn past_gaps<'a, 'b>(spans: &'a [Span<'b>]) -> &'a [Span<'b>]
-    ensures { result.now ≡ Scores.behind_gaps spans.now }
+    ensures { result.now ≡ Scores.after_gaps spans.now }
 {
     for i in 0..spans.len() {
         if !is_gap(spans[i].kind) {

@@ -1,7 +1,7 @@
 //! Expressions that are brought over.
 ghost use Rattle.std.specs.Prelude.{◌≡◌, ◌++◌, ◌<◌, OnOk, IfSome, length, not, position};
 ghost use Rattle.check_fix.specs.Conditions;
-ghost use Rattle.check_fix.specs.Conditions.{behind_front};
+ghost use Rattle.check_fix.specs.Conditions.{after_front};
 ghost use Rattle.check_fix.specs.Conditions.{backslash_edits, end_edits, anchor_edits};
 ghost use Rattle.check_fix.specs.Conditions.{indent_edits, continued_edits};
 
@@ -26,7 +26,7 @@ fn front_end(text: &[u8]) -> Option<usize>
 }
 
 fn past_front(text: &[u8]) -> &[u8]
-    ensures { result.now ≡ behind_front text.now }
+    ensures { result.now ≡ after_front text.now }
 {
     let rest = past(1, text);
     match front_end(rest) {

@@ -92,13 +92,13 @@ abbrev pub begins_anchored : Bool → List (List ℕ) → List ℕ → Bool
 begins_anchored expands names text = anchors_from expands names Plain true 0 text
 
 -- what is on the right of `\/`
-abbrev pub behind_cut : List ℕ → List ℕ
-behind_cut [] = []
-behind_cut (byte ∷ rest) = if starts_with nat_eq (byte ∷ rest) (codes "\\/") then drop 1 rest else behind_cut rest
+abbrev pub after_cut : List ℕ → List ℕ
+after_cut [] = []
+after_cut (byte ∷ rest) = if starts_with nat_eq (byte ∷ rest) (codes "\\/") then drop 1 rest else after_cut rest
 
 -- MATCH can begin with a newline
 abbrev pub is_match_begin : List (List ℕ) → Front → Bool
-is_match_begin names front = not front.inverted && begins_anchored front.expands names (behind_cut front.text)
+is_match_begin names front = not front.inverted && begins_anchored front.expands names (after_cut front.text)
 
 -- a single quote comes first
 abbrev pub is_single : List ℕ → Bool

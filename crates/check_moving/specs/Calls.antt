@@ -4,7 +4,7 @@ use Rattle.std.specs.List.{starts_with, list_any}
 use Rattle.std.specs.Str.{bytes_eq}
 use Rattle.pm_bytes.specs.Number.{count_of}
 use Rattle.check_moving.specs.Kept.{kept}
-use Rattle.check_moving.specs.Options.{given_from, has, behind_call, is_formail}
+use Rattle.check_moving.specs.Options.{given_from, has, after_call, is_formail}
 use Rattle.check_moving.specs.Text.{has_part}
 use Rattle.check_moving.specs.declared.form.Form.{Form}
 use Rattle.check_moving.specs.declared.form.Form.TheVariants.{Program, Reply}
@@ -153,7 +153,7 @@ replied options =
 
 -- the forms of a call whose words these are
 abbrev pub call_of : List ℕ → List (List ℕ) → List Form
-call_of lock words = kept (called lock (given_from 0 words) (behind_call words)) ++ kept (replied (given_from 0 words))
+call_of lock words = kept (called lock (given_from 0 words) (after_call words)) ++ kept (replied (given_from 0 words))
 
 -- the forms of each call among these words
 abbrev pub calls_in : List ℕ → List (List ℕ) → List Form

@@ -7,7 +7,7 @@ use Rattle.pm_recipe.specs.declared.tree.Weight.{Weight}
 use Rattle.pm_recipe.specs.declared.tree.Weight.TheVariants as weight
 use Rattle.pm_recipe.specs.Weights.{condition_of}
 use Rattle.check_moving.specs.Leads.{Front, begins_name_at}
-use Rattle.check_moving.specs.Text.{behind_blanks, behind_name, has_part}
+use Rattle.check_moving.specs.Text.{after_blanks, behind_name, has_part}
 use Rattle.check_moving.specs.declared.form.Form.{Form}
 use Rattle.check_moving.specs.declared.form.Form.TheVariants.{Condition}
 use Rattle.check_moving.specs.declared.form.ConditionForm.TheVariants as form
@@ -37,27 +37,27 @@ begins_number [] = false
 begins_number (byte ∷ rest) = is_digit_byte byte || nat_eq byte 46 || nat_eq byte 43 || nat_eq byte 45 || nat_eq byte 36
 
 -- without a sign at the front
-abbrev pub behind_sign : List ℕ → List ℕ
-behind_sign text = if starts_with nat_eq text (codes "-") || starts_with nat_eq text (codes "+") then drop 1 text else text
+abbrev pub after_sign : List ℕ → List ℕ
+after_sign text = if starts_with nat_eq text (codes "-") || starts_with nat_eq text (codes "+") then drop 1 text else text
 
 -- after the name of a variable, with braces around it or without; `=` is one, too
-abbrev pub behind_variable : List ℕ → List ℕ
-behind_variable text =
+abbrev pub after_variable : List ℕ → List ℕ
+after_variable text =
     if starts_with nat_eq text (codes "{") then drop 1 (behind_name (drop 1 text))
     else if starts_with nat_eq text (codes "=") then drop 1 text
     else behind_name text
 
 -- a caret and a number
 abbrev pub is_power : List ℕ → Bool
-is_power text = starts_with nat_eq text (codes "^") && begins_number (behind_blanks (drop 1 text))
+is_power text = starts_with nat_eq text (codes "^") && begins_number (after_blanks (drop 1 text))
 
 -- the value of a variable is a weight
 abbrev pub gives_weight : List ℕ → Bool
-gives_weight text = starts_with nat_eq text (codes "$") && is_power (behind_blanks (behind_variable (drop 1 text)))
+gives_weight text = starts_with nat_eq text (codes "$") && is_power (after_blanks (after_variable (drop 1 text)))
 
 -- in a text that is expanded
 abbrev pub is_variable_weight : Front → Bool
-is_variable_weight front = front.expands && gives_weight (behind_sign front.text)
+is_variable_weight front = front.expands && gives_weight (after_sign front.text)
 
 -- a name, or a brace before one
 abbrev pub begins_variable : List ℕ → Bool
@@ -66,7 +66,7 @@ begins_variable text = begins_name_at text || starts_with nat_eq text (codes "{"
 -- a variable, and nothing else
 abbrev pub is_variable : List ℕ → Bool
 is_variable text =
-    starts_with nat_eq text (codes "$") && begins_variable (drop 1 text) && bytes_eq (behind_variable (drop 1 text)) (codes "")
+    starts_with nat_eq text (codes "$") && begins_variable (drop 1 text) && bytes_eq (after_variable (drop 1 text)) (codes "")
 
 -- in a text that is expanded
 abbrev pub is_variable_condition : Front → Bool

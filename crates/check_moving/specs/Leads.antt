@@ -2,7 +2,7 @@
 use Rattle.std.specs.Prelude.{ℕ, Bool, true, false, not, ◌||◌, ◌&&◌, List, [], ◌∷◌, drop, nat_eq, if◌then◌else◌, codes}
 use Rattle.std.specs.List.{starts_with}
 use Rattle.pm_bytes.specs.Letter.{is_name_start}
-use Rattle.check_moving.specs.Text.{behind_blanks, behind_name}
+use Rattle.check_moving.specs.Text.{after_blanks, behind_name}
 use Rattle.check_moving.specs.declared.leads.Lead.{Lead}
 
 -- what was read, and the text after it
@@ -23,7 +23,7 @@ begins_name_at (byte ∷ rest) = is_name_start byte
 
 -- a name with `??`
 abbrev pub asks : List ℕ → Bool
-asks text = begins_name_at text && starts_with nat_eq (behind_blanks (behind_name text)) (codes "??")
+asks text = begins_name_at text && starts_with nat_eq (after_blanks (behind_name text)) (codes "??")
 
 -- a `$` that is the first one
 abbrev pub is_dollar : Front → Bool
@@ -37,10 +37,10 @@ goes_on front = starts_with nat_eq front.text (codes "!") || is_dollar front || 
 abbrev pub next : Front → Front
 next front =
     if starts_with nat_eq front.text (codes "!")
-    then record { expands = front.expands; inverted = not front.inverted; named = front.named; text = behind_blanks (drop 1 front.text) }
+    then record { expands = front.expands; inverted = not front.inverted; named = front.named; text = after_blanks (drop 1 front.text) }
     else if is_dollar front
-    then record { expands = true; inverted = front.inverted; named = front.named; text = behind_blanks (drop 1 front.text) }
-    else record { expands = front.expands; inverted = front.inverted; named = true; text = behind_blanks (drop 2 (behind_blanks (behind_name front.text))) }
+    then record { expands = true; inverted = front.inverted; named = front.named; text = after_blanks (drop 1 front.text) }
+    else record { expands = front.expands; inverted = front.inverted; named = true; text = after_blanks (drop 2 (after_blanks (behind_name front.text))) }
 
 -- all that is read, in no more steps than there are bytes
 abbrev pub all_read : List ℕ → Front → Front
@@ -49,7 +49,7 @@ all_read (byte ∷ bytes) front = if goes_on front then all_read bytes (next fro
 
 -- before anything is read
 abbrev pub unread : List ℕ → Front
-unread text = record { expands = false; inverted = false; named = false; text = behind_blanks text }
+unread text = record { expands = false; inverted = false; named = false; text = after_blanks text }
 
 -- what stands before the expression of a text, and the expression
 abbrev pub front_of : List ℕ → Front

@@ -63,9 +63,9 @@ abbrev pub has : ℕ → List Given → Bool
 has letter options = list_any (λ one. nat_eq one.letter letter) options
 
 -- what follows the command
-abbrev pub behind_call : List (List ℕ) → List (List ℕ)
-behind_call [] = []
-behind_call (word ∷ words) = if is_break word then word ∷ words else behind_call words
+abbrev pub after_call : List (List ℕ) → List (List ℕ)
+after_call [] = []
+after_call (word ∷ words) = if is_break word then word ∷ words else after_call words
 
 -- a word that names formail, or a variable that does
 abbrev pub is_formail : List ℕ → Bool

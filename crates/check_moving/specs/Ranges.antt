@@ -16,8 +16,8 @@ has_range (first ∷ (dash ∷ (last ∷ rest))) =
 has_range _ = false
 
 -- a set's text without the `^` that negates it
-abbrev pub behind_caret : List ℕ → List ℕ
-behind_caret text = if starts_with nat_eq text (codes "^") then drop 1 text else text
+abbrev pub after_caret : List ℕ → List ℕ
+after_caret text = if starts_with nat_eq text (codes "^") then drop 1 text else text
 
 -- the first byte, and so many after it
 abbrev pub members_to : List ℕ → Option ℕ → List ℕ
@@ -34,7 +34,7 @@ is_differing members = has_range members && not (has_part (codes "$") members)
 
 -- such a set follows a `[`
 abbrev pub begins_differing : List ℕ → Bool
-begins_differing text = is_differing (members_of (behind_caret text))
+begins_differing text = is_differing (members_of (after_caret text))
 
 -- such a set stands somewhere; a `[` behind a backslash begins none
 abbrev pub has_set : Bool → List ℕ → Bool

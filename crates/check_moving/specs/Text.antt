@@ -14,8 +14,8 @@ from_place text None = []
 from_place text (Some place) = drop place text
 
 -- without the blanks at the front
-abbrev pub behind_blanks : List ℕ → List ℕ
-behind_blanks text = from_place text (position (λ byte. not (is_blank_byte byte)) text)
+abbrev pub after_blanks : List ℕ → List ℕ
+after_blanks text = from_place text (position (λ byte. not (is_blank_byte byte)) text)
 
 -- without the bytes of a name at the front
 abbrev pub behind_name : List ℕ → List ℕ

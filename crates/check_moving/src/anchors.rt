@@ -128,7 +128,7 @@ pub fn begins_anchored(expands: bool, names: &[Blob], text: &[u8]) -> bool
 }
 
 fn past_cut(text: &[u8]) -> &[u8]
-    ensures { result.now ≡ Anchors.behind_cut text.now }
+    ensures { result.now ≡ Anchors.after_cut text.now }
 {
     let mut rest = text;
     while let Some((_, after)) = rest.split_first() {

@@ -34,15 +34,15 @@ fn put_call(alloc: Global, lock: &[u8], words: &[Blob], forms: &mut Vec<Form>) -
     ensures { OnOk result (forms.new.items ≡ forms.old.items ++ call_of lock.now words.now) }
 {
     let options = read_options(alloc, words)?;
-    let called = called_forms(alloc, lock, options.as_slice(), behind_call(words))?;
+    let called = called_forms(alloc, lock, options.as_slice(), after_call(words))?;
     let replied = reply_forms(alloc, options.as_slice())?;
     forms.extend_from_slice(called.as_slice())?;
     forms.extend_from_slice(replied.as_slice())?;
     Ok(())
 }
 
-fn behind_call(words: &[Blob]) -> &[Blob]
-    ensures { result.now ≡ Options.behind_call words.now }
+fn after_call(words: &[Blob]) -> &[Blob]
+    ensures { result.now ≡ Options.after_call words.now }
 {
     let mut rest = words;
     while let Some((word, after)) = rest.split_first() {

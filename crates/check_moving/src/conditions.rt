@@ -4,7 +4,7 @@ ghost use Rattle.check_moving.specs.Kept;
 ghost use Rattle.check_moving.specs.Leads.{front_in};
 ghost use Rattle.check_moving.specs.Conditions;
 ghost use Rattle.check_moving.specs.Conditions.{conditioned};
-ghost use Rattle.check_moving.specs.Conditions.{behind_sign, behind_variable};
+ghost use Rattle.check_moving.specs.Conditions.{after_sign, after_variable};
 
 use crate::form::{ConditionForm, Form};
 use crate::kept::kept;
@@ -108,7 +108,7 @@ fn begins_number(text: &[u8]) -> bool
 }
 
 fn past_sign(text: &[u8]) -> &[u8]
-    ensures { result.now ≡ behind_sign text.now }
+    ensures { result.now ≡ after_sign text.now }
 {
     if text.starts_with(b"-") || text.starts_with(b"+") {
         past(1, text)
@@ -118,7 +118,7 @@ fn past_sign(text: &[u8]) -> &[u8]
 }
 
 fn past_variable(text: &[u8]) -> &[u8]
-    ensures { result.now ≡ behind_variable text.now }
+    ensures { result.now ≡ after_variable text.now }
 {
     if text.starts_with(b"{") {
         past(1, past_name(past(1, text)))

@@ -34,7 +34,7 @@ fn is_differing(members: &[u8]) -> bool
 }
 
 fn past_caret(text: &[u8]) -> &[u8]
-    ensures { result.now ≡ Ranges.behind_caret text.now }
+    ensures { result.now ≡ Ranges.after_caret text.now }
 {
     if text.starts_with(b"^") {
         &text[1..]

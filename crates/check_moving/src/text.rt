@@ -2,7 +2,7 @@
 ghost use Rattle.std.specs.Prelude.{◌≡◌, ◌<◌, IfSome, length, drop, not, position};
 ghost use Rattle.std.specs.Str.{bytes_eq};
 ghost use Rattle.pm_bytes.specs.Letter.{is_blank_byte, is_name_byte};
-ghost use Rattle.check_moving.specs.Text.{has_part, behind_blanks, behind_name, without_quotes};
+ghost use Rattle.check_moving.specs.Text.{has_part, after_blanks, behind_name, without_quotes};
 
 use pm_bytes::{continues_name, is_blank};
 
@@ -29,7 +29,7 @@ pub fn has_part(part: &[u8], text: &[u8]) -> bool
 
 /// The text without the blanks at its front.
 pub fn past_blanks(text: &[u8]) -> &[u8]
-    ensures { result.now ≡ behind_blanks text.now }
+    ensures { result.now ≡ after_blanks text.now }
 {
     match blanks_end(text) {
         None => &[],

@@ -5,7 +5,7 @@ use Rattle.pm_journal.specs.LogText.{quoted}
 use Rattle.pm_message.specs.Field.{texts_of}
 use Rattle.pm_message.specs.Split.{split_of}
 use Rattle.pm_meaning.specs.Abstracts.{is_subject}
-use Rattle.pm_meaning.specs.Leads.{behind_blanks}
+use Rattle.pm_meaning.specs.Leads.{after_blanks}
 
 -- a text without the newline at its end
 abbrev pub without_newline : List ℕ → List ℕ
@@ -13,7 +13,7 @@ without_newline text = if ends_with nat_eq text (codes "\n") then take (length t
 
 -- what a field says, on one line
 abbrev pub field_value : List ℕ → List ℕ
-field_value field = behind_blanks (quoted (without_newline (drop 8 field)))
+field_value field = after_blanks (quoted (without_newline (drop 8 field)))
 
 -- what the first subject among these fields says
 abbrev pub subject_in : List (List ℕ) → Option (List ℕ)

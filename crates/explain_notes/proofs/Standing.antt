@@ -38,9 +38,9 @@ ending_tops (Acts act) lists = act_tops act lists
 ending_tops (Breaks line text) lists = stack_tops lists
 
 -- the steps behind a colon line whose recipe ends so
-abbrev tops_behind : Option Rest → List Trees → List (Option Top)
-tops_behind None lists = stack_tops lists
-tops_behind (Some rest) lists = ending_tops rest.ending lists
+abbrev tops_after : Option Rest → List Trees → List (Option Top)
+tops_after None lists = stack_tops lists
+tops_after (Some rest) lists = ending_tops rest.ending lists
 
 -- the lines are those of the conditions that are still to come
 abbrev AreJudged : Option Rest → List Line → Type 0
@@ -49,7 +49,7 @@ AreJudged (Some rest) lines = rest.conditions ≡ map condition_in lines
 
 -- what is ahead of the code, the lines of the conditions that come next, and those of the steps
 record Stands (ahead : Ahead) (begun : Bool) (lines : List Line) (steps : List (Option Lines)) : Type 0 where
-  fits : Fits (tops_behind ahead.recipe ahead.lists) steps
+  fits : Fits (tops_after ahead.recipe ahead.lists) steps
   judged : AreJudged ahead.recipe lines
   none : begun ≡ false → ahead.recipe ≡ None
 
@@ -69,10 +69,10 @@ goes_on-begun : (situation : Situation) (text : List ℕ) → goes_on situation 
 goes_on-begun situation text e = and_left situation.in_recipe (not (begins_with CLOSE_BRACE text || begins_with COLON text)) e
 
 -- no recipe has begun here
-settled : (ahead : Ahead) (steps : List (Option Lines)) → ahead.recipe ≡ None → Fits (tops_behind ahead.recipe ahead.lists) steps → Fits (stack_tops ahead.lists) steps
-settled ahead steps e h = subst (λ (r : Option Rest). Fits (tops_behind r ahead.lists) steps) e h
+settled : (ahead : Ahead) (steps : List (Option Lines)) → ahead.recipe ≡ None → Fits (tops_after ahead.recipe ahead.lists) steps → Fits (stack_tops ahead.lists) steps
+settled ahead steps e h = subst (λ (r : Option Rest). Fits (tops_after r ahead.lists) steps) e h
 
-condition-tops : (condition : Condition) (recipe : Option Rest) (lists : List Trees) → tops_behind (with_condition condition recipe) lists ≡ tops_behind recipe lists
+condition-tops : (condition : Condition) (recipe : Option Rest) (lists : List Trees) → tops_after (with_condition condition recipe) lists ≡ tops_after recipe lists
 condition-tops condition None lists = refl
 condition-tops condition (Some rest) lists = refl
 
@@ -105,7 +105,7 @@ record IsHeadOf (head : Head) (line : Line) : Type 0 where
   lock : head.lock ≡ lock_of line.text
 
 recipe-fits : (recipe : Option Rest) (head : Head) (lists : List Trees) (colon : Line) (lines : List Line) (steps : List (Option Lines))
-    → IsHeadOf head colon → AreJudged recipe lines → Fits (tops_behind recipe lists) steps
+    → IsHeadOf head colon → AreJudged recipe lines → Fits (tops_after recipe lists) steps
     → Fits (tree_tops (recipe_of head [] recipe) ++ stack_tops lists) (Some (record { colon = colon; conditions = lines }) ∷ steps)
 recipe-fits None head lists colon lines steps is judged h = (tt, h)
 recipe-fits (Some rest) head lists colon lines steps is judged h =
@@ -219,7 +219,7 @@ quiet-ends (suc depth) items q = record { recipe = refl; fits = (tt, (quiet-ends
 
 quiet-stands : (ahead : Ahead) (begun : Bool) → IsQuiet ahead → Stands ahead begun [] []
 quiet-stands ahead begun q = record {
-  fits = subst (λ (r : Option Rest). Fits (tops_behind r ahead.lists) []) (sym q.recipe) q.fits;
+  fits = subst (λ (r : Option Rest). Fits (tops_after r ahead.lists) []) (sym q.recipe) q.fits;
   judged = subst (λ (r : Option Rest). AreJudged r []) (sym q.recipe) tt;
   none = λ isnt. q.recipe;
 }

@@ -40,8 +40,8 @@ plain_body body other none prefix =
     none_begins prefix (lines body) (ap length (sym same ∙ sym (concat-lines body))) ∙ concat-lines body
 
 -- a text ends as the one after it does
-pub ends_behind : (front text tail : List ℕ) → ends_with nat_eq text tail ≡ true → (whole : List ℕ) → whole ≡ front ++ text → ends_with nat_eq whole tail ≡ true
-ends_behind front text tail ends whole is =
+pub ends_after : (front text tail : List ℕ) → ends_with nat_eq text tail ≡ true → (whole : List ℕ) → whole ≡ front ++ text → ends_with nat_eq whole tail ≡ true
+ends_after front text tail ends whole is =
     let cut = (ends_is Decides-eqb text tail (ends_with nat_eq text tail) refl).0 ends in
     (ends_is Decides-eqb whole tail (ends_with nat_eq whole tail) refl).1 (front ++ take (length text - length tail) text)
     (is ∙ ap (λ t. front ++ t) cut ∙ sym (append_assoc front (take (length text - length tail) text) tail))
@@ -67,7 +67,7 @@ mail_stays edits texts body from stays =
     let is : head ++ body ≡ whole = ap (λ t. head ++ t) (sym stays.plain) in
     elim stays.closed as (λ _. head ++ body ≡ mail_of edits texts body from) [
       | inl keeps ↦ is ∙ sym (kept edits.keep_from whole keeps)
-      | inr ends ↦ is ∙ sym (closed edits.keep_from whole (ends_behind head body (codes "\n\n") ends whole (sym is)))
+      | inr ends ↦ is ∙ sym (closed edits.keep_from whole (ends_after head body (codes "\n\n") ends whole (sym is)))
     ]
   where
     kept : (keep : Bool) (text : List ℕ) → keep ≡ true → (if keep then text else ended text) ≡ text

@@ -20,7 +20,7 @@ use Rattle.formail_edit.specs.declared.edits.PutKind.{PutKind}
 use Rattle.formail_edit.specs.declared.edits.PutKind.TheVariants.{Old, Replace, IfNone, Always}
 use Rattle.formail_edit.specs.declared.edits.Rename.{Rename}
 use Rattle.formail_edit.specs.declared.edits.Unique.{Unique}
-use Rattle.formail_edit.proofs.BodyLemmas.{ends_behind}
+use Rattle.formail_edit.proofs.BodyLemmas.{ends_after}
 
 -- no line is empty, of a text that begins at a line's beginning or within a line
 abbrev pub Filled : Bool → List ℕ → Type 0
@@ -143,7 +143,7 @@ ended_line fresh b [] f other =
 ended_line fresh b (c ∷ bs) f other =
     let later : ends_with nat_eq (c ∷ bs) (codes "\n") ≡ false =
     ⊎_elim
-    (λ h. absurd (false≢true (sym other ∙ ends_behind (b ∷ []) (c ∷ bs) (codes "\n") h (b ∷ c ∷ bs) refl)))
+    (λ h. absurd (false≢true (sym other ∙ ends_after (b ∷ []) (c ∷ bs) (codes "\n") h (b ∷ c ∷ bs) refl)))
     (λ h. h)
     (cases_Bool (ends_with nat_eq (c ∷ bs) (codes "\n"))) in
     (f.0, ended_line (b == 10) c bs f.1 later)

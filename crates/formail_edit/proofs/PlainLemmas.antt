@@ -18,7 +18,7 @@ use Rattle.formail_edit.specs.Step.{edited_fields}
 use Rattle.formail_edit.specs.Output.{Stays, mail_of, edited, is_taking}
 use Rattle.formail_edit.specs.declared.edits.Take.{Take}
 use Rattle.formail_edit.specs.declared.edits.Edits.{Edits}
-use Rattle.formail_edit.proofs.BodyLemmas.{ends_behind, mail_stays}
+use Rattle.formail_edit.proofs.BodyLemmas.{ends_after, mail_stays}
 
 -- the text ends with a newline
 abbrev Ends : List ℕ → Type 0
@@ -37,7 +37,7 @@ AllEnd (line ∷ rest) = Ends line × AllEnd rest
 lined-onto : (b : ℕ) (ls : List (List ℕ)) → Lined ls → Lined (onto b ls)
 lined-onto b [] l = tt
 lined-onto b (line ∷ []) l = tt
-lined-onto b (line ∷ next ∷ rest) l = (ends_behind (b ∷ []) line (codes "\n") l.0 (b ∷ line) refl, l.1)
+lined-onto b (line ∷ next ∷ rest) l = (ends_after (b ∷ []) line (codes "\n") l.0 (b ∷ line) refl, l.1)
 
 lined-break : (b : ℕ) (ls : List (List ℕ)) → b ≡ 10 → Lined ls → Lined ((b ∷ []) ∷ ls)
 lined-break b [] e l = tt
@@ -96,7 +96,7 @@ folded-concat (line ∷ rest) = with_line-concat line (folded rest) ∙ ap (λ t
 with_line-ends : (line : List ℕ) (texts : List (List ℕ)) → Ends line → AllEnd texts → AllEnd (with_line line texts)
 with_line-ends line [] e all = (e, tt)
 with_line-ends line (text ∷ texts) e all = ⊎_elim
-    (λ blank. rw blank (ends_behind line text (codes "\n") all.0 (line ++ text) refl, all.1))
+    (λ blank. rw blank (ends_after line text (codes "\n") all.0 (line ++ text) refl, all.1))
     (λ other. rw other (e, all))
     (cases_Bool (begins_with_blank text))
 

@@ -91,17 +91,17 @@ no_last name (field ∷ fields) none =
     let both = or_none (means name field) (list_any (means name) fields) none in
     rw both.0 (ap (λ t. field ∷ t) (no_last name fields both.1))
 
-some_behind : (name : List ℕ) (before after : List Keyed) (field : Keyed) → means name field ≡ true → list_any (means name) (before ++ field ∷ after) ≡ true
-some_behind name [] after field is = rw is refl
-some_behind name (other ∷ before) after field is = ⊎_elim
+some_after : (name : List ℕ) (before after : List Keyed) (field : Keyed) → means name field ≡ true → list_any (means name) (before ++ field ∷ after) ≡ true
+some_after name [] after field is = rw is refl
+some_after name (other ∷ before) after field is = ⊎_elim
     (λ h. rw h refl)
-    (λ h. rw h (some_behind name before after field is))
+    (λ h. rw h (some_after name before after field is))
     (cases_Bool (means name other))
 
 last_stays : (name : List ℕ) (before after : List Keyed) (field : Keyed) → NoneMeant name after → means name field ≡ true → last_only name (before ++ field ∷ after) ≡ others name before ++ field ∷ after
 last_stays name [] after field none is = rw (is, none) (ap (λ t. field ∷ t) (no_last name after none))
 last_stays name (other ∷ before) after field none is =
-    let some : list_any (means name) (before ++ field ∷ after) ≡ true = some_behind name before after field is in
+    let some : list_any (means name) (before ++ field ∷ after) ≡ true = some_after name before after field is in
     ⊎_elim
     (λ h. rw h (rw some (last_stays name before after field none is)))
     (λ h. rw h (ap (λ t. other ∷ t) (last_stays name before after field none is)))

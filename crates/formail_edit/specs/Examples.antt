@@ -168,7 +168,7 @@ pub record Examples : Type 0 where
       ≡ codes " one\n two more\n"
   pub trimmed_contents : written (record (taking false (codes "Subject")) { zap = true }) two_subjects
       ≡ codes "one\ntwo\n more\n"
-  pub blanks_behind : written (record (taking false (codes "A:")) { zap = true }) (codes "A: 1 \t\n\n") ≡ codes "1\n"
+  pub blanks_after : written (record (taking false (codes "A:")) { zap = true }) (codes "A: 1 \t\n\n") ≡ codes "1\n"
   pub whole_fields : written (taking true (codes "Subject")) two_subjects ≡ codes "Subject: one\nSubject: two\n more\n"
   pub content_of_the_line : written (taking false (codes "From")) two_subjects ≡ codes "a Thu Jan  1 00:00:00 1970\n"
   pub nothing_taken : written (taking false (codes "Cc:")) two_subjects ≡ []

@@ -10,7 +10,7 @@ use Rattle.pm_journal.specs.declared.appending.AppendEnd.TheVariants.{Done as En
 use Rattle.pm_journal.specs.Appending.{IsFaultEnd}
 use Rattle.pm_journal.proofs.AppendCause.{append_cause}
 use Rattle.pm_journal.proofs.LockEffect.{lock_cause}
-use Rattle.formail_extra.specs.Cache.{addition_to, cache_behind, marks_of}
+use Rattle.formail_extra.specs.Cache.{addition_to, cache_after, marks_of}
 use Rattle.formail_extra.proofs.ReadLemmas.{read_cause}
 use Rattle.formail_extra.specs.Adding.{written_of, Adds, uncut, cut, AddsId, at_end, again, Holds, no_id, known_id, new_id, Onward, HoldsAll}
 use Rattle.formail_extra.specs.Stepping.{cache_rule, end_of, given_back, Remembers, Uses, came, absent, too_long, folder, unread, Steps, busy, unlocked, locked}
@@ -23,8 +23,8 @@ use Rattle.formail_extra.specs.declared.stepping.CacheEnd.TheVariants.{Failed}
 rose_then : (a b c : ℕ) → Rose a b → b ≤ c → Rose a c
 rose_then a b c rose later = omega arith
 
-rose_behind : (a b c : ℕ) → a ≤ b → Rose b c → Rose a c
-rose_behind a b c later rose = omega arith
+rose_after : (a b c : ℕ) → a ≤ b → Rose b c → Rose a c
+rose_after a b c later rose = omega arith
 
 fault_end : (end : AppendEnd) → NotDone ≡ written_of end → IsFaultEnd end
 fault_end EndDone e = absurd (cc)
@@ -42,7 +42,7 @@ adds_id_rose : (name : List ℕ) (most : ℕ) (bytes id : List ℕ) (a b : HostV
 adds_id_rose name most bytes id a b (at_end few adds) = adds_rose name (addition_to bytes id) a b adds
 adds_id_rose name most bytes id a b (again full (uncut failed makes)) = makes.failed tt
 adds_id_rose name most bytes id a b (again full (cut middle makes adds)) =
-    rose_behind a.faults middle.faults b.faults makes.later (adds_rose name (addition_to [] id) middle b adds)
+    rose_after a.faults middle.faults b.faults makes.later (adds_rose name (addition_to [] id) middle b adds)
 
 holds_rose : (name : List ℕ) (most : ℕ) (bytes : List ℕ) (id : Option (List ℕ)) (a b : HostView) → Holds name most bytes id NotDone a b → Rose a.faults b.faults
 holds_rose name most bytes id a b (no_id is asks) = let e = asks.0 in absurd (cc)
@@ -66,7 +66,7 @@ holds_later name most bytes id how a b (new_id line is unseen (again full (cut m
 -- what comes after the first mail
 onward_rose : (first : Written) (others : Type 0) (a m b : HostView) → a.faults ≤ m.faults → (first ≡ NotDone → Rose a.faults m.faults) → (others → Rose m.faults b.faults)
     → Onward first others NotDone m b → Rose a.faults b.faults
-onward_rose Done others a m b later failed rest onward = rose_behind a.faults m.faults b.faults later (rest onward)
+onward_rose Done others a m b later failed rest onward = rose_after a.faults m.faults b.faults later (rest onward)
 onward_rose IsFolder others a m b later failed rest onward = let e = onward.0 in absurd (cc)
 onward_rose Raced others a m b later failed rest onward = let e = onward.0 in absurd (cc)
 onward_rose NotDone others a m b later failed rest onward = subst (λ h. Rose a.faults h.faults) (sym onward.1) (failed refl)
@@ -75,10 +75,10 @@ all_rose : (name : List ℕ) (most : ℕ) (bytes : List ℕ) (ids : List (Option
 all_rose name most bytes [] a b asks = let e = asks.0 in absurd (cc)
 all_rose name most bytes (id ∷ ids) a b all =
     let middle = all.1 in
-    onward_rose all.0 (HoldsAll name most (cache_behind most bytes id) ids NotDone middle b) a middle b
+    onward_rose all.0 (HoldsAll name most (cache_after most bytes id) ids NotDone middle b) a middle b
     (holds_later name most bytes id all.0 a middle all.2)
     (λ e. holds_rose name most bytes id a middle (subst (λ w. Holds name most bytes id w a middle) e all.2))
-    (all_rose name most (cache_behind most bytes id) ids middle b) all.3
+    (all_rose name most (cache_after most bytes id) ids middle b) all.3
 
 onward_later : (first : Written) (others : Type 0) (how : Written) (m b : HostView) → (others → m.faults ≤ b.faults) → Onward first others how m b → m.faults ≤ b.faults
 onward_later Done others how m b rest onward = rest onward
@@ -91,7 +91,7 @@ all_later name most bytes [] how a b asks = asks_later how a b asks
 all_later name most bytes (id ∷ ids) how a b all =
     let middle = all.1 in
     le_trans (holds_later name most bytes id all.0 a middle all.2)
-    (onward_later all.0 (HoldsAll name most (cache_behind most bytes id) ids how middle b) how middle b (all_later name most (cache_behind most bytes id) ids how middle b) all.3)
+    (onward_later all.0 (HoldsAll name most (cache_after most bytes id) ids how middle b) how middle b (all_later name most (cache_after most bytes id) ids how middle b) all.3)
 
 not_done : (how : Written) (kept : List Bool) → Failed ≡ end_of how kept → how ≡ NotDone
 not_done Done kept e = absurd (cc)
@@ -105,16 +105,16 @@ remembers_rose cache old ids a b remembers =
     (subst (λ how. HoldsAll cache.name cache.most old ids how a b) (not_done remembers.written (marks_of cache.most old ids).kept remembers.is) remembers.holds)
 
 uses_rose : (cache : Cache) (ids : List (Option (List ℕ))) (a b : HostView) → Uses cache ids Failed a b → Rose a.faults b.faults
-uses_rose cache ids a b (came bytes middle reads remembers) = rose_behind a.faults middle.faults b.faults reads.reads.ran.later (remembers_rose cache bytes ids middle b remembers)
-uses_rose cache ids a b (absent middle reads remembers) = rose_behind a.faults middle.faults b.faults reads.reads.ran.later (remembers_rose cache [] ids middle b remembers)
-uses_rose cache ids a b (too_long bytes middle reads remembers) = rose_behind a.faults middle.faults b.faults reads.reads.ran.later (remembers_rose cache bytes ids middle b remembers)
+uses_rose cache ids a b (came bytes middle reads remembers) = rose_after a.faults middle.faults b.faults reads.reads.ran.later (remembers_rose cache bytes ids middle b remembers)
+uses_rose cache ids a b (absent middle reads remembers) = rose_after a.faults middle.faults b.faults reads.reads.ran.later (remembers_rose cache [] ids middle b remembers)
+uses_rose cache ids a b (too_long bytes middle reads remembers) = rose_after a.faults middle.faults b.faults reads.reads.ran.later (remembers_rose cache bytes ids middle b remembers)
 uses_rose cache ids a b (folder is reads) = absurd (cc)
 uses_rose cache ids a b (unread is file) = file.reads.ran.failed (read_cause cache.name a b file)
 
 -- what was used failed, or the removal of the lock file
 under_rose : (cache : Cache) (ids : List (Option (List ℕ))) (used : CacheEnd) (removed : Removed) (a m b : HostView) → Failed ≡ given_back removed used → Uses cache ids used a m
     → a.faults ≤ m.faults → m.faults ≤ b.faults → (removed ≡ RemoveFailed → Rose m.faults b.faults) → Rose a.faults b.faults
-under_rose cache ids used RemoveFailed a m b is uses earlier later failed = rose_behind a.faults m.faults b.faults earlier (failed refl)
+under_rose cache ids used RemoveFailed a m b is uses earlier later failed = rose_after a.faults m.faults b.faults earlier (failed refl)
 under_rose cache ids used RemovedDone a m b is uses earlier later failed = rose_then a.faults m.faults b.faults (uses_rose cache ids a m (subst (λ e. Uses cache ids e a m) (sym is) uses)) later
 under_rose cache ids used Absent a m b is uses earlier later failed = rose_then a.faults m.faults b.faults (uses_rose cache ids a m (subst (λ e. Uses cache ids e a m) (sym is) uses)) later
 
@@ -133,7 +133,7 @@ pub failed_rose : (cache : Cache) (ids : List (Option (List ℕ))) (a b : HostVi
 failed_rose cache ids a b (busy is takes) = absurd (cc)
 failed_rose cache ids a b (unlocked is takes) = takes.ran.failed (lock_cause cache_rule cache.lock takes.calls takes.group)
 failed_rose cache ids a b (locked sleeps forced middle takes under) =
-    rose_behind a.faults middle.faults b.faults takes.ran.later
+    rose_after a.faults middle.faults b.faults takes.ran.later
     (under_rose cache ids under.used under.removed middle under.middle b under.is under.uses (uses_later cache ids under.used middle under.middle under.uses) under.gives.later
     (λ e. under.gives.failed (subst (λ r. IsFailed (AnswerRemove r)) (sym e) tt)))
 

@@ -37,19 +37,19 @@ ends_line (b ∷ rest) e =
     (ends_is Decides-eqb bytes (codes "\n") (ends_with nat_eq bytes (codes "\n")) refl).0 (closed (ends_with nat_eq bytes (codes "\n")) e) in
     inr (subst (λ l. slice_index l (length l - 1) ≡ 10) (sym cut) (at_end (take (length bytes - length (codes "\n")) bytes)))
 
-lines_behind : (before added : List ℕ) → line_end_of before ≡ [] → lines (before ++ added) ≡ lines before ++ lines_of added
-lines_behind before added e =
+lines_after : (before added : List ℕ) → line_end_of before ≡ [] → lines (before ++ added) ≡ lines before ++ lines_of added
+lines_after before added e =
     sym (lines_of-lines (before ++ added))
     ∙ lines-append (length before) before added (le_refl (length before)) (ends_line before e)
     ∙ ap (λ l. l ++ lines_of added) (lines_of-lines before)
 
 -- what is added to lines that are ended is seen as well
-seen_behind : (before added id : List ℕ) → line_end_of before ≡ [] → length (before ++ added) ≤ longest_front
+seen_after : (before added id : List ℕ) → line_end_of before ≡ [] → length (before ++ added) ≤ longest_front
     → is_seen (before ++ added) id ≡ (is_seen before id || list_any (is_line_of id) (lines_of added))
-seen_behind before added id e few =
+seen_after before added id e few =
     let short : length before ≤ longest_front = omega (arith, length-append before added, few) in
     ap (λ l. list_any (is_line_of id) (lines l)) (take_all longest_front (before ++ added) few)
-    ∙ ap (list_any (is_line_of id)) (lines_behind before added e)
+    ∙ ap (list_any (is_line_of id)) (lines_after before added e)
     ∙ list_any-append (is_line_of id) (lines before) (lines_of added)
     ∙ ap (λ l. list_any (is_line_of id) (lines l) || list_any (is_line_of id) (lines_of added)) (sym (take_all longest_front before short))
 
@@ -69,14 +69,14 @@ marks_both : (old new : Marks) (before added : List ℕ) → line_end_of before 
 marks_both old new before added e few right more = record {
   each = λ id is n.
       still_marked (mark_on old id) (mark_on new id) (is_seen before id) (list_any (is_line_of id) (lines_of added)) (more id) (right.each id) is n
-      ∙ sym (seen_behind before added id e few);
+      ∙ sym (seen_after before added id e few);
 }
 
 -- marks by the front of some bytes, whose last line is ended, are marks by all of them once the lines behind are marked
-pub marks_behind : (old new : Marks) (bytes before added end : List ℕ) (at : ℕ) → before ≡ take at bytes → added ≡ drop at bytes
+pub marks_after : (old new : Marks) (bytes before added end : List ℕ) (at : ℕ) → before ≡ take at bytes → added ≡ drop at bytes
     → end ≡ line_end_of before → (length end == 0) ≡ true → length bytes ≤ longest_front → MarksSeen old (take at bytes)
     → ((id : List ℕ) → mark_on new id ≡ option_map (λ was. was || list_any (is_line_of id) (lines_of added)) (mark_on old id)) → MarksSeen new bytes
-marks_behind old new bytes before added end at front back is none few right more =
+marks_after old new bytes before added end at front back is none few right more =
     let whole : before ++ added ≡ bytes = ap (λ l. l ++ added) front ∙ ap (λ l. take at bytes ++ l) back ∙ take-append-drop at bytes in
     subst (MarksSeen new) whole
     (marks_both old new before added (sym is ∙ none_of end none) (subst (λ l. length l ≤ longest_front) (sym whole) few) (subst (MarksSeen old) (sym front) right) more)

@@ -5,7 +5,7 @@ use Rattle.std.proofs.lemmas.Bool.Decides.{nat_tests}
 use Rattle.std.proofs.lemmas.List.Elements.{All-nil, All-cons, All-head, All-tail}
 use Rattle.pm_host.specs.declared.nodes.Node.{Node}
 use Rattle.pm_journal.specs.Deliveries.{bytes_at}
-use Rattle.formail_extra.specs.Cache.{is_seen, left_of, line_end_of, addition_to, next_of, cache_behind, IsShortId, marks_of}
+use Rattle.formail_extra.specs.Cache.{is_seen, left_of, line_end_of, addition_to, next_of, cache_after, IsShortId, marks_of}
 use Rattle.formail_extra.specs.Tree.{marks_at, part_of, BroughtInPart, whole, partly, StaysBounded}
 use Rattle.formail_extra.proofs.FrontMarks.{left_none, left_all}
 
@@ -53,15 +53,15 @@ next_short most bytes line short =
           (omega (arith, less, addition_short bytes line short, length-append bytes (addition_to bytes line)))
     ] refl
 
-behind_short : (most : ℕ) (bytes : List ℕ) (id : Option (List ℕ)) → IsShortId id → length bytes ≤ most + 4097 → length (cache_behind most bytes id) ≤ most + 4097
-behind_short most bytes None short bounded = bounded
-behind_short most bytes (Some line) short bounded =
+after_short : (most : ℕ) (bytes : List ℕ) (id : Option (List ℕ)) → IsShortId id → length bytes ≤ most + 4097 → length (cache_after most bytes id) ≤ most + 4097
+after_short most bytes None short bounded = bounded
+after_short most bytes (Some line) short bounded =
     elim (is_seen bytes line) as (λ b. length (if b then bytes else next_of most bytes line) ≤ most + 4097) [ true ↦ bounded | false ↦ next_short most bytes line short ]
 
 marks_short : (most : ℕ) (bytes : List ℕ) (ids : List (Option (List ℕ))) → All IsShortId ids → length bytes ≤ most + 4097 → length (marks_of most bytes ids).cache ≤ most + 4097
 marks_short most bytes [] short bounded = bounded
 marks_short most bytes (id ∷ ids) short bounded =
-    marks_short most (cache_behind most bytes id) ids (All-tail IsShortId id ids short) (behind_short most bytes id (All-head IsShortId id ids short) bounded)
+    marks_short most (cache_after most bytes id) ids (All-tail IsShortId id ids short) (after_short most bytes id (All-head IsShortId id ids short) bounded)
 
 all_first : (first rest : List (Option (List ℕ))) → All IsShortId (first ++ rest) → All IsShortId first
 all_first [] rest short = All-nil IsShortId

@@ -7,7 +7,7 @@ use Rattle.pm_host.proofs.Put.{get-put, put_put}
 use Rattle.pm_host.proofs.RunsJoin.{tells_at, tells_map, tells_then}
 use Rattle.pm_host.specs.declared.nodes.Node.{Node}
 use Rattle.pm_journal.specs.Deliveries.{bytes_at}
-use Rattle.formail_extra.specs.Cache.{is_seen, next_of, is_new, cache_behind, marks_of}
+use Rattle.formail_extra.specs.Cache.{is_seen, next_of, is_new, cache_after, marks_of}
 use Rattle.formail_extra.specs.Adding.{AsksNothing, Holds, no_id, known_id, new_id, Onward, HoldsAll}
 use Rattle.formail_extra.specs.Tree.{part_of, Brought, BroughtInPart, whole, partly}
 use Rattle.formail_extra.specs.declared.adding.Written.{Written}
@@ -26,7 +26,7 @@ or_right false y e = e
 -- what one mail made of what stood there
 abbrev OneHeld : ℕ → Option (List ℕ) → Written → Option Node → Option Node → Type 0
 OneHeld most id Done there mid =
-    IsNoFolder mid × (cache_behind most (bytes_at there) id ≡ bytes_at mid) × (is_new (bytes_at there) id ≡ false → mid ≡ there)
+    IsNoFolder mid × (cache_after most (bytes_at there) id ≡ bytes_at mid) × (is_new (bytes_at there) id ≡ false → mid ≡ there)
 OneHeld most id Failed there mid =
     (mid ≡ there) ⊎ ((line : List ℕ) × (count : ℕ) × (id ≡ Some line) × (bytes_at mid ≡ part_of most (bytes_at there) line count))
 OneHeld most id IsFolder there mid = ⊥
@@ -52,14 +52,14 @@ next_agrees most old line there h agree =
 
 -- nothing was asked: what stood there stands there
 asked_none : (name : List ℕ) (most : ℕ) (old : List ℕ) (id : Option (List ℕ)) (how : Written) (a b : HostView)
-    → ((there : Option Node) → Agree old there → cache_behind most (bytes_at there) id ≡ bytes_at there) → AsksNothing how a b → Tells (OneAfter name most old id how) a.world b.world
+    → ((there : Option Node) → Agree old there → cache_after most (bytes_at there) id ≡ bytes_at there) → AsksNothing how a b → Tells (OneAfter name most old id how) a.world b.world
 asked_none name most old id how a b behind asks =
     subst (λ h. Tells (OneAfter name most old id how) a.world h.world) (sym asks.1)
     (subst (λ x. Tells (OneAfter name most old id x) a.world a.world) (sym asks.0)
     (tells_at (OneAfter name most old id Done) (λ w. λ agree. (w.nodes name, unchanged name w w refl, (agree.0, behind (w.nodes name) agree, λ e. refl))) a.world))
 
-known_behind : (most : ℕ) (old line : List ℕ) → is_seen old line ≡ true → (there : Option Node) → Agree old there → cache_behind most (bytes_at there) (Some line) ≡ bytes_at there
-known_behind most old line seen there agree =
+known_after : (most : ℕ) (old line : List ℕ) → is_seen old line ≡ true → (there : Option Node) → Agree old there → cache_after most (bytes_at there) (Some line) ≡ bytes_at there
+known_after most old line seen there agree =
     ap (λ s. if s then bytes_at there else next_of most (bytes_at there) line) (sym (seen_agrees old line there agree) ∙ seen)
 
 -- an addition as what one mail made
@@ -87,7 +87,7 @@ one_held name most old id how a b h (no_id is asks) =
     subst (λ i. Tells (OneAfter name most old i how) a.world b.world) (sym is) (asked_none name most old None how a b (λ there agree. refl) asks)
 one_held name most old id how a b h (known_id line is seen asks) =
     subst (λ i. Tells (OneAfter name most old i how) a.world b.world) (sym is)
-    (asked_none name most old (Some line) how a b (known_behind most old line seen) asks)
+    (asked_none name most old (Some line) how a b (known_after most old line seen) asks)
 one_held name most old id how a b h (new_id line is unseen adds) =
     subst (λ i. Tells (OneAfter name most old i how) a.world b.world) (sym is)
     (tells_map (AddedAfter name most old line how) (OneAfter name most old (Some line) how) (λ w v after. one_new name most old line how w v unseen after)
@@ -137,10 +137,10 @@ Same old bytes = (old ≡ bytes) ⊎ (old ≡ take 2097152 bytes)
 moved : (old bytes bytes' : List ℕ) → bytes ≡ bytes' → Same old bytes → Same old bytes'
 moved old bytes bytes' e same = subst (Same old) e same
 
-behind_agrees : (most : ℕ) (old : List ℕ) (id : Option (List ℕ)) (there mid : Option Node) → most ≤ 2097152 → Agree old there → cache_behind most (bytes_at there) id ≡ bytes_at mid
-    → Same (cache_behind most old id) (bytes_at mid)
-behind_agrees most old None there mid h agree behind = moved old (bytes_at there) (bytes_at mid) behind agree.1
-behind_agrees most old (Some line) there mid h agree behind =
+after_agrees : (most : ℕ) (old : List ℕ) (id : Option (List ℕ)) (there mid : Option Node) → most ≤ 2097152 → Agree old there → cache_after most (bytes_at there) id ≡ bytes_at mid
+    → Same (cache_after most old id) (bytes_at mid)
+after_agrees most old None there mid h agree behind = moved old (bytes_at there) (bytes_at mid) behind agree.1
+after_agrees most old (Some line) there mid h agree behind =
     subst (λ s. Same (if s then old else next_of most old line) (bytes_at mid)) (sym (seen_agrees old line there agree))
     (elim (is_seen (bytes_at there) line) as (λ s. (if s then bytes_at there else next_of most (bytes_at there) line) ≡ bytes_at mid → Same (if s then old else next_of most old line) (bytes_at mid)) [
       | true ↦ λ e. moved old (bytes_at there) (bytes_at mid) e agree.1
@@ -149,12 +149,12 @@ behind_agrees most old (Some line) there mid h agree behind =
 
 -- one mail, and then the others
 then_join : (name : List ℕ) (most : ℕ) (old : List ℕ) (id : Option (List ℕ)) (ids : List (Option (List ℕ))) (how : Written) (w m v : World) → most ≤ 2097152
-    → OneAfter name most old id Done w m → HeldAfter name most (cache_behind most old id) ids how m v → HeldAfter name most old (id ∷ ids) how w v
+    → OneAfter name most old id Done w m → HeldAfter name most (cache_after most old id) ids how m v → HeldAfter name most old (id ∷ ids) how w v
 then_join name most old id ids how w m v h one others agree =
     let first = one agree in
     let there : m.nodes name ≡ first.0 = ap (λ x. x.nodes name) first.1 ∙ get-put w name first.0 in
-    let agrees : Agree (cache_behind most old id) (m.nodes name) =
-    subst (Agree (cache_behind most old id)) (sym there) (first.2.0, behind_agrees most old id (w.nodes name) first.0 h agree first.2.1) in
+    let agrees : Agree (cache_after most old id) (m.nodes name) =
+    subst (Agree (cache_after most old id)) (sym there) (first.2.0, after_agrees most old id (w.nodes name) first.0 h agree first.2.1) in
     let rest = others agrees in (
       rest.0,
       rest.1 ∙ ap (λ x. world_with x name rest.0) first.1 ∙ put_put w name first.0 rest.0,
@@ -179,10 +179,10 @@ stop_at name most old ids stop how a m b onward held =
     (subst (λ x. Tells (HeldAfter name most old ids x) a.world m.world) (sym onward.0) held)
 
 onward_held : (name : List ℕ) (most : ℕ) (old : List ℕ) (id : Option (List ℕ)) (ids : List (Option (List ℕ))) (first how : Written) (others : Type 0) (a m b : HostView) → most ≤ 2097152
-    → Tells (OneAfter name most old id first) a.world m.world → (others → Tells (HeldAfter name most (cache_behind most old id) ids how) m.world b.world)
+    → Tells (OneAfter name most old id first) a.world m.world → (others → Tells (HeldAfter name most (cache_after most old id) ids how) m.world b.world)
     → Onward first others how m b → Tells (HeldAfter name most old (id ∷ ids) how) a.world b.world
 onward_held name most old id ids Done how others a m b h one rest onward =
-    tells_then (OneAfter name most old id Done) (HeldAfter name most (cache_behind most old id) ids how) (HeldAfter name most old (id ∷ ids) how)
+    tells_then (OneAfter name most old id Done) (HeldAfter name most (cache_after most old id) ids how) (HeldAfter name most old (id ∷ ids) how)
     (λ w x v r s. then_join name most old id ids how w x v h r s) a.world m.world b.world one (rest onward)
 onward_held name most old id ids Failed how others a m b h one rest onward =
     stop_at name most old (id ∷ ids) Failed how a m b onward
@@ -202,5 +202,5 @@ all_held name most old [] how a b h asks =
     (tells_at (HeldAfter name most old [] Done) (λ w. λ agree. (w.nodes name, unchanged name w w refl, record { bytes = refl; same = λ e. refl; folder = λ e. refl })) a.world)
 all_held name most old (id ∷ ids) how a b h all =
     let middle = all.1 in
-    onward_held name most old id ids all.0 how (HoldsAll name most (cache_behind most old id) ids how middle b) a middle b h
-    (one_held name most old id all.0 a middle h all.2) (all_held name most (cache_behind most old id) ids how middle b h) all.3
+    onward_held name most old id ids all.0 how (HoldsAll name most (cache_after most old id) ids how middle b) a middle b h
+    (one_held name most old id all.0 a middle h all.2) (all_held name most (cache_after most old id) ids how middle b h) all.3

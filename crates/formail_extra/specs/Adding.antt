@@ -7,7 +7,7 @@ use Rattle.pm_host.specs.declared.calls.Answer.TheVariants.{Cut as AnswerCut}
 use Rattle.pm_journal.specs.Appending.{Appends}
 use Rattle.pm_journal.specs.declared.appending.AppendEnd.{AppendEnd}
 use Rattle.pm_journal.specs.declared.appending.AppendEnd.TheVariants.{Done as EndDone, IsFolder as EndFolder, Raced as EndRaced}
-use Rattle.formail_extra.specs.Cache.{is_seen, addition_to, cache_behind}
+use Rattle.formail_extra.specs.Cache.{is_seen, addition_to, cache_after}
 use Rattle.formail_extra.specs.declared.adding.Written.{Written}
 use Rattle.formail_extra.specs.declared.adding.Written.TheVariants.{Done, IsFolder, Raced, Failed}
 
@@ -59,4 +59,4 @@ abbrev pub HoldsAll : List ℕ → ℕ → List ℕ → List (Option (List ℕ))
 HoldsAll name most bytes [] written before after = AsksNothing written before after
 HoldsAll name most bytes (id ∷ ids) written before after =
     (first : Written) × (middle : HostView) × Holds name most bytes id first before middle
-    × Onward first (HoldsAll name most (cache_behind most bytes id) ids written middle after) written middle after
+    × Onward first (HoldsAll name most (cache_after most bytes id) ids written middle after) written middle after

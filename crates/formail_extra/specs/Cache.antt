@@ -43,9 +43,9 @@ is_new bytes None = false
 is_new bytes (Some id) = not (is_seen bytes id)
 
 -- the cache after a mail: an identifier that wasn't seen is added
-abbrev pub cache_behind : ℕ → List ℕ → Option (List ℕ) → List ℕ
-cache_behind most bytes None = bytes
-cache_behind most bytes (Some id) = if is_seen bytes id then bytes else next_of most bytes id
+abbrev pub cache_after : ℕ → List ℕ → Option (List ℕ) → List ℕ
+cache_after most bytes None = bytes
+cache_after most bytes (Some id) = if is_seen bytes id then bytes else next_of most bytes id
 
 -- which of some mails are kept, and the cache after them all
 pub record Marks : Type 0 where
@@ -59,7 +59,7 @@ mark_before kept others = record { kept = kept ∷ others.kept; cache = others.c
 -- which of some mails are kept, and the cache after them all: each mail is held against those before it
 abbrev pub marks_of : ℕ → List ℕ → List (Option (List ℕ)) → Marks
 marks_of most bytes [] = record { kept = []; cache = bytes }
-marks_of most bytes (id ∷ ids) = mark_before (is_kept bytes id) (marks_of most (cache_behind most bytes id) ids)
+marks_of most bytes (id ∷ ids) = mark_before (is_kept bytes id) (marks_of most (cache_after most bytes id) ids)
 
 -- an identifier has at most 4,096 bytes
 abbrev pub IsShortId : Option (List ℕ) → Type 0

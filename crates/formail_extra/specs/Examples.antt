@@ -8,7 +8,7 @@ use Rattle.formail_edit.specs.Examples.{plain, put}
 use Rattle.formail_edit.specs.declared.edits.Edits.{Edits}
 use Rattle.formail_edit.specs.declared.edits.PutKind.TheVariants.{Old, Replace, IfNone, Always}
 use Rattle.formail_extra.specs.Adding.{written_of}
-use Rattle.formail_extra.specs.Cache.{is_seen, longest_front, left_of, addition_to, next_of, is_kept, is_new, cache_behind, marks_of}
+use Rattle.formail_extra.specs.Cache.{is_seen, longest_front, left_of, addition_to, next_of, is_kept, is_new, cache_after, marks_of}
 use Rattle.formail_extra.specs.Reply.{ends_address, recipient, envelope_of, reply_of}
 use Rattle.formail_extra.specs.Seen.{line_of, identifier_of, longest_id}
 use Rattle.formail_extra.specs.Stepping.{cache_at, cache_rule, end_of, given_back, step_end}
@@ -169,9 +169,9 @@ pub record Examples : Type 0 where
   pub after_an_open_line : addition_to (codes "<a@") b ≡ codes "\n<b@x>\n"
   pub next : next_of 8_192 has_a b ≡ codes "<a@x>\n<b@x>\n"
   pub next_of_a_full_one : next_of 3 (codes "<a@") b ≡ codes "<b@x>\n"
-  pub known_adds_nothing : cache_behind 6 has_a (Some a) ≡ has_a
-  pub none_adds_nothing : cache_behind 6 has_a None ≡ has_a
-  pub new_is_added : cache_behind 7 has_a (Some b) ≡ codes "<a@x>\n<b@x>\n"
+  pub known_adds_nothing : cache_after 6 has_a (Some a) ≡ has_a
+  pub none_adds_nothing : cache_after 6 has_a None ≡ has_a
+  pub new_is_added : cache_after 7 has_a (Some b) ≡ codes "<a@x>\n<b@x>\n"
   -- several mails, each held against those before it too
   pub seen_in_the_same_mailbox : marks_of 8_192 [] (Some a ∷ None ∷ Some a ∷ [])
       ≡ record { kept = true ∷ true ∷ false ∷ []; cache = has_a }

@@ -13,12 +13,12 @@ abbrev pub without_newline : List ℕ → List ℕ
 without_newline text = if ends_with nat_eq text (codes "\n") then take (length text - 1) text else text
 
 -- a text without the blanks at its end
-abbrev pub without_blanks_behind : List ℕ → List ℕ
-without_blanks_behind text = take (length text - suffix_len is_blank_byte text) text
+abbrev pub without_blanks_after : List ℕ → List ℕ
+without_blanks_after text = take (length text - suffix_len is_blank_byte text) text
 
 -- and without the blanks at both ends
 abbrev pub without_blanks : List ℕ → List ℕ
-without_blanks text = without_blanks_behind (drop (prefix_len is_blank_byte text) text)
+without_blanks text = without_blanks_after (drop (prefix_len is_blank_byte text) text)
 
 -- a field's content in one line
 abbrev pub line_of : List ℕ → List ℕ

@@ -1,6 +1,6 @@
 //! Identifiers are added to a cache, one after the other.
 ghost use Rattle.std.specs.Prelude.{◌≡◌, ◌≤◌, ◌+◌, ◌++◌, [], length, sum_by, vec_capacity};
-ghost use Rattle.formail_extra.specs.Cache.{addition_to, is_kept, next_of, cache_behind, marks_of};
+ghost use Rattle.formail_extra.specs.Cache.{addition_to, is_kept, next_of, cache_after, marks_of};
 ghost use Rattle.formail_extra.specs.Room.{space_for};
 ghost use Rattle.formail_extra.specs.Adding.{written_of, Adds, BeginsAgain, AddsId, Holds, HoldsAll};
 
@@ -104,7 +104,7 @@ fn hold<H: Host>(
     ensures holds { Holds cache.now.name cache.now.most known.old.bytes.items id.now result
         (H.told host.old) (H.told host.new) }
     ensures bytes { result ≡ Written.Done
-        → known.new.bytes.items ≡ cache_behind cache.now.most known.old.bytes.items id.now }
+        → known.new.bytes.items ≡ cache_after cache.now.most known.old.bytes.items id.now }
     ensures few { length known.new.bytes.items ≤ length known.old.bytes.items + space_for id.now }
     ensures space { vec_capacity known.old.bytes ≤ vec_capacity known.new.bytes }
     ensures child { (H.told host.new).child ≡ (H.told host.old).child }

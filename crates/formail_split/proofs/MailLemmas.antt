@@ -105,8 +105,8 @@ joined_parts box more between from =
     empty)
     between
 
-ends_behind : (box text : List ℕ) → IsBetween box → EndsEmpty text → IsBetween (box ++ text)
-ends_behind box text between ends = ⊎_elim
+ends_after : (box text : List ℕ) → IsBetween box → EndsEmpty text → IsBetween (box ++ text)
+ends_after box text between ends = ⊎_elim
     (λ is. ⊎_elim
     (λ none. inr (inl (ap (λ b. b ++ text) none ∙ is)))
     (λ empty. inr (inr (⊎_elim
@@ -120,7 +120,7 @@ ends_behind box text between ends = ⊎_elim
 pub one_more : (box text : List ℕ) → IsBetween box → StandsAlone text → (parts_of (box ++ text) ≡ parts_of box ++ text ∷ []) × IsBetween (box ++ text)
 one_more box text between alone = (
   joined_parts box text between alone.begins ∙ ap (λ ps. parts_of box ++ ps) alone.one,
-  ends_behind box text between alone.ends,
+  ends_after box text between alone.ends,
 )
 
 all_first : (P : List ℕ → Type 0) (text : List ℕ) (texts : List (List ℕ)) → All P (text ∷ texts) → P text

@@ -7,7 +7,7 @@ use Rattle.formail_edit.specs.declared.edits.Edits.{Edits}
 use Rattle.formail_edit.specs.declared.edits.PutKind.TheVariants.{Always}
 use Rattle.formail_split.specs.Children.{edited_at}
 use Rattle.formail_split.specs.Feeding.{ChildRun, worst_of}
-use Rattle.formail_split.specs.Parts.{parts_of, selected, first_of, behind_last_of}
+use Rattle.formail_split.specs.Parts.{parts_of, selected, first_of, after_last_of}
 use Rattle.formail_split.specs.Written.{WriteMails}
 use Rattle.formail_split.specs.declared.feeding.Outcome.{Outcome}
 use Rattle.formail_split.specs.declared.feeding.Outcome.TheVariants.{Fine, Amiss, Failed}
@@ -58,7 +58,7 @@ pub record Examples : Type 0 where
   pub past_the_end : selected 9 (Some 1) abc ≡ []
   pub at_most_none : selected 1 (Some 0) abc ≡ []
   pub first_place : first_of 2 9 ≡ 2
-  pub last_place : behind_last_of 2 9 None ≡ 2
+  pub last_place : after_last_of 2 9 None ≡ 2
   -- what is given to a child
   pub edited_part : edited_at (pos 0) plain (codes "From a\n\nFrom b\n") ≡ codes "From a\n\n>From b\n\n"
   pub dated_part : edited_at (pos 86_405) plain (codes "A: 1\n\n")

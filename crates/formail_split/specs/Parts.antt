@@ -33,12 +33,12 @@ abbrev pub first_of : ℕ → ℕ → ℕ
 first_of count skip = min skip count
 
 -- the place after the last one, where all others are wanted or at most so many
-abbrev pub behind_last_of : ℕ → ℕ → Option ℕ → ℕ
-behind_last_of count skip None = count
-behind_last_of count skip (Some total) = min count (first_of count skip + total)
+abbrev pub after_last_of : ℕ → ℕ → Option ℕ → ℕ
+after_last_of count skip None = count
+after_last_of count skip (Some total) = min count (first_of count skip + total)
 
 -- the mails between these places
 abbrev pub selected : ℕ → Option ℕ → List (List ℕ) → List (List ℕ)
 selected skip total parts =
     let first = first_of (length parts) skip in
-    take (behind_last_of (length parts) skip total - first) (drop first parts)
+    take (after_last_of (length parts) skip total - first) (drop first parts)

@@ -1,12 +1,12 @@
 //! Which mails `+N` and `-N` leave.
 ghost use Rattle.std.specs.Prelude.{◌≡◌, ◌≤◌, length};
-ghost use Rattle.formail_split.specs.Parts.{first_of, behind_last_of};
+ghost use Rattle.formail_split.specs.Parts.{first_of, after_last_of};
 
 use pm_bytes::Blob;
 
 fn select_of(count: usize, skip: u64, total: Option<u64>) -> (usize, usize)
     ensures first { result.0 ≡ first_of count skip }
-    ensures last { result.1 ≡ behind_last_of count skip total }
+    ensures last { result.1 ≡ after_last_of count skip total }
     ensures ordered { result.0 ≤ result.1 }
     ensures within { result.1 ≤ count }
 {
@@ -22,7 +22,7 @@ fn select_of(count: usize, skip: u64, total: Option<u64>) -> (usize, usize)
 /// out, and of the others all are wanted, or at most `total` (formail(1), options +N and -N).
 pub fn select(parts: &[Blob], skip: u64, total: Option<u64>) -> (usize, usize)
     ensures first { result.0 ≡ first_of (length parts.now) skip }
-    ensures last { result.1 ≡ behind_last_of (length parts.now) skip total }
+    ensures last { result.1 ≡ after_last_of (length parts.now) skip total }
     ensures ordered { result.0 ≤ result.1 }
     ensures within { result.1 ≤ length parts.now }
 {

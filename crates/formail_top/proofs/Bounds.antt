@@ -16,7 +16,7 @@ use Rattle.formail_edit.specs.declared.edits.PutKind.{PutKind}
 use Rattle.formail_edit.specs.declared.edits.PutKind.TheVariants.{Old, Replace, IfNone, Always}
 use Rattle.formail_top.specs.Asked.{nothing, asked, is_sound, request_of, request_in, request_for}
 use Rattle.formail_top.specs.Outputs.{id_of, ids_of}
-use Rattle.formail_top.specs.Words.{is_folded, is_bare_name, may_be_bare, is_put, put_for, take_for, unique_for, setting_for, rename_for, usable_name, bound_in, bound_for, cache_of, cache_named, cache_for, setting_for_both, setting_of, takes_text, takes_more, Words, waiting, with_setting, with_text, with_rest, with_split, letters, number_for, with_total, with_skip, behind_minus, group, program_for, argument_for, one_word, then_word, closed, settings_of}
+use Rattle.formail_top.specs.Words.{is_folded, is_bare_name, may_be_bare, is_put, put_for, take_for, unique_for, setting_for, rename_for, usable_name, bound_in, bound_for, cache_of, cache_named, cache_for, setting_for_both, setting_of, takes_text, takes_more, Words, waiting, with_setting, with_text, with_rest, with_split, letters, number_for, with_total, with_skip, after_minus, group, program_for, argument_for, one_word, then_word, closed, settings_of}
 use Rattle.pm_bytes.specs.Letter.{is_blank_byte, is_digit_byte}
 use Rattle.pm_bytes.specs.Number.{count_of}
 use Rattle.formail_top.specs.declared.request.Request.{Request}
@@ -196,7 +196,7 @@ skip_within : (o : Option ℕ) → IfBound (option_map Skip o)
 skip_within None = tt
 skip_within (Some n) = tt
 
-minus_bound : (word : List ℕ) → AllBound (behind_minus word).settings
+minus_bound : (word : List ℕ) → AllBound (after_minus word).settings
 minus_bound [] = tt
 minus_bound (byte ∷ rest) =
     if_words (is_digit_byte byte) (with_total (byte ∷ rest)) (letters (byte ∷ rest))
@@ -206,7 +206,7 @@ group_bound : (word : List ℕ) → AllBound (group word).settings
 group_bound [] = tt
 group_bound (sign ∷ rest) =
     if_words (sign == 43) (with_skip rest) _ (with_bound (option_map Skip (number_for rest)) (waiting Ready) (skip_within (number_for rest)) tt)
-    (if_words (sign == 45) (behind_minus rest) (waiting Unread) (minus_bound rest) tt)
+    (if_words (sign == 45) (after_minus rest) (waiting Unread) (minus_bound rest) tt)
 
 program_within : (o : Option (List ℕ)) → IfBound (option_map ProgramOf o)
 program_within None = tt

@@ -22,8 +22,8 @@ use Rattle.formail_top.specs.Run.{AsksIf, Seen, IsWriteStatus, Feeds, feed_statu
 use Rattle.formail_top.specs.declared.request.Request.{Request}
 use Rattle.formail_top.specs.declared.settings.Cache.{Cache}
 
-rose_behind : (a b c : ℕ) → a ≤ b → Rose b c → Rose a c
-rose_behind a b c later rose = omega arith
+rose_after : (a b c : ℕ) → a ≤ b → Rose b c → Rose a c
+rose_after a b c later rose = omega arith
 
 asks_later : (wants : Bool) (moment : ℤ) (a b : HostView) → AsksIf wants moment a b → a.faults ≤ b.faults
 asks_later true moment a b asks = asks.later
@@ -48,7 +48,7 @@ EitherRose a b x y = Rose a.faults b.faults ⊎ Rose x.faults y.faults
 feeds_rose : FailuresHaveCalls → (command : Command) (request : Request) (mails : List (List ℕ)) (a b : HostView) → Feeds command request mails 74 a b → Rose a.faults b.faults
 feeds_rose law command request mails a b feeds =
     let texts = each_output_of request feeds.moment mails in
-    rose_behind a.faults feeds.middle.faults b.faults (asks_later (wants_moment request mails) feeds.moment a feeds.middle feeds.asks)
+    rose_after a.faults feeds.middle.faults b.faults (asks_later (wants_moment request mails) feeds.moment a feeds.middle feeds.asks)
     (fed_rose law command texts feeds.middle b (subst (λ o. FeedsEach command texts o feeds.middle b) (fed_failed feeds.outcome feeds.status_is) feeds.feeds))
 
 puts_rose : FailuresHaveCalls → (program : Option (List ℕ)) (request : Request) (vars : List Pair) (mails : List (List ℕ)) (a b : HostView) (x y : StreamView)
@@ -70,7 +70,7 @@ step_rose : FailuresHaveCalls → (cache : Cache) (request : Request) (vars : Li
     → StepsWith cache (ids_of request mails) end a m → AfterStep end request vars mails 74 m b x y → EitherRose a b x y
 step_rose law cache request vars mails (Kept kept) a m b x y steps puts =
     elim (kept_rose law request.split kept request vars mails m b x y puts) [
-      | inl host ↦ inl (rose_behind a.faults m.faults b.faults (steps_later (cache_at cache.name cache.most) (ids_of request mails) (Kept kept) a m steps) host)
+      | inl host ↦ inl (rose_after a.faults m.faults b.faults (steps_later (cache_at cache.name cache.most) (ids_of request mails) (Kept kept) a m steps) host)
       | inr out ↦ inr out
     ]
 step_rose law cache request vars mails Busy a m b x y steps stops = let e : 74 ≡ 73 = stops.0 in absurd (omega (arith, e))
@@ -90,7 +90,7 @@ pub ended_rose : FailuresHaveCalls → (words : List (List ℕ)) (vars : List Pa
 ended_rose law words vars seen (unread status words_unread source_same same) = absurd (omega (arith, status))
 ended_rose law words vars seen (too_long status request asks past same) = absurd (omega (arith, status))
 ended_rose law words vars seen (lost status request asks stops same) =
-    inl (rose_behind seen.source.faults stops.middle.faults seen.source'.faults stops.later (stops.failed.failed tt))
+    inl (rose_after seen.source.faults stops.middle.faults seen.source'.faults stops.later (stops.failed.failed tt))
 ended_rose law words vars seen (memory status unwritten) = absurd (omega (arith, status))
 ended_rose law words vars seen (put request asks bytes drained treats) =
     inr (treats_rose law request.cache request vars (mails_of request bytes) seen.host seen.host' seen.out seen.out' treats)

@@ -7,13 +7,13 @@ use Rattle.pm_host.specs.Told.{HostView}
 use Rattle.pm_message.specs.Split.{split_of}
 use Rattle.formail_edit.specs.Output.{edited}
 use Rattle.formail_edit.specs.Sender.{sender_for, line_at}
-use Rattle.formail_split.specs.Parts.{first_of, behind_last_of, selected, parts_of}
+use Rattle.formail_split.specs.Parts.{first_of, after_last_of, selected, parts_of}
 use Rattle.formail_top.specs.Outputs.{kept_of, mails_of, sender_of_output, is_line_due, wants_moment, output_of, outputs_of}
 use Rattle.formail_top.specs.Run.{AsksIf, AsksAtMost, IsOutput}
 use Rattle.formail_top.specs.declared.request.Request.{Request}
 
 -- what stands between the two places are the mails that are wanted
-pub are_selected : (all : List (List ℕ)) (skip : ℕ) (total : Option ℕ) (parts : List (List ℕ)) (first last : ℕ) → all ≡ parts → first ≡ first_of (length all) skip → last ≡ behind_last_of (length all) skip total → take (last - first) (drop first all) ≡ selected skip total parts
+pub are_selected : (all : List (List ℕ)) (skip : ℕ) (total : Option ℕ) (parts : List (List ℕ)) (first last : ℕ) → all ≡ parts → first ≡ first_of (length all) skip → last ≡ after_last_of (length all) skip total → take (last - first) (drop first all) ≡ selected skip total parts
 are_selected all skip total parts first last are first_is last_is =
     subst (λ t. take (last - first) (drop first all) ≡ selected skip total t) are
     (subst (λ f. take (last - f) (drop f all) ≡ selected skip total all) (sym first_is)

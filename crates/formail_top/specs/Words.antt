@@ -167,16 +167,16 @@ abbrev pub with_skip : List ℕ → Words
 with_skip text = with_setting (option_map Skip (number_for text)) (waiting Ready)
 
 -- what stands after a `-`: `-N`, or letters
-abbrev pub behind_minus : List ℕ → Words
-behind_minus [] = waiting Unread
-behind_minus (byte ∷ rest) = if is_digit_byte byte then with_total (byte ∷ rest) else letters (byte ∷ rest)
+abbrev pub after_minus : List ℕ → Words
+after_minus [] = waiting Unread
+after_minus (byte ∷ rest) = if is_digit_byte byte then with_total (byte ∷ rest) else letters (byte ∷ rest)
 
 -- a word that isn't the text of a letter before it
 abbrev pub group : List ℕ → Words
 group [] = waiting Unread
 group (sign ∷ rest) =
     if sign == 43 then with_skip rest
-    else if sign == 45 then behind_minus rest
+    else if sign == 45 then after_minus rest
     else waiting Unread
 
 -- the program after `-s`, whose name isn't empty

@@ -2,7 +2,7 @@
 ghost use Rattle.std.specs.Prelude.{◌≡◌, IfOk, string_bytes, map, option_map};
 ghost use Rattle.formail_top.specs.Words.{takes_text, takes_more, with_text};
 ghost use Rattle.formail_top.specs.Words.{with_rest, with_split, letters, number_for, with_skip, with_total};
-ghost use Rattle.formail_top.specs.Words.{behind_minus, group, one_word, program_for, argument_for};
+ghost use Rattle.formail_top.specs.Words.{after_minus, group, one_word, program_for, argument_for};
 ghost use Rattle.formail_top.specs.Words.{waiting, with_setting, Adds, settings_of};
 ghost use Rattle.formail_top.specs.declared.settings.Waits.TheVariants.{Ready, Argument};
 
@@ -138,13 +138,13 @@ fn take_total(settings: &mut Vec<Setting>, text: &[u8]) -> Result<Waits, Memory>
 }
 
 // What stands after a `-`: a number, or letters.
-fn take_behind_minus(
+fn take_after_minus(
     alloc: Global,
     settings: &mut Vec<Setting>,
     rest: &[u8],
 ) -> Result<Waits, Memory>
     ensures { IfOk result
-        (λ waits. Adds (behind_minus rest.now) settings.old.items settings.new.items waits) }
+        (λ waits. Adds (after_minus rest.now) settings.old.items settings.new.items waits) }
 {
     match rest {
         [] => Ok(Waits::Unread),
@@ -159,7 +159,7 @@ fn take_group(alloc: Global, settings: &mut Vec<Setting>, word: &[u8]) -> Result
 {
     match word {
         [b'+', rest @ ..] => take_skip(settings, rest),
-        [b'-', rest @ ..] => take_behind_minus(alloc, settings, rest),
+        [b'-', rest @ ..] => take_after_minus(alloc, settings, rest),
         _ => Ok(Waits::Unread),
     }
 }
@@ -188,7 +188,7 @@ fn argument(alloc: Global, word: &[u8]) -> Result<Option<Setting>, Memory>
 }
 
 // Adds the setting, if there is one, after which words for a program stand.
-fn add_behind(settings: &mut Vec<Setting>, setting: Option<Setting>) -> Result<Waits, Memory>
+fn add_after(settings: &mut Vec<Setting>, setting: Option<Setting>) -> Result<Waits, Memory>
     ensures { IfOk result
         (λ waits. Adds (with_setting setting (waiting Argument)) settings.old.items settings.new.items waits) }
 {
@@ -217,11 +217,11 @@ fn take_word(
         }
         Waits::Program => {
             let setting = program(alloc, word)?;
-            add_behind(settings, setting)
+            add_after(settings, setting)
         }
         Waits::Argument => {
             let setting = argument(alloc, word)?;
-            add_behind(settings, setting)
+            add_after(settings, setting)
         }
         Waits::Unread => Ok(Waits::Unread),
     }

@@ -56,7 +56,7 @@ pub record Examples : Type 0 where
   pub all_of_ascii : is_usable (range_with_len 1 127) ≡ true
   -- a name is seen from a folder, unless it begins with `/` or the folder is `.`
   pub in_folder : full_name (codes "Mail") (codes "mbox") ≡ codes "Mail/mbox"
-  pub behind_slash : full_name (codes "/h/") (codes "mbox") ≡ codes "/h/mbox"
+  pub after_slash : full_name (codes "/h/") (codes "mbox") ≡ codes "/h/mbox"
   pub from_root : full_name (codes "Mail") (codes "/mbox") ≡ codes "/mbox"
   pub working_folder : full_name (codes ".") (codes "mbox") ≡ codes "mbox"
   pub dot_and_slash : full_name (codes "./") (codes "mbox") ≡ codes "./mbox"

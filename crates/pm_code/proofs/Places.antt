@@ -5,7 +5,7 @@ use Rattle.pm_recipe.specs.Tree.{Top, Trees, nil, cons, ◌⧺◌, Tree, Assign,
 use Rattle.pm_code.specs.Flat.{Flat, Does, Enters, Leaves, written, written_one, written_recipe}
 use Rattle.pm_code.specs.Ahead.{first, others, onto, lists_of}
 use Rattle.pm_code.specs.Between.{IsBetween, StandsAt, Nothing, Single, Blocked}
-use Rattle.pm_code.proofs.Reading.{onto_nil, behind_nil}
+use Rattle.pm_code.proofs.Reading.{onto_nil, after_nil}
 
 seam_of : (before more : List Flat) (x : Flat) → slice_get (before ++ x ∷ more) (length before) ≡ Some x
 seam_of [] more x = refl
@@ -89,7 +89,7 @@ between-ahead steps n e l (Single at end tree trees here single rest) =
 between-ahead steps n e l (Blocked at leave end top inner trees here body there rest) =
     let closing : lists_of (drop leave steps) ≡ nil ∷ lists_of (drop (leave + 1) steps) = ap lists_of (from_at steps leave (Leaves at) there) in
     let inside : lists_of (drop (at + 1) steps) ≡ inner ∷ lists_of (drop (leave + 1) steps) =
-    between-ahead steps (at + 1) leave inner body ∙ ap (onto inner) closing ∙ ap (λ t. t ∷ lists_of (drop (leave + 1) steps)) (behind_nil inner) in
+    between-ahead steps (at + 1) leave inner body ∙ ap (onto inner) closing ∙ ap (λ t. t ∷ lists_of (drop (leave + 1) steps)) (after_nil inner) in
     ap lists_of (from_at steps at (Enters top leave) here)
     ∙ ap (λ l. cons (Recipe top (Block (first l))) (first (others l)) ∷ others (others l)) inside
     ∙ ap (λ l. cons (Recipe top (Block inner)) (first l) ∷ others l) (between-ahead steps (leave + 1) end trees rest)

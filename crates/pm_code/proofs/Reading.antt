@@ -40,11 +40,11 @@ mutual
       let end = at + 1 + length inner in
       ap (λ l. lists_of (Enters top end ∷ l)) (append_assoc inner (Leaves at ∷ []) more)
       ∙ ap (λ ls. cons (Recipe top (Block (first ls))) (first (others ls)) ∷ others (others ls)) (lists-written (at + 1) trees (Leaves at ∷ more))
-      ∙ ap (λ t. cons (Recipe top (Block t)) (first (lists_of more)) ∷ others (lists_of more)) (behind_nil trees)
+      ∙ ap (λ t. cons (Recipe top (Block t)) (first (lists_of more)) ∷ others (lists_of more)) (after_nil trees)
 
-  pub behind_nil : (trees : Trees) → trees ⧺ nil ≡ trees
-  behind_nil nil = refl
-  behind_nil (cons tree trees) = ap (cons tree) (behind_nil trees)
+  pub after_nil : (trees : Trees) → trees ⧺ nil ≡ trees
+  after_nil nil = refl
+  after_nil (cons tree trees) = ap (cons tree) (after_nil trees)
 
 one_on : (n : ℕ) → n + 1 ≡ suc n
 one_on n = omega arith
@@ -124,7 +124,7 @@ right-whole trees = ap (ends_right 0) (sym (append-nil (written 0 trees))) ∙ r
 
 -- what is ahead of the code of statements is these statements
 pub lists-whole : (trees : Trees) → lists_of (written 0 trees) ≡ trees ∷ []
-lists-whole trees = ap lists_of (sym (append-nil (written 0 trees))) ∙ lists-written 0 trees [] ∙ ap (λ t. t ∷ []) (behind_nil trees)
+lists-whole trees = ap lists_of (sym (append-nil (written 0 trees))) ∙ lists-written 0 trees [] ∙ ap (λ t. t ∷ []) (after_nil trees)
 
 nth-others : (k : ℕ) (es : List ℕ) → nth k (others es) ≡ nth (suc k) es
 nth-others zero [] = refl

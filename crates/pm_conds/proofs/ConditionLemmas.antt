@@ -21,7 +21,7 @@ use Rattle.pm_journal.specs.declared.children.RunEnd.{RunEnd}
 use Rattle.pm_journal.proofs.ActPlans.{executes_then}
 use Rattle.pm_journal.proofs.PlanLeads.{leads_itself, leads_on, leads_to_end, leads_to_want}
 use Rattle.pm_journal.proofs.WantsMemory.{executes_nothing, out_front, out_then, out_anywhere}
-use Rattle.pm_meaning.specs.Leads.{Asking, asking_of, asked, behind_blanks}
+use Rattle.pm_meaning.specs.Leads.{Asking, asking_of, asked, after_blanks}
 use Rattle.pm_meaning.specs.Evaluating.{course_of, judged_one, test_outcome, exited, is_expanded, is_program, question_by, with_score, is_weighted}
 use Rattle.pm_meaning.specs.Searching.{input_in}
 use Rattle.pm_meaning.specs.Weighing.{end_of_all}
@@ -126,26 +126,26 @@ expanded_front (suc n) flags asking front p some is dollar =
     ∙ if_yes (is_expanded (asked asking).text) (expanded (drop 1 (asked asking).text) (asked asking).question p (λ next q. comes_within n flags next q)) (tested flags (asked asking) p) (ap (λ f. is_expanded f.text) is ∙ dollar))
 
 -- what comes after the commands of such a text
-abbrev pub behind_commands : List ℕ → Question → (Asking → Mind → Plan Come) → Outputs → Plan Come
-behind_commands text question go_on = λ ran. read_again text ran.outputs question ran.mind go_on
+abbrev pub after_commands : List ℕ → Question → (Asking → Mind → Plan Come) → Outputs → Plan Come
+after_commands text question go_on = λ ran. read_again text ran.outputs question ran.mind go_on
 
 pub reads_again : (text shown value : List ℕ) (outputs : List (List ℕ)) (question : Question) (p : Mind) (go_on : Asking → Mind → Plan Come) → is_too_long Quoted text p.vars outputs ≡ false
-    → value ≡ first_word (words_in Quoted p.vars outputs text) → shown ≡ behind_blanks value → go_on (asking_of shown question) p ≡ read_again text outputs question p go_on
+    → value ≡ first_word (words_in Quoted p.vars outputs text) → shown ≡ after_blanks value → go_on (asking_of shown question) p ≡ read_again text outputs question p go_on
 reads_again text shown value outputs question p go_on fits is same =
-    ap (λ t. go_on (asking_of t question) p) (same ∙ ap behind_blanks is)
+    ap (λ t. go_on (asking_of t question) p) (same ∙ ap after_blanks is)
     ∙ if_no (is_too_long Quoted text p.vars outputs) (Ends (come_with (TooLong (length_in Quoted text p.vars outputs)) p))
-    (go_on (asking_of (behind_blanks (first_word (words_in Quoted p.vars outputs text))) question) p) fits
+    (go_on (asking_of (after_blanks (first_word (words_in Quoted p.vars outputs text))) question) p) fits
 
 pub reads_too_long : (text : List ℕ) (size : ℕ) (outputs : List (List ℕ)) (question : Question) (p : Mind) (go_on : Asking → Mind → Plan Come) → is_too_long Quoted text p.vars outputs ≡ true
     → size ≡ length_in Quoted text p.vars outputs → Ends (come_with (TooLong size) p) ≡ read_again text outputs question p go_on
 reads_too_long text size outputs question p go_on long is =
     ap (λ n. Ends (come_with (TooLong n) p)) is
     ∙ if_yes (is_too_long Quoted text p.vars outputs) (Ends (come_with (TooLong (length_in Quoted text p.vars outputs)) p))
-    (go_on (asking_of (behind_blanks (first_word (words_in Quoted p.vars outputs text))) question) p) long
+    (go_on (asking_of (after_blanks (first_word (words_in Quoted p.vars outputs text))) question) p) long
 
 -- what comes after a program that was asked
-abbrev pub behind_program : List ℕ → Question → Mind → Reply → Plan Come
-behind_program text question p reply = tell_run (run_end reply) text (with_code reply p) (come_with (exited question (code_of (run_end reply))) (with_code reply p))
+abbrev pub after_program : List ℕ → Question → Mind → Reply → Plan Come
+after_program text question p reply = tell_run (run_end reply) text (with_code reply p) (come_with (exited question (code_of (run_end reply))) (with_code reply p))
 
 -- the same by how it ended
 abbrev by_end : List ℕ → Question → Mind → RunEnd → Plan Come
@@ -160,18 +160,18 @@ module _ (text : List ℕ) (question : Question) (end : RunEnd) (p q : Mind) (re
   abbrev last : Come
   last = come_with (exited question (code_of end)) q
 
-  behind_is : IsOf → tell_run end text q last ≡ behind_program text question p reply
+  behind_is : IsOf → tell_run end text q last ≡ after_program text question p reply
   behind_is is = ap (λ m. tell_run end text m (come_with (exited question (code_of end)) m)) is.1 ∙ ap (by_end text question p) is.0
 
   pub program_told : IsOf → (outcome : Outcome) (x y : JournalState) (a b : View) → outcome ≡ exited question (code_of end) → Executes (tell_run end text q told) tt x y a b
-      → Executes (behind_program text question p reply) (come_with outcome q) x y a b
+      → Executes (after_program text question p reply) (come_with outcome q) x y a b
   program_told is outcome x y a b same h =
       subst (λ plan. Executes plan (come_with outcome q) x y a b) (behind_is is)
       (subst (λ o. Executes (tell_run end text q last) (come_with o q) x y a b) (sym same)
       (subst (λ plan. Executes plan last x y a b) (told_then (run_fault end text) q last)
       (executes_then (tell_run end text q told) (λ _. Ends last) told last x y y a b b h (executes_nothing last y y b refl))))
 
-  pub program_untold : IsOf → (x y : JournalState) (a b : View) → OutOfMemory (tell_run end text q told) x y a b → OutOfMemory (behind_program text question p reply) x y a b
+  pub program_untold : IsOf → (x y : JournalState) (a b : View) → OutOfMemory (tell_run end text q told) x y a b → OutOfMemory (after_program text question p reply) x y a b
   program_untold is x y a b h =
       subst (λ plan. OutOfMemory plan x y a b) (behind_is is)
       (subst (λ plan. OutOfMemory plan x y a b) (told_then (run_fault end text) q last) (out_front (tell_run end text q told) (λ _. Ends last) x y a b h))
@@ -187,31 +187,31 @@ module _ (command : Command) (input text : List ℕ) (flags : Flags) (question :
   named = input_in question.scope (seen flags p)
 
   pub program_unrun : (x y : JournalState) (a b : View) → input ≡ named → OutOfMemory (asks input) x y a b → OutOfMemory (ask_program command text flags question p) x y a b
-  program_unrun x y a b e h = out_front (asks named) (behind_program text question p) x y a b (subst (λ i. OutOfMemory (asks i) x y a b) e h)
+  program_unrun x y a b e h = out_front (asks named) (after_program text question p) x y a b (subst (λ i. OutOfMemory (asks i) x y a b) e h)
 
   module _ (reply : Reply) where
-    pub program_then : (outcome : Outcome) (q : Mind) (x y z : JournalState) (a b c : View) → input ≡ named → Executes (asks input) reply x y a b → Executes (behind_program text question p reply) (come_with outcome q) y z b c
+    pub program_then : (outcome : Outcome) (q : Mind) (x y z : JournalState) (a b c : View) → input ≡ named → Executes (asks input) reply x y a b → Executes (after_program text question p reply) (come_with outcome q) y z b c
         → Executes (ask_program command text flags question p) (come_with outcome q) x z a c
     program_then outcome q x y z a b c e h k =
-        executes_then (asks named) (behind_program text question p) reply (come_with outcome q) x y z a b c (subst (λ i. Executes (asks i) reply x y a b) e h) k
+        executes_then (asks named) (after_program text question p) reply (come_with outcome q) x y z a b c (subst (λ i. Executes (asks i) reply x y a b) e h) k
 
-    pub program_then_out : (x y z : JournalState) (a b c : View) → input ≡ named → Executes (asks input) reply x y a b → OutOfMemory (behind_program text question p reply) y z b c → OutOfMemory (ask_program command text flags question p) x z a c
-    program_then_out x y z a b c e h k = out_then (asks named) (behind_program text question p) reply x y z a b c (subst (λ i. Executes (asks i) reply x y a b) e h) k
+    pub program_then_out : (x y z : JournalState) (a b c : View) → input ≡ named → Executes (asks input) reply x y a b → OutOfMemory (after_program text question p reply) y z b c → OutOfMemory (ask_program command text flags question p) x z a c
+    program_then_out x y z a b c e h k = out_then (asks named) (after_program text question p) reply x y z a b c (subst (λ i. Executes (asks i) reply x y a b) e h) k
 
 -- what comes after a program's line
-abbrev pub behind_line : List ℕ → Flags → Question → Read → Plan Come
-behind_line text flags question = λ read. by_line read.line text flags question read.mind
+abbrev pub after_line : List ℕ → Flags → Question → Read → Plan Come
+after_line text flags question = λ read. by_line read.line text flags question read.mind
 
 -- a line that can't be run
 pub line_known : (text : List ℕ) (flags : Flags) (question : Question) (p q : Mind) (line : ProgramLine) (outcome : Outcome) (x y : JournalState) (a b : View) → by_line line text flags question q ≡ Ends (come_with outcome q)
     → Executes (read_line text p) (read_with line q) x y a b → Executes (ask_line text flags question p) (come_with outcome q) x y a b
 line_known text flags question p q line outcome x y a b e h =
-    executes_then (read_line text p) (behind_line text flags question) (read_with line q) (come_with outcome q) x y y a b b h
+    executes_then (read_line text p) (after_line text flags question) (read_with line q) (come_with outcome q) x y y a b b h
     (subst (λ plan. Executes plan (come_with outcome q) y y b b) (sym e) (executes_nothing (come_with outcome q) y y b refl))
 
 -- a test that needs no program
 pub plain_test : (flags : Flags) (asking : Asking) (p : Mind) → is_program asking.text ≡ false → Ends (come_with (test_outcome asking (seen flags p)) p) ≡ tested flags asking p
-plain_test flags asking p e = if_no (is_program asking.text) (ask_line (behind_blanks (drop 1 asking.text)) flags asking.question p) (Ends (come_with (test_outcome asking (seen flags p)) p)) e
+plain_test flags asking p e = if_no (is_program asking.text) (ask_line (after_blanks (drop 1 asking.text)) flags asking.question p) (Ends (come_with (test_outcome asking (seen flags p)) p)) e
 
 -- a weight out of its range, or a question
 pub bad_weight : (condition : Condition) (flags : Flags) (p : Mind) (x : JournalState) (s : View) → None ≡ question_by condition.weight → Executes (comes_of condition flags p) (come_with Defective p) x x s s
@@ -236,10 +236,10 @@ stopped_at n flags asking front p x s none is dollar =
     ends_same (Ends (come_with Defective p)) (comes_within n flags asking p) (come_with Defective p) x x s s (stopped_front n flags asking front p none is dollar) (executes_nothing (come_with Defective p) x x s refl)
 
 -- a text after `$` that expands to too much
-pub long_behind : (text : List ℕ) (size : ℕ) (outputs : List (List ℕ)) (question : Question) (p q : Mind) (go_on : Asking → Mind → Plan Come) (x y : JournalState) (a b : View)
+pub long_after : (text : List ℕ) (size : ℕ) (outputs : List (List ℕ)) (question : Question) (p q : Mind) (go_on : Asking → Mind → Plan Come) (x y : JournalState) (a b : View)
     → Executes (outputs_of (commands_in Quoted text) p) (outputs_with outputs q) x y a b → is_too_long Quoted text q.vars outputs ≡ true → size ≡ length_in Quoted text q.vars outputs
     → Executes (expanded text question p go_on) (come_with (TooLong size) q) x y a b
-long_behind text size outputs question p q go_on x y a b h long is =
+long_after text size outputs question p q go_on x y a b h long is =
     let last = come_with (TooLong size) q in
-    executes_then (outputs_of (commands_in Quoted text) p) (behind_commands text question go_on) (outputs_with outputs q) last x y y a b b h
+    executes_then (outputs_of (commands_in Quoted text) p) (after_commands text question go_on) (outputs_with outputs q) last x y y a b b h
     (ends_same (Ends last) (read_again text outputs question q go_on) last y y b b (reads_too_long text size outputs question q go_on long is) (executes_nothing last y y b refl))

@@ -18,7 +18,7 @@ use Rattle.pm_journal.proofs.PlanJoin.{plays_then}
 use Rattle.pm_journal.proofs.PlanLeads.{leads_itself, leads_on, leads_to_end}
 use Rattle.pm_journal.proofs.WantsMemory.{executes_nothing}
 use Rattle.pm_meaning.specs.Evaluating.{Course, course_of, judged_one, with_score, is_weighted}
-use Rattle.pm_meaning.specs.Judging.{Come, come_with, comes_of, Judged, judged_with, judged_by, judge_each, with_table, Held, behind_judgement}
+use Rattle.pm_meaning.specs.Judging.{Come, come_with, comes_of, Judged, judged_with, judged_by, judge_each, with_table, Held, after_judgement}
 use Rattle.pm_meaning.specs.Minds.{Mind}
 use Rattle.pm_meaning.specs.Weighing.{end_of_all}
 use Rattle.pm_meaning.specs.declared.question.Judgement.{Judgement}
@@ -153,9 +153,9 @@ heard_all conditions flags p judged x y a b before after h = record {
 
 -- and then what came of them was told
 pub held_heard : (conditions : List Condition) (flags : Flags) (p : Mind) (judged : Judged) {A : Type 0} (held : A → Held) (result : Result A Memory) (x y z : JournalState) (b c : View) (before after : Option (List Note))
-    → Hears conditions flags p judged x y before after → IfOk result (λ a. Executes (behind_judgement judged) (held a) y z b c) → IfOk result (λ a. HearsHeld conditions flags p (held a) x z before after)
+    → Hears conditions flags p judged x y before after → IfOk result (λ a. Executes (after_judgement judged) (held a) y z b c) → IfOk result (λ a. HearsHeld conditions flags p (held a) x z before after)
 held_heard conditions flags p judged held result x y z b c before after h k =
-    ok_map result (λ a. Executes (behind_judgement judged) (held a) y z b c) (λ a. HearsHeld conditions flags p (held a) x z before after)
+    ok_map result (λ a. Executes (after_judgement judged) (held a) y z b c) (λ a. HearsHeld conditions flags p (held a) x z before after)
     (λ a told. record { judged = judged; middle = y; hears = h; more = told.more; entries = told.entries; plays = told.plays }) k
 
 -- the two parts of a plan that was carried out

@@ -7,7 +7,7 @@ use Rattle.pm_recipe.specs.declared.tree.Flags.{Flags}
 use Rattle.pm_subst.specs.Commands.{commands_in}
 use Rattle.pm_subst.specs.declared.kinds.Mode.TheVariants.{Quoted, Many}
 use Rattle.pm_subst.specs.Words.{words_in}
-use Rattle.pm_meaning.specs.Leads.{Asking, asking_of, asked, behind_blanks}
+use Rattle.pm_meaning.specs.Leads.{Asking, asking_of, asked, after_blanks}
 use Rattle.pm_meaning.specs.declared.question.Outcome.TheVariants as outcome
 use Rattle.pm_meaning.specs.Evaluating.{question_by, is_weighted, is_program, is_expanded, test_outcome}
 use Rattle.pm_meaning.specs.declared.question.Question.{Question}
@@ -25,7 +25,7 @@ use Rattle.pm_meaning.specs.Judging.{come_with, seen, by_line, ask_line, tested,
 use Rattle.pm_meaning.specs.declared.process.ProgramLine.{ProgramLine}
 use Rattle.pm_meaning.specs.declared.process.ProgramLine.TheVariants as line
 use Rattle.pm_meaning.specs.declared.question.Judgement.TheVariants.{Matched, Unmatched, Defective, TooLong}
-use Rattle.pm_meaning.specs.Judging.{told_judgement, behind_judgement, holding}
+use Rattle.pm_meaning.specs.Judging.{told_judgement, after_judgement, holding}
 use Rattle.pm_meaning.proofs.Beside.{WritesNothing, nothing_then}
 use Rattle.pm_meaning.proofs.QuietLines.{quiet_if, quiet_say, quiet_maybe, quiet_outputs, quiet_read_line}
 
@@ -40,13 +40,13 @@ quiet_ask_line text flags question p = nothing_then (read_line text p) _ (quiet_
 
 quiet_tested : (flags : Flags) (asking : Asking) (p : Mind) → WritesNothing (tested flags asking p)
 quiet_tested flags asking p =
-    quiet_if (is_program asking.text) (ask_line (behind_blanks (drop 1 asking.text)) flags asking.question p) (Ends (come_with (test_outcome asking (seen flags p)) p))
-    (quiet_ask_line (behind_blanks (drop 1 asking.text)) flags asking.question p) tt
+    quiet_if (is_program asking.text) (ask_line (after_blanks (drop 1 asking.text)) flags asking.question p) (Ends (come_with (test_outcome asking (seen flags p)) p))
+    (quiet_ask_line (after_blanks (drop 1 asking.text)) flags asking.question p) tt
 
 quiet_again : (text : List ℕ) (outputs : List (List ℕ)) (question : Question) (p : Mind) (go_on : Asking → Mind → Plan Come) → ((a : Asking) (q : Mind) → WritesNothing (go_on a q)) → WritesNothing (read_again text outputs question p go_on)
 quiet_again text outputs question p go_on h =
     quiet_if (is_too_long Quoted text p.vars outputs) (Ends (come_with (outcome.TooLong (length_in Quoted text p.vars outputs)) p))
-    (go_on (asking_of (behind_blanks (first_word (words_in Quoted p.vars outputs text))) question) p) tt (h _ p)
+    (go_on (asking_of (after_blanks (first_word (words_in Quoted p.vars outputs text))) question) p) tt (h _ p)
 
 quiet_expanded : (text : List ℕ) (question : Question) (p : Mind) (go_on : Asking → Mind → Plan Come) → ((a : Asking) (q : Mind) → WritesNothing (go_on a q)) → WritesNothing (expanded text question p go_on)
 quiet_expanded text question p go_on h =
@@ -85,4 +85,4 @@ quiet_judgement (TooLong size) p = quiet_say p _ _
 
 -- nor does what is told of them
 pub quiet_holding : (conditions : List Condition) (flags : Flags) (p : Mind) → WritesNothing (holding conditions flags p)
-quiet_holding conditions flags p = nothing_then (judge conditions flags p) behind_judgement (quiet_judge conditions flags p) (λ judged. quiet_judgement judged.verdict judged.mind)
+quiet_holding conditions flags p = nothing_then (judge conditions flags p) after_judgement (quiet_judge conditions flags p) (λ judged. quiet_judgement judged.verdict judged.mind)

@@ -8,7 +8,7 @@ use Rattle.pm_journal.specs.JournalState.{JournalState}
 use Rattle.pm_journal.specs.Plan.{Plan, Ends, Asks, and_then, Plays}
 use Rattle.pm_journal.specs.declared.acts.Entry.{Entry}
 use Rattle.pm_meaning.specs.Evaluating.{Course, judged_one, is_weighted}
-use Rattle.pm_meaning.specs.Judging.{Come, comes_of, Judged, judge, scored_with, with_table, Held, behind_judgement}
+use Rattle.pm_meaning.specs.Judging.{Come, comes_of, Judged, judge, scored_with, with_table, Held, after_judgement}
 use Rattle.pm_meaning.specs.Minds.{Mind}
 use Rattle.pm_meaning.specs.Weighing.{end_of_all}
 use Rattle.pm_conds.specs.declared.observer.Note.{Note}
@@ -76,7 +76,7 @@ pub record HearsHeld (conditions : List Condition) (flags : Flags) (p : Mind) (h
   pub hears : Hears conditions flags p judged old middle before after
   pub more : List Entry
   pub entries : new.entries ≡ middle.entries ++ more
-  pub plays : Plays (behind_judgement judged) more held
+  pub plays : Plays (after_judgement judged) more held
 
 -- what is judged with notes is what the meaning judges
 abbrev pub NotesAreMeant : Type 0

@@ -1,7 +1,7 @@
 //! What stands before the test of a condition: `!`, and names with `??`.
 ghost use Rattle.std.specs.Prelude.{◌≡◌, ◌<◌, ◌≤◌, IfOk, IfSome, length, position, Some, None};
 ghost use Rattle.std.specs.List.{position_or_len};
-ghost use Rattle.pm_meaning.specs.Leads.{is_no_blank, behind_blanks, ends_name};
+ghost use Rattle.pm_meaning.specs.Leads.{is_no_blank, after_blanks, ends_name};
 ghost use Rattle.pm_meaning.specs.Leads;
 ghost use Rattle.pm_meaning.specs.Leads.{is_named, behind_name};
 ghost use Rattle.pm_meaning.specs.Leads.{Asking, next_asking, asked, asking_of};

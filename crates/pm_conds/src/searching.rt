@@ -4,7 +4,7 @@ ghost use Rattle.pm_message.specs.Area.{area_of};
 ghost use Rattle.pm_regex.proofs.FoundOrNot.{found_of};
 ghost use Rattle.pm_meaning.specs.Searching.{Sight, sight_of, part_of, area_in, match_text};
 ghost use Rattle.pm_meaning.specs.Searching;
-ghost use Rattle.pm_meaning.specs.Searching.{match_in, behind_newline, before_newline, bytes_in, input_in};
+ghost use Rattle.pm_meaning.specs.Searching.{match_in, after_newline, before_newline, bytes_in, input_in};
 ghost use Rattle.pm_meaning.specs.Searching.{value_or_empty, expression_of, IsWithin};
 ghost use Rattle.pm_meaning.specs.Evaluating.{compared_length};
 ghost use Rattle.pm_meaning.specs.Weighing.{sought_outcome};
@@ -46,7 +46,7 @@ fn value_in<'a>(vars: &'a Vars, name: &[u8]) -> &'a [u8]
 
 /// The text without a newline at its front.
 fn past_newline(text: &[u8]) -> &[u8]
-    ensures { result.now ≡ behind_newline text.now }
+    ensures { result.now ≡ after_newline text.now }
 {
     if text.starts_with(b"\n") {
         &text[1..]

@@ -31,30 +31,30 @@ apart_here : (b c : Bool) → cond b true c ≡ false → b ≡ false
 apart_here true c h = h
 apart_here false c h = refl
 
-apart_behind : (b c : Bool) → cond b true c ≡ false → c ≡ false
-apart_behind true c h = let e : true ≡ false = h in absurd (cc)
-apart_behind false c h = h
+apart_after : (b c : Bool) → cond b true c ≡ false → c ≡ false
+apart_after true c h = let e : true ≡ false = h in absurd (cc)
+apart_after false c h = h
 
 -- the name goes where it stands first
 pub without-behind : (a b : List (List ℕ)) (name : List ℕ) → holds_name a name ≡ false → without (a ++ name ∷ b) name ≡ a ++ b
 without-behind [] b name h = ap (λ t. cond t b (name ∷ without b name)) (same_name name)
 without-behind (x ∷ xs) b name h =
     ap (λ t. cond t (xs ++ name ∷ b) (x ∷ without (xs ++ name ∷ b) name)) (apart_here (bytes_eq x name) (holds_name xs name) h)
-    ∙ ap (λ l. x ∷ l) (without-behind xs b name (apart_behind (bytes_eq x name) (holds_name xs name) h))
+    ∙ ap (λ l. x ∷ l) (without-behind xs b name (apart_after (bytes_eq x name) (holds_name xs name) h))
 
 -- a name that isn't held is no loss
 pub without-none : (a : List (List ℕ)) (name : List ℕ) → holds_name a name ≡ false → without a name ≡ a
 without-none [] name h = refl
 without-none (x ∷ xs) name h =
     ap (λ t. cond t xs (x ∷ without xs name)) (apart_here (bytes_eq x name) (holds_name xs name) h)
-    ∙ ap (λ l. x ∷ l) (without-none xs name (apart_behind (bytes_eq x name) (holds_name xs name) h))
+    ∙ ap (λ l. x ∷ l) (without-none xs name (apart_after (bytes_eq x name) (holds_name xs name) h))
 
 turned_round : (pre post : List (List ℕ)) (x : List ℕ) → reverse (pre ++ x ∷ post) ≡ reverse post ++ x ∷ reverse pre
 turned_round pre post x = reverse-append pre (x ∷ post) ∙ ap (λ l. l ++ reverse pre) (reverse-append (x ∷ []) post) ∙ append_assoc (reverse post) (x ∷ []) (reverse pre)
 
 -- the last place at which a name stands is the first from after
-pub given_from_behind : (pre post : List (List ℕ)) (x name : List ℕ) → bytes_eq x name ≡ true → holds_name post name ≡ false → reverse (pre ++ post) ≡ without (reverse (pre ++ x ∷ post)) name
-given_from_behind pre post x name same apart =
+pub given_from_after : (pre post : List (List ℕ)) (x name : List ℕ) → bytes_eq x name ≡ true → holds_name post name ≡ false → reverse (pre ++ post) ≡ without (reverse (pre ++ x ∷ post)) name
+given_from_after pre post x name same apart =
     let e : x ≡ name = (bytes_eq-Decides x name).0 same in
     reverse-append pre post
     ∙ sym (without-behind (reverse post) (reverse pre) name (holds-reverse post name ∙ apart))
@@ -76,7 +76,7 @@ parted items i h = sym (take-append-drop i items) ∙ ap (λ l. take i items ++ 
 pub given_at : (items new : List (List ℕ)) (i left : ℕ) (name : List ℕ) → i < length items → left ≡ i + 1 → bytes_eq (get_or items i []) name ≡ true → holds_name (drop left items) name ≡ false
     → new ≡ take i items ++ drop (i + 1) items → reverse new ≡ without (reverse items) name
 given_at items new i left name h l same apart e =
-    ap reverse e ∙ given_from_behind (take i items) (drop (i + 1) items) (get_or items i []) name same (ap (λ n. holds_name (drop n items) name) (sym l) ∙ apart)
+    ap reverse e ∙ given_from_after (take i items) (drop (i + 1) items) (get_or items i []) name same (ap (λ n. holds_name (drop n items) name) (sym l) ∙ apart)
     ∙ ap (λ k. without (reverse k) name) (sym (parted items i h))
 
 pub held_at : (items : List (List ℕ)) (i : ℕ) (name : List ℕ) → i < length items → bytes_eq (get_or items i []) name ≡ true → true ≡ holds_name (reverse items) name

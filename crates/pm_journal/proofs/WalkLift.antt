@@ -46,15 +46,15 @@ unfinished_on {S} {X} step (suc n) s t es fs calls h k =
 -- an act that a plan of two parts wants is wanted in the first, or after it
 data WantsIn {R S : Type 0} (p : Plan R) (f : R → Plan S) (es : List Entry) (act : Act) : Type 0 where
   in_first : Wants p es act → WantsIn p f es act
-  behind_it : (middle : R) (front rest : List Entry) → es ≡ front ++ rest → Plays p front middle → Wants (f middle) rest act → WantsIn p f es act
+  after_it : (middle : R) (front rest : List Entry) → es ≡ front ++ rest → Plays p front middle → Wants (f middle) rest act → WantsIn p f es act
 
 one_later : {R S : Type 0} (wanted : Act) (go_on : Reply → Plan R) (f : R → Plan S) (e : Entry) (es : List Entry) (act : Act) → e.act ≡ wanted → IsReplyTo wanted e.reply
     → WantsIn (go_on e.reply) f es act → WantsIn (Asks wanted go_on) f (e ∷ es) act
 one_later wanted go_on f e es act is fits (in_first w) = in_first (is, fits, w)
-one_later wanted go_on f e es act is fits (behind_it m front rest whole p w) = behind_it m (e ∷ front) rest (ap (λ l. e ∷ l) whole) (is, fits, p) w
+one_later wanted go_on f e es act is fits (after_it m front rest whole p w) = after_it m (e ∷ front) rest (ap (λ l. e ∷ l) whole) (is, fits, p) w
 
 wants_in : {R S : Type 0} (p : Plan R) (f : R → Plan S) (es : List Entry) (act : Act) → Wants (and_then p f) es act → WantsIn p f es act
-wants_in (Ends r) f es act w = behind_it r [] es refl refl w
+wants_in (Ends r) f es act w = after_it r [] es refl refl w
 wants_in (Asks wanted go_on) f [] act w = in_first w
 wants_in (Asks wanted go_on) f (e ∷ es) act w = one_later wanted go_on f e es act w.0 w.1 (wants_in (go_on e.reply) f es act w.2)
 
@@ -115,18 +115,18 @@ module _ {S T X Y : Type 0} (step : S → Plan (Next S X)) (outer : T → Plan (
             (unfinished_go outer (at s) (at v) parts.front parts.rest calls (goes_within s v parts.front a) (ended_within n v parts.rest end calls b none))
       ] parts.plays_front parts.plays_rest
 
-  wanted_behind : (n : ℕ) (s : S) (m : Next S X) (front rest : List Entry) (calls : List Logged) (act : Act) → UnfinishedCalls act calls
+  wanted_after : (n : ℕ) (s : S) (m : Next S X) (front rest : List Entry) (calls : List Logged) (act : Act) → UnfinishedCalls act calls
       → ((v : S) → WantsAct (walk step n v) rest calls → IsUnfinished outer (at v) rest calls)
       → Plays (step s) front m → Wants (on_with step n m) rest act → IsUnfinished outer (at s) (front ++ rest) calls
-  wanted_behind n s (Stop x) front rest calls act leaves again p k = absurd k
-  wanted_behind n s (Go v) front rest calls act leaves again p k =
+  wanted_after n s (Stop x) front rest calls act leaves again p k = absurd k
+  wanted_after n s (Go v) front rest calls act leaves again p k =
       unfinished_go outer (at s) (at v) front rest calls (goes_within s v front p) (again v (record { wanted = act; wants = k; leaves = leaves }))
 
   wanted_within : (n : ℕ) (s : S) (es : List Entry) (calls : List Logged) (w : WantsAct (walk step n s) es calls) → IsUnfinished outer (at s) es calls
   wanted_within zero s es calls w = absurd w.wants
   wanted_within (suc n) s es calls w = elim (wants_in (step s) (on_with step n) es w.wanted w.wants) [
     | in_first k ↦ unfinished_here outer (at s) es calls (inl (record { wanted = w.wanted; wants = wants_within s es w.wanted k; leaves = w.leaves }))
-    | behind_it m front rest whole p k ↦ subst (λ l. IsUnfinished outer (at s) l calls) (sym whole) (wanted_behind n s m front rest calls w.wanted w.leaves (λ v u. wanted_within n v rest calls u) p k)
+    | after_it m front rest whole p k ↦ subst (λ l. IsUnfinished outer (at s) l calls) (sym whole) (wanted_after n s m front rest calls w.wanted w.leaves (λ v u. wanted_within n v rest calls u) p k)
   ]
 
   pub interrupted_within : (s : S) (x y : JournalState) (a b : View) → Interrupted {X = X} step s x y a b → Interrupted {X = Y} outer (at s) x y a b

@@ -85,7 +85,7 @@ pub record OfTexts : Type 0 where
   -- in an MH folder it is numbered after the greatest number there, and other names don't count
   pub mh_name : mh_candidate (codes "d") 8 2 ≡ record { at = codes "d/10"; to = None }
   pub first_in_empty : first_number [] ≡ 1
-  pub behind_greatest : first_number (codes "9" ∷ codes "12" ∷ codes "3" ∷ []) ≡ 13
+  pub after_greatest : first_number (codes "9" ∷ codes "12" ∷ codes "3" ∷ []) ≡ 13
   pub nine_digits : first_number (codes "123456789" ∷ codes "8" ∷ []) ≡ 123456790
   pub other_names : first_number (codes "2" ∷ codes "014" ∷ codes ",7" ∷ codes "1234567890" ∷ codes "8a" ∷ []) ≡ 3
 

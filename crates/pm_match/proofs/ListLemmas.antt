@@ -103,11 +103,11 @@ get_back [] ys k x lt e = absurd (omega (arith, lt))
 get_back (a ∷ xs) ys zero x lt e = e
 get_back (a ∷ xs) ys (suc k) x lt e = get_back xs ys k x (omega (arith, lt)) e
 
-get_behind : {A : Type 0} (xs ys : List A) (k : ℕ) → slice_get (xs ++ ys) (length xs + k) ≡ slice_get ys k
-get_behind [] ys k = ap (λ n. slice_get ys n) (omega arith)
-get_behind (a ∷ xs) ys k =
+get_after : {A : Type 0} (xs ys : List A) (k : ℕ) → slice_get (xs ++ ys) (length xs + k) ≡ slice_get ys k
+get_after [] ys k = ap (λ n. slice_get ys n) (omega arith)
+get_after (a ∷ xs) ys k =
     let n : length (a ∷ xs) + k ≡ suc (length xs + k) = omega arith in
-    ap (λ m. slice_get (a ∷ (xs ++ ys)) m) n ∙ get_behind xs ys k
+    ap (λ m. slice_get (a ∷ (xs ++ ys)) m) n ∙ get_after xs ys k
 
 pub get_last : {A : Type 0} (xs : List A) (y : A) → slice_get (xs ++ y ∷ []) (length xs) ≡ Some y
 get_last [] y = refl
@@ -158,10 +158,10 @@ module _ (spans : List Span) (states more : List ℕ) (bounded : AreBounded span
     (λ h.
         let low = h.1 in
         let k : length states + (h.0 - length states) ≡ h.0 = omega (arith, low, start) in
-        (h.0 - length states, sym (get_behind states more (h.0 - length states)) ∙ ap (λ n. slice_get (states ++ more) n) k ∙ h.3)),
+        (h.0 - length states, sym (get_after states more (h.0 - length states)) ∙ ap (λ n. slice_get (states ++ more) n) k ∙ h.3)),
     (λ h.
         let lt = slice_get_within more h.0 q h.1 in
-        (length states + h.0, omega (arith, start), omega (arith, end, lt), get_behind states more h.0 ∙ h.1)),
+        (length states + h.0, omega (arith, start), omega (arith, end, lt), get_after states more h.0 ∙ h.1)),
   )
 
   pub set_more : (flag : Bool) → s.goes_on ≡ flag → IsSetOf (spans ++ s ∷ []) (states ++ more) more flag (length spans)

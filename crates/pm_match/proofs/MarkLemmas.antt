@@ -5,7 +5,7 @@ use Rattle.pm_match.specs.declared.build.Program.{Program}
 use Rattle.pm_regex.specs.declared.found.Found.{Found}
 use Rattle.pm_regex.specs.Matching.{At}
 use Rattle.pm_match.specs.Search.{IsProgram}
-use Rattle.pm_regex.specs.Found.{IsPlainMatch, IsRun, place_behind}
+use Rattle.pm_regex.specs.Found.{IsPlainMatch, IsRun, place_after}
 use Rattle.pm_match.specs.Backward.{ReachesExit}
 use Rattle.pm_match.specs.Forward.{IsLeastEnd}
 use Rattle.std.specs.Prelude.{vec_len}
@@ -45,7 +45,7 @@ module _ (fold : Bool) (e : Re) (area : List ℕ) (from : ℕ) where
     past start count by = λ rest run. by rest (past_run rest run)
 
   pub one_more : (start count end : ℕ) → from < length area → IsLeastEnd fold e area from (Some end) → CountsTo fold e area start count from →
-      CountsTo fold e area start (count + 1) (place_behind from end)
+      CountsTo fold e area start (count + 1) (place_after from end)
   one_more start count end lt least by = λ rest run.
       let m : Found = record { start = from; cut = None; end = end } in
       let all = by (m ∷ rest) (

@@ -38,8 +38,8 @@ anywhere = Stop ∷ Take (test.One (Byte 97) false) 0 ∷ Fork 3 1 ∷ Fork 4 5 
 
 -- where a match that doesn't begin at the front ends, and which of the states before state 2 goes on
 pub record OfAnywhere : Type 0 where
-  pub behind_a_letter : IsReachedFrom anywhere (codes "ba") 2 0 0 2
-  pub behind_a_newline : IsReachedFrom anywhere (codes "\na") 2 0 0 2
+  pub after_a_letter : IsReachedFrom anywhere (codes "ba") 2 0 0 2
+  pub after_a_newline : IsReachedFrom anywhere (codes "\na") 2 0 0 2
   pub by_the_letter : NoneGoesOn anywhere (codes "ba") 2 1 (λ q. q ≡ 1) → ⊥
   pub by_another : NoneGoesOn anywhere (codes "ba") 2 0 (λ q. q ≡ 1)
   pub at_its_end : NoneGoesOn anywhere (codes "ba") 2 1 (λ q. q ≡ 0)

@@ -5,7 +5,7 @@ ghost use Rattle.pm_regex.specs.declared.found.Found.{Found};
 ghost use Rattle.pm_match.specs.declared.search.Search.{Search};
 ghost use Rattle.pm_match.specs.Search.{Runs};
 ghost use Rattle.pm_match.specs.Finding.{IsFirst};
-ghost use Rattle.pm_regex.specs.Found.{IsRun, place_behind};
+ghost use Rattle.pm_regex.specs.Found.{IsRun, place_after};
 ghost use Rattle.pm_match.specs.Checkpoints.{CountsTo};
 
 use crate::find::Match;
@@ -15,7 +15,7 @@ use crate::search::Search;
 /// Where the search goes on after a match: at its end, or one further if it is empty.
 fn next_place(found: Match) -> usize
     requires { found.start < 2 ^ 64 - 1 }
-    ensures { result ≡ place_behind found.start found.end }
+    ensures { result ≡ place_after found.start found.end }
 {
     if found.start == found.end {
         found.end + 1

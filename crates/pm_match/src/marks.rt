@@ -7,7 +7,7 @@ ghost use Rattle.pm_regex.specs.declared.found.Found.{Found};
 ghost use Rattle.pm_match.specs.declared.step.Step.{Step};
 ghost use Rattle.pm_match.specs.Labels.{InRange};
 ghost use Rattle.pm_match.specs.Search.{IsProgram};
-ghost use Rattle.pm_regex.specs.Found.{IsRun, place_behind};
+ghost use Rattle.pm_regex.specs.Found.{IsRun, place_after};
 ghost use Rattle.pm_match.specs.Backward.{ReachesExit, IsExitSet, AreMarks};
 ghost use Rattle.pm_match.specs.Checkpoints.{AreCheckpoints, HasRoom, CountsTo};
 ghost use Rattle.pm_match.specs.Begins.{AreRuns};
@@ -81,7 +81,7 @@ pub fn make_marks(
 /// Where the search goes on after a match.
 fn after_match(start: usize, end: usize) -> usize
     requires { end < 2 ^ 64 - 1 }
-    ensures { result ≡ place_behind start end }
+    ensures { result ≡ place_after start end }
 {
     if start == end { end + 1 } else { end }
 }

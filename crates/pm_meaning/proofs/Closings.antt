@@ -84,8 +84,8 @@ given_end [] next (e ∷ es) end h = absurd h
 given_end (name ∷ names) next [] end h = absurd h
 given_end (name ∷ names) next (e ∷ es) end h = given_end names next es end h.2
 
-told_behind : (name : List ℕ) (p : Mind) (reply : Reply) → Closes (after_giving name p reply)
-told_behind name p reply =
+told_after : (name : List ℕ) (p : Mind) (reply : Reply) → Closes (after_giving name p reply)
+told_after name p reply =
     closes_if (is_fault reply) (say_then p (couldnt_unlock_line name) p) (Ends p) (closes_said p (couldnt_unlock_line name) p) (closes_ends p)
 
 -- the lock of LOCKFILE is given back
@@ -93,14 +93,14 @@ pub global_given : (name : Option (List ℕ)) (p : Mind) → Closes (give_named 
 global_given None p = closes_ends p
 global_given (Some name) p =
     let given = after_giving name (without_global name p) in
-    closes_if (holds_name p.locks name) (and_then (ask (Unlock name)) given) (Ends p) (closes_asked (Unlock name) given tt (told_behind name (without_global name p))) (closes_ends p)
+    closes_if (holds_name p.locks name) (and_then (ask (Unlock name)) given) (Ends p) (closes_asked (Unlock name) given tt (told_after name (without_global name p))) (closes_ends p)
 
 -- the lock of a block is given back
 pub block_given : (name : Option (List ℕ)) (p : Mind) → Closes (give_maybe name p)
 block_given None p = closes_ends p
 block_given (Some name) p =
     let given = after_giving name (without_lock name p) in
-    closes_if (holds_name p.locks name) (and_then (ask (Unlock name)) given) (Ends p) (closes_asked (Unlock name) given tt (told_behind name (without_lock name p))) (closes_ends p)
+    closes_if (holds_name p.locks name) (and_then (ask (Unlock name)) given) (Ends p) (closes_asked (Unlock name) given tt (told_after name (without_lock name p))) (closes_ends p)
 
 -- the abstract is logged
 pub delivery_told : (end : End) (p : Mind) → Closes (tell_delivery end p)

@@ -7,7 +7,7 @@ use Rattle.pm_journal.specs.Plan.{Plan, Ends, and_then}
 use Rattle.pm_meaning.specs.Acting.{act_on, acted_turn, turn_after}
 use Rattle.pm_meaning.specs.Blocks.{carry_out}
 use Rattle.pm_meaning.specs.Chains.{is_admitted, passed, executed}
-use Rattle.pm_meaning.specs.Judging.{holding, behind_conditions, judge_first}
+use Rattle.pm_meaning.specs.Judging.{holding, after_conditions, judge_first}
 use Rattle.pm_meaning.specs.Minds.{Mind}
 use Rattle.pm_meaning.specs.Turns.{Turn, GoesOn, Halts, ActEnd}
 use Rattle.pm_meaning.specs.declared.acted.Acted.{Acted}
@@ -54,9 +54,9 @@ never_acted top act p = never_acting (act_on top act p)
 never_recipe : (top : Top) (act : Act) (p : Mind) → Never strays (judge_first top (λ q. carry_out top act q) p)
 never_recipe top act p =
     let acts : Mind → Plan Turn = λ q. carry_out top act q in
-    let judged : Plan Turn = and_then (holding top.conditions top.flags p) (λ held. behind_conditions top.flags acts held) in
+    let judged : Plan Turn = and_then (holding top.conditions top.flags p) (λ held. after_conditions top.flags acts held) in
     never_if strays (not (is_admitted top.flags p.chain)) (Ends (GoesOn (passed top.flags p))) judged (never_goes strays no_stray (passed top.flags p))
-    (never_then strays (holding top.conditions top.flags p) (λ held. behind_conditions top.flags acts held)
+    (never_then strays (holding top.conditions top.flags p) (λ held. after_conditions top.flags acts held)
     (λ held. never_if strays held.holds (acts (executed top.flags held.mind)) (Ends (GoesOn (passed top.flags held.mind))) (never_acted top act (executed top.flags held.mind))
     (never_goes strays no_stray (passed top.flags held.mind))))
 

@@ -29,11 +29,11 @@ use Rattle.pm_meaning.proofs.Choices.{line_told, line_out}
 use Rattle.pm_meaning.proofs.Choices.{if_yes, if_no}
 
 -- what comes after the commands of an action's lock file, and after those of its text
-abbrev pub behind_texts : Outputs → Outputs → Plan Ready
-behind_texts first second = Ends (record { lock_outputs = first.outputs; outputs = second.outputs; mind = second.mind })
+abbrev pub after_texts : Outputs → Outputs → Plan Ready
+after_texts first second = Ends (record { lock_outputs = first.outputs; outputs = second.outputs; mind = second.mind })
 
-abbrev pub behind_lock : List (List ℕ) → Outputs → Plan Ready
-behind_lock commands first = and_then (outputs_of commands first.mind) (behind_texts first)
+abbrev pub after_lock : List (List ℕ) → Outputs → Plan Ready
+after_lock commands first = and_then (outputs_of commands first.mind) (after_texts first)
 
 -- before any command
 pub commands_begin : (texts : List (List ℕ)) (p : Mind) (outputs : List (List ℕ)) (x : JournalState) (a : View) → outputs ≡ [] → LeadsTo (outputs_of texts p) (outputs_behind outputs texts p) x x a a
@@ -98,8 +98,8 @@ told_then None p next = refl
 told_then (Some text) p next = log_then (log_file p) text next
 
 -- what comes after the run of a command
-abbrev pub behind_run : List ℕ → Mind → Reply → Plan Output
-behind_run text p reply = tell_run (run_end reply) text (with_code reply p) (output_with (taken_output (output_in reply)) (with_code reply p))
+abbrev pub after_run : List ℕ → Mind → Reply → Plan Output
+after_run text p reply = tell_run (run_end reply) text (with_code reply p) (output_with (taken_output (output_in reply)) (with_code reply p))
 
 -- the same by how the run ended
 abbrev by_end : List ℕ → Mind → RunEnd → Option (List ℕ) → Plan Output
@@ -110,34 +110,34 @@ module _ (command : Command) (input text : List ℕ) (end : RunEnd) (came : Opti
   abbrev IsOf : Type 0
   IsOf = (end ≡ run_end reply) × (came ≡ output_in reply) × (q ≡ with_exit_code (code_of end) p)
 
-  behind_is : IsOf → tell_run end text q (output_with (taken_output came) q) ≡ behind_run text p reply
+  behind_is : IsOf → tell_run end text q (output_with (taken_output came) q) ≡ after_run text p reply
   behind_is is =
       ap (λ m. tell_run end text m (output_with (taken_output came) m)) is.2
       ∙ (ap (λ e. by_end text p e came) is.0 ∙ ap (by_end text p (run_end reply)) is.1)
 
-  pub told_behind : (is : IsOf) (output : List ℕ) (x y : JournalState) (a b : View) → output ≡ taken_output came → Executes (tell_run end text q told) tt x y a b → Executes (behind_run text p reply) (output_with output q) x y a b
-  told_behind is output x y a b same h =
+  pub told_after : (is : IsOf) (output : List ℕ) (x y : JournalState) (a b : View) → output ≡ taken_output came → Executes (tell_run end text q told) tt x y a b → Executes (after_run text p reply) (output_with output q) x y a b
+  told_after is output x y a b same h =
       let next = output_with (taken_output came) q in
       subst (λ plan. Executes plan (output_with output q) x y a b) (behind_is is)
       (subst (λ o. Executes (tell_run end text q next) (output_with o q) x y a b) (sym same)
       (subst (λ plan. Executes plan next x y a b) (told_then (run_fault end text) q next)
       (executes_then (tell_run end text q told) (λ _. Ends next) told next x y y a b b h (executes_nothing next y y b refl))))
 
-  pub untold_behind : (is : IsOf) (x y : JournalState) (a b : View) → OutOfMemory (tell_run end text q told) x y a b → OutOfMemory (behind_run text p reply) x y a b
-  untold_behind is x y a b h =
+  pub untold_after : (is : IsOf) (x y : JournalState) (a b : View) → OutOfMemory (tell_run end text q told) x y a b → OutOfMemory (after_run text p reply) x y a b
+  untold_after is x y a b h =
       let next = output_with (taken_output came) q in
       subst (λ plan. OutOfMemory plan x y a b) (behind_is is)
       (subst (λ plan. OutOfMemory plan x y a b) (told_then (run_fault end text) q next) (out_front (tell_run end text q told) (λ _. Ends next) x y a b h))
 
 -- the line is left to the shell, or its commands come first
-abbrev pub behind_commands : List ℕ → Outputs → Plan Read
-behind_commands text = λ ran. Ends (read_with (expanded_line ran.outputs text ran.mind) ran.mind)
+abbrev pub after_commands : List ℕ → Outputs → Plan Read
+after_commands text = λ ran. Ends (read_with (expanded_line ran.outputs text ran.mind) ran.mind)
 
 pub shell_read : (text : List ℕ) (p : Mind) → needs_shell text p ≡ true → Ends (read_with (line_of_words (shell_words text p.vars) p) p) ≡ read_line text p
-shell_read text p e = if_yes (needs_shell text p) (Ends (read_with (line_of_words (shell_words text p.vars) p) p)) (and_then (outputs_of (commands_in Many text) p) (behind_commands text)) e
+shell_read text p e = if_yes (needs_shell text p) (Ends (read_with (line_of_words (shell_words text p.vars) p) p)) (and_then (outputs_of (commands_in Many text) p) (after_commands text)) e
 
-pub commands_first : (text : List ℕ) (p : Mind) → needs_shell text p ≡ false → and_then (outputs_of (commands_in Many text) p) (behind_commands text) ≡ read_line text p
-commands_first text p e = if_no (needs_shell text p) (Ends (read_with (line_of_words (shell_words text p.vars) p) p)) (and_then (outputs_of (commands_in Many text) p) (behind_commands text)) e
+pub commands_first : (text : List ℕ) (p : Mind) → needs_shell text p ≡ false → and_then (outputs_of (commands_in Many text) p) (after_commands text) ≡ read_line text p
+commands_first text p e = if_no (needs_shell text p) (Ends (read_with (line_of_words (shell_words text p.vars) p) p)) (and_then (outputs_of (commands_in Many text) p) (after_commands text)) e
 
 -- nothing is told of a program that came to its end
 pub nothing_told : (end : RunEnd) (text : List ℕ) (p : Mind) (x : JournalState) (a : View) → None ≡ run_fault end text → Executes (tell_run end text p told) told x x a a
@@ -147,18 +147,18 @@ nothing_told end text p x a e = subst (λ f. Executes (tell_maybe f p told) told
 module _ (command : Command) (input text : List ℕ) (p : Mind) where
   pub command_unrun : (x y : JournalState) (a b : View) → input ≡ whole_of p.message → OutOfMemory (ask (Run command input true)) x y a b → OutOfMemory (run_command command text p) x y a b
   command_unrun x y a b e h =
-      out_front (ask (Run command (whole_of p.message) true)) (behind_run text p) x y a b (subst (λ i. OutOfMemory (ask (Run command i true)) x y a b) e h)
+      out_front (ask (Run command (whole_of p.message) true)) (after_run text p) x y a b (subst (λ i. OutOfMemory (ask (Run command i true)) x y a b) e h)
 
   module _ (reply : Reply) where
     pub command_then : (output : List ℕ) (q : Mind) (x y z : JournalState) (a b c : View) → input ≡ whole_of p.message → Executes (ask (Run command input true)) reply x y a b
-        → Executes (behind_run text p reply) (output_with output q) y z b c → Executes (run_command command text p) (output_with output q) x z a c
+        → Executes (after_run text p reply) (output_with output q) y z b c → Executes (run_command command text p) (output_with output q) x z a c
     command_then output q x y z a b c e h k =
-        executes_then (ask (Run command (whole_of p.message) true)) (behind_run text p) reply (output_with output q) x y z a b c (subst (λ i. Executes (ask (Run command i true)) reply x y a b) e h) k
+        executes_then (ask (Run command (whole_of p.message) true)) (after_run text p) reply (output_with output q) x y z a b c (subst (λ i. Executes (ask (Run command i true)) reply x y a b) e h) k
 
-    pub command_then_out : (x y z : JournalState) (a b c : View) → input ≡ whole_of p.message → Executes (ask (Run command input true)) reply x y a b → OutOfMemory (behind_run text p reply) y z b c
+    pub command_then_out : (x y z : JournalState) (a b c : View) → input ≡ whole_of p.message → Executes (ask (Run command input true)) reply x y a b → OutOfMemory (after_run text p reply) y z b c
         → OutOfMemory (run_command command text p) x z a c
     command_then_out x y z a b c e h k =
-        out_then (ask (Run command (whole_of p.message) true)) (behind_run text p) reply x y z a b c (subst (λ i. Executes (ask (Run command i true)) reply x y a b) e h) k
+        out_then (ask (Run command (whole_of p.message) true)) (after_run text p) reply x y z a b c (subst (λ i. Executes (ask (Run command i true)) reply x y a b) e h) k
 
 -- what is told of a program
 pub fault_told : (end : RunEnd) (text fault : List ℕ) (p : Mind) (x y : JournalState) (a b : View) → Some fault ≡ run_fault end text → Executes (log fault p) logged x y a b → Executes (tell_run end text p told) told x y a b

@@ -20,7 +20,7 @@ use Rattle.pm_meaning.specs.Abstracts.{copy_lines}
 use Rattle.pm_meaning.specs.Logging.{log}
 use Rattle.pm_meaning.specs.Minds.{Mind}
 use Rattle.pm_meaning.specs.Forwards.{forward_reading}
-use Rattle.pm_meaning.specs.ProgramActions.{Purpose, Delivers, Filters, Captures, Task, Tried, Trying, is_fine, feed_outcome, feed, work_of, write_outcome, write, unlock_behind, try_locked, try_under, trial_lines, is_fine_trial, settled_by, done_acted, outcome_acted, trial_acted, is_delivery, after_trial, try_and_say, lacks_lock, lock_source, lock_mode, lock_commands, named_lock, told_first, do_under, do_named, unusable_text, do_line, lock_first, fed_piece, program_with, do_program, pipe_task, pipe, capture_task, capture_line, forward_task, forward, write_task, write_with, write_out}
+use Rattle.pm_meaning.specs.ProgramActions.{Purpose, Delivers, Filters, Captures, Task, Tried, Trying, is_fine, feed_outcome, feed, work_of, write_outcome, write, unlock_after, try_locked, try_under, trial_lines, is_fine_trial, settled_by, done_acted, outcome_acted, trial_acted, is_delivery, after_trial, try_and_say, lacks_lock, lock_source, lock_mode, lock_commands, named_lock, told_first, do_under, do_named, unusable_text, do_line, lock_first, fed_piece, program_with, do_program, pipe_task, pipe, capture_task, capture_line, forward_task, forward, write_task, write_with, write_out}
 use Rattle.pm_meaning.specs.Programs.{Reading, line_reading}
 use Rattle.pm_meaning.specs.Turns.{ActEnd, is_for_good, for_good, refuse_act, is_too_long, skip_act}
 use Rattle.pm_meaning.specs.declared.acted.Acted.TheVariants.{Delivered, CopyDone}
@@ -100,7 +100,7 @@ unlocked_end Passes work p t front [] done one h k fine =
     record { lock = None; got = []; act = o.act; given = []; whole = ap (λ l. l ++ []) o.only; is_got = refl; passes = o.passes; is_given = refl }
 unlocked_end Passes work p t front (e ∷ rest) done one h k fine = absurd k
 
-given_end : (name : List ℕ) (forced : ℕ) (t : Tried) (es : List Entry) (done : Trying) → Plays (unlock_behind name forced t) es done → is_fine_trial done.trial ≡ true → IsGiven (Some name) es × (is_fine t.outcome ≡ true)
+given_end : (name : List ℕ) (forced : ℕ) (t : Tried) (es : List Entry) (done : Trying) → Plays (unlock_after name forced t) es done → is_fine_trial done.trial ≡ true → IsGiven (Some name) es × (is_fine t.outcome ≡ true)
 given_end name forced t [] done h fine = absurd h
 given_end name forced t (e ∷ []) done h fine = ((h.0, refl), sym (ap (λ (d : Trying). is_fine_trial d.trial) h.2) ∙ fine)
 given_end name forced t (e ∷ f ∷ es) done h fine = absurd h.2
@@ -108,7 +108,7 @@ given_end name forced t (e ∷ f ∷ es) done h fine = absurd h.2
 locked_end : (Passes : Entry → Type 0) (work : Mind → Plan Tried) (p : Mind) (name : List ℕ) (rule : LockRule) (e : Entry) (es : List Entry) (done : Trying) (reply : Reply) → OneOf Passes work
     → e.act ≡ lock_act name rule → e.reply ≡ reply → Plays (try_locked name work p reply) es done → is_fine_trial done.trial ≡ true → OneUnder Passes (e ∷ es)
 locked_end Passes work p name rule e es done (Held sleeps forced) one act is h fine =
-    let k = parts_of (work (with_lock name p)) (unlock_behind name forced) es done h in
+    let k = parts_of (work (with_lock name p)) (unlock_after name forced) es done h in
     let given = given_end name forced k.middle k.rest done k.plays_rest fine in
     let o = one (with_lock name p) k.front k.middle k.plays_front given.1 in
     record {

@@ -17,7 +17,7 @@ use Rattle.pm_meaning.specs.Blocks.{carry_out}
 use Rattle.pm_meaning.specs.Chains.{is_admitted, passed, executed}
 use Rattle.pm_meaning.specs.Changes.{overflowed}
 use Rattle.pm_meaning.specs.Forwards.{forward_reading}
-use Rattle.pm_meaning.specs.Judging.{Judged, judge, judged_with, Held, held_with, told_judgement, behind_judgement, holding, behind_conditions, judge_first}
+use Rattle.pm_meaning.specs.Judging.{Judged, judge, judged_with, Held, held_with, told_judgement, after_judgement, holding, after_conditions, judge_first}
 use Rattle.pm_meaning.specs.Locks.{text_or}
 use Rattle.pm_meaning.specs.Minds.{Mind}
 use Rattle.pm_meaning.specs.ProgramActions.{lock_commands, pipe_task, forward_task, write_task}
@@ -100,7 +100,7 @@ matched_judged conditions flags p es held judged front (e ∷ rest) is whole h l
 held_judged : (conditions : List Condition) (flags : Flags) (p : Mind) (es : List Entry) (held : Held) → Plays (holding conditions flags p) es held → held.holds ≡ true
     → Plays (judge conditions flags p) es (judged_with Matched held.mind)
 held_judged conditions flags p es held h met =
-    let k = parts_of (judge conditions flags p) behind_judgement es held h in
+    let k = parts_of (judge conditions flags p) after_judgement es held h in
     let q = k.middle.mind in
     elim k.middle.verdict as (λ v. k.middle.verdict ≡ v → Plays (told_judgement v q) k.rest held → Plays (judge conditions flags p) es (judged_with Matched held.mind)) [
       | Matched ↦ λ is l. matched_judged conditions flags p es held k.middle k.front k.rest is k.whole k.plays_front l
@@ -130,9 +130,9 @@ with_conditions top act p held front rest es admitted met whole h d = record {
 }
 
 by_judgement : (top : Top) (act : Action) (p : Mind) (es : List Entry) (turn : Turn) → is_admitted top.flags p.chain ≡ true
-    → Plays (and_then (holding top.conditions top.flags p) (λ held. behind_conditions top.flags (λ q. carry_out top act q) held)) es turn → delivers turn ≡ true → DeliversTree (Recipe top act) p es
+    → Plays (and_then (holding top.conditions top.flags p) (λ held. after_conditions top.flags (λ q. carry_out top act q) held)) es turn → delivers turn ≡ true → DeliversTree (Recipe top act) p es
 by_judgement top act p es turn admitted h passes =
-    let k = parts_of (holding top.conditions top.flags p) (λ held. behind_conditions top.flags (λ q. carry_out top act q) held) es turn h in
+    let k = parts_of (holding top.conditions top.flags p) (λ held. after_conditions top.flags (λ q. carry_out top act q) held) es turn h in
     let q = passed top.flags k.middle.mind in
     let r = executed top.flags k.middle.mind in
     elim k.middle.holds as (λ b. k.middle.holds ≡ b → Plays (if b then carry_out top act r else Ends (GoesOn q)) k.rest turn → DeliversTree (Recipe top act) p es) [
@@ -142,7 +142,7 @@ by_judgement top act p es turn admitted h passes =
 
 by_conditions : (top : Top) (act : Action) (p : Mind) (es : List Entry) (turn : Turn) → Plays (judge_first top (λ q. carry_out top act q) p) es turn → delivers turn ≡ true → DeliversTree (Recipe top act) p es
 by_conditions top act p es turn h passes =
-    let judged = and_then (holding top.conditions top.flags p) (λ held. behind_conditions top.flags (λ q. carry_out top act q) held) in
+    let judged = and_then (holding top.conditions top.flags p) (λ held. after_conditions top.flags (λ q. carry_out top act q) held) in
     elim (is_admitted top.flags p.chain) as (λ b. is_admitted top.flags p.chain ≡ b → Plays (if not b then Ends (GoesOn (passed top.flags p)) else judged) es turn → DeliversTree (Recipe top act) p es) [
       | true ↦ λ admitted k. by_judgement top act p es turn admitted k passes
       | false ↦ λ admitted k. absurd (never_goes delivers no_delivery (passed top.flags p) es turn k passes)

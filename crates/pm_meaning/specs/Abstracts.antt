@@ -3,7 +3,7 @@ use Rattle.std.specs.Prelude.{ℕ, ◌==◌, Bool, not, ◌&&◌, List, [], ◌�
 use Rattle.std.specs.List.{starts_with, before_first}
 use Rattle.pm_bytes.specs.Letter.{lower_case}
 use Rattle.pm_message.specs.Field.{texts_of}
-use Rattle.pm_meaning.specs.Leads.{behind_blanks}
+use Rattle.pm_meaning.specs.Leads.{after_blanks}
 use Rattle.pm_journal.specs.LogText.{quoted}
 use Rattle.pm_recipe.specs.declared.tree.Flags.{Flags}
 use Rattle.pm_meaning.specs.Locks.{value_or}
@@ -25,7 +25,7 @@ is_subject field = bytes_eq (map lower_case (take 8 field)) (codes "subject:")
 
 -- what its first line says, as far as 78 bytes
 abbrev pub subject_line : List ℕ → List ℕ
-subject_line field = codes " Subject: " ++ take 78 (behind_blanks (first_line (drop 8 field))) ++ codes "\n"
+subject_line field = codes " Subject: " ++ take 78 (after_blanks (first_line (drop 8 field))) ++ codes "\n"
 
 -- the first subject among these fields
 abbrev pub subject_part : List (List ℕ) → List ℕ

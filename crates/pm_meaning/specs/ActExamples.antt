@@ -27,7 +27,7 @@ use Rattle.pm_meaning.specs.Ends.{tell_delivery, trap, trap_by, trapped_with}
 use Rattle.pm_meaning.specs.Examples.{chain, letters, process, process_with, variable}
 use Rattle.pm_meaning.specs.Forwards.{addressed, forward_line}
 use Rattle.pm_meaning.specs.GlobalLock.{after_giving, got_lock, with_global}
-use Rattle.pm_meaning.specs.Judging.{Come, behind_conditions, by_line, come_with, held_with, holding, read_again, told_judgement}
+use Rattle.pm_meaning.specs.Judging.{Come, after_conditions, by_line, come_with, held_with, holding, read_again, told_judgement}
 use Rattle.pm_meaning.specs.Leads.{Asking, asking_of}
 use Rattle.pm_meaning.specs.Locks.{with_lock}
 use Rattle.pm_meaning.specs.Logging.{log_to, logged}
@@ -197,7 +197,7 @@ pub record OfConditions : Type 0 where
       ≡ Ends (held_with true process)
   pub one : holding (condition (codes "> 30") ∷ condition (codes "< 31") ∷ []) (letters []) process
       ≡ Ends (held_with false process)
-  pub behind_one : holding (condition (codes "< 31") ∷ condition (codes "> k") ∷ []) (letters []) process
+  pub after_one : holding (condition (codes "< 31") ∷ condition (codes "> k") ∷ []) (letters []) process
       ≡ Ends (held_with false process)
   -- a defect is told, and doesn't hold, whatever is inverted
   pub defect : holding (condition (codes "! > k") ∷ []) (letters []) process
@@ -218,9 +218,9 @@ pub record OfConditions : Type 0 where
   pub long_line : by_line (line.TooLong 1048577) t (letters []) inverted process
       ≡ Ends (come_with (test.TooLong 1048577) process)
   -- the action comes only where they hold
-  pub acts : (go_on : Mind → Plan Turn) → behind_conditions (letters []) go_on (held_with true process)
+  pub acts : (go_on : Mind → Plan Turn) → after_conditions (letters []) go_on (held_with true process)
       ≡ go_on (executed (letters []) process)
-  pub passes : (go_on : Mind → Plan Turn) → behind_conditions (letters []) go_on (held_with false process)
+  pub passes : (go_on : Mind → Plan Turn) → after_conditions (letters []) go_on (held_with false process)
       ≡ Ends (GoesOn (passed (letters []) process))
 
 -- programs, and the writing to standard output

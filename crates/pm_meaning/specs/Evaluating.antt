@@ -16,7 +16,7 @@ use Rattle.pm_meaning.specs.declared.question.Outcome.{Outcome}
 use Rattle.pm_meaning.specs.declared.question.Outcome.TheVariants.{Holds, Matched, Fails, Counted, Compared, Exited, Defective, TooLong}
 use Rattle.pm_meaning.specs.declared.question.Judgement.{Judgement}
 use Rattle.pm_meaning.specs.declared.question.Judgement.TheVariants as verdict
-use Rattle.pm_meaning.specs.Leads.{Asking, behind_blanks}
+use Rattle.pm_meaning.specs.Leads.{Asking, after_blanks}
 use Rattle.pm_meaning.specs.Searching.{Sight, area_in, expression_of, holds_if}
 use Rattle.pm_meaning.specs.Scores.{add_score, add_code, add_length}
 use Rattle.pm_meaning.specs.Weighing.{sought_outcome, weighed_size, end_at}
@@ -31,7 +31,7 @@ word_number text = if list_all is_blank_byte (drop (word_length text) text) then
 
 -- the number between blanks
 abbrev pub number_between : List ℕ → Option ℕ
-number_between text = word_number (behind_blanks text)
+number_between text = word_number (after_blanks text)
 
 -- the length that is compared: the mail's, or the area's that `??` names
 abbrev pub compared_length : Scope → Sight → ℕ

@@ -9,7 +9,7 @@ use Rattle.pm_vars.specs.Table.{Table}
 use Rattle.pm_subst.specs.Commands.{commands_in}
 use Rattle.pm_subst.specs.Words.{words_in}
 use Rattle.pm_subst.specs.declared.kinds.Mode.TheVariants.{Quoted}
-use Rattle.pm_meaning.specs.Leads.{Asking, asking_of, asked, behind_blanks}
+use Rattle.pm_meaning.specs.Leads.{Asking, asking_of, asked, after_blanks}
 use Rattle.pm_meaning.specs.Searching.{Sight, sight_of, input_in}
 use Rattle.pm_meaning.specs.Evaluating.{Course, judged_one, test_outcome, exited, is_expanded, is_program, question_by, with_score, is_weighted}
 use Rattle.pm_meaning.specs.Weighing.{end_of_all}
@@ -69,14 +69,14 @@ ask_line text flags question p = and_then (read_line text p) (λ read. by_line r
 -- `?` asks a program, and anything else the mail or a variable
 abbrev pub tested : Flags → Asking → Mind → Plan Come
 tested flags asking p =
-    if is_program asking.text then ask_line (behind_blanks (drop 1 asking.text)) flags asking.question p
+    if is_program asking.text then ask_line (after_blanks (drop 1 asking.text)) flags asking.question p
     else Ends (come_with (test_outcome asking (seen flags p)) p)
 
 -- a text as if inside double quotes, with these outputs of its commands, is read again
 abbrev pub read_again : List ℕ → List (List ℕ) → Question → Mind → (Asking → Mind → Plan Come) → Plan Come
 read_again text outputs question p go_on =
     if is_too_long Quoted text p.vars outputs then Ends (come_with (outcome.TooLong (length_in Quoted text p.vars outputs)) p)
-    else go_on (asking_of (behind_blanks (first_word (words_in Quoted p.vars outputs text))) question) p
+    else go_on (asking_of (after_blanks (first_word (words_in Quoted p.vars outputs text))) question) p
 
 -- the commands of a text after `$` are run, and then it is expanded
 abbrev pub expanded : List ℕ → Question → Mind → (Asking → Mind → Plan Come) → Plan Come
@@ -146,19 +146,19 @@ told_judgement (Defective text) p = say_then p (defective_condition_line text) (
 told_judgement (TooLong size) p = say_then p (value_too_long_line size) (held_with false (overflowed p))
 
 -- what comes after they were judged
-abbrev pub behind_judgement : Judged → Plan Held
-behind_judgement judged = told_judgement judged.verdict judged.mind
+abbrev pub after_judgement : Judged → Plan Held
+after_judgement judged = told_judgement judged.verdict judged.mind
 
 -- the conditions of a recipe are judged, and a defect among them is told
 abbrev pub holding : List Condition → Flags → Mind → Plan Held
-holding conditions flags p = and_then (judge conditions flags p) behind_judgement
+holding conditions flags p = and_then (judge conditions flags p) after_judgement
 
 -- what comes after the conditions: this where they hold
-abbrev pub behind_conditions : Flags → (Mind → Plan Turn) → Held → Plan Turn
-behind_conditions flags acts held = if held.holds then acts (executed flags held.mind) else Ends (GoesOn (passed flags held.mind))
+abbrev pub after_conditions : Flags → (Mind → Plan Turn) → Held → Plan Turn
+after_conditions flags acts held = if held.holds then acts (executed flags held.mind) else Ends (GoesOn (passed flags held.mind))
 
 -- a recipe that its flags admit is judged, and acted on only where its conditions hold
 abbrev pub judge_first : Top → (Mind → Plan Turn) → Mind → Plan Turn
 judge_first top acts p =
     if not (is_admitted top.flags p.chain) then Ends (GoesOn (passed top.flags p))
-    else and_then (holding top.conditions top.flags p) (λ held. behind_conditions top.flags acts held)
+    else and_then (holding top.conditions top.flags p) (λ held. after_conditions top.flags acts held)

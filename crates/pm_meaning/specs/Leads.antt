@@ -14,8 +14,8 @@ abbrev pub is_no_blank : ℕ → Bool
 is_no_blank byte = not (is_blank_byte byte)
 
 -- the text without the blanks at its front
-abbrev pub behind_blanks : List ℕ → List ℕ
-behind_blanks text = drop (position_or_len is_no_blank text) text
+abbrev pub after_blanks : List ℕ → List ℕ
+after_blanks text = drop (position_or_len is_no_blank text) text
 
 -- the byte is in no name
 abbrev pub ends_name : ℕ → Bool
@@ -32,7 +32,7 @@ name_length text = if begins_name text then position_or_len ends_name text else 
 
 -- what stands after the name and blanks
 abbrev pub behind_name : List ℕ → List ℕ
-behind_name text = behind_blanks (drop (name_length text) text)
+behind_name text = after_blanks (drop (name_length text) text)
 
 -- a name, blanks and `??` stand at the front
 abbrev pub is_named : List ℕ → Bool
@@ -59,11 +59,11 @@ asking_of text question = record { text = text; question = question }
 abbrev pub next_asking : Asking → Option Asking
 next_asking asking =
     if starts_with nat_eq asking.text (codes "!") then Some (record {
-      text = behind_blanks (drop 1 asking.text);
+      text = after_blanks (drop 1 asking.text);
       question = record asking.question { inverted = not asking.question.inverted };
     })
     else if is_named asking.text then Some (record {
-      text = behind_blanks (drop 2 (behind_name asking.text));
+      text = after_blanks (drop 2 (behind_name asking.text));
       question = record asking.question { scope = scope_of (take (name_length asking.text) asking.text) };
     })
     else None

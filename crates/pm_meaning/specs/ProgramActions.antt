@@ -2,7 +2,7 @@
 use Rattle.std.specs.Prelude.{ℕ, Bool, true, false, not, ◌&&◌, ◌||◌, ◌==◌, nat_eq, nat_lt, List, [], ◌∷◌, ◌++◌, Option, Some, None, is_some, length, take, drop, codes, if◌then◌else◌}
 use Rattle.std.specs.List.{list_any, starts_with, position_or_len}
 use Rattle.pm_bytes.specs.Letter.{is_space_byte}
-use Rattle.pm_meaning.specs.Leads.{behind_blanks}
+use Rattle.pm_meaning.specs.Leads.{after_blanks}
 use Rattle.pm_host.specs.declared.command.Command.{Command}
 use Rattle.pm_message.specs.Piece.{piece_of}
 use Rattle.pm_message.specs.Split.{split_of}
@@ -178,13 +178,13 @@ abbrev pub write : List ℕ → Mind → Plan Tried
 write piece p = and_then (ask (WriteOut piece)) (λ reply. Ends (record { outcome = write_outcome reply; mind = stored_if (write_outcome reply) (codes "|") (length piece) p }))
 
 -- the lock is given back after what was tried
-abbrev pub unlock_behind : List ℕ → ℕ → Tried → Plan Trying
-unlock_behind name forced t =
+abbrev pub unlock_after : List ℕ → ℕ → Tried → Plan Trying
+unlock_after name forced t =
     and_then (ask (Unlock name)) (λ reply. Ends (record { trial = Locked name forced t.outcome (is_fault reply); mind = record t.mind { locks = without t.mind.locks name } }))
 
 -- where the lock was got this is tried
 abbrev pub try_locked : List ℕ → (Mind → Plan Tried) → Mind → Reply → Plan Trying
-try_locked name work p (Held sleeps forced) = and_then (work (with_lock name p)) (unlock_behind name forced)
+try_locked name work p (Held sleeps forced) = and_then (work (with_lock name p)) (unlock_after name forced)
 try_locked name work p other = Ends (record { trial = NotLocked name (not_got other); mind = p })
 
 -- this is tried, under a lock file where one is asked for
@@ -256,9 +256,9 @@ abbrev pub try_and_say : Task → Option (List ℕ) → (Mind → Plan Tried) �
 try_and_say t lock work p = and_then (try_under lock work p) (after_trial t)
 
 -- what stands after the first `>>`
-abbrev pub behind_arrows : List ℕ → List ℕ
-behind_arrows [] = []
-behind_arrows (byte ∷ bytes) = if starts_with nat_eq (byte ∷ bytes) (codes ">>") then drop 1 bytes else behind_arrows bytes
+abbrev pub after_arrows : List ℕ → List ℕ
+after_arrows [] = []
+after_arrows (byte ∷ bytes) = if starts_with nat_eq (byte ∷ bytes) (codes ">>") then drop 1 bytes else after_arrows bytes
 
 -- a byte that no shell takes for a part of a name
 abbrev pub ends_name : ℕ → Bool
@@ -270,7 +270,7 @@ up_to_end text = take (position_or_len ends_name text) text
 
 -- the name of the file to which a line appends: it stands after the first `>>` and blanks
 abbrev pub appended_name : List ℕ → List ℕ
-appended_name line = up_to_end (behind_blanks (behind_arrows line))
+appended_name line = up_to_end (after_blanks (after_arrows line))
 
 -- the automatic lock file is asked for
 abbrev pub is_automatic : Option (List ℕ) → Bool

@@ -71,8 +71,8 @@ abbrev pub match_in : Bool → Whole → List ℕ → Option Found
 match_in distinguish e area = (found_of (not distinguish) e area).0
 
 -- without a newline at the front
-abbrev pub behind_newline : List ℕ → List ℕ
-behind_newline text = if starts_with nat_eq text (codes "\n") then drop 1 text else text
+abbrev pub after_newline : List ℕ → List ℕ
+after_newline text = if starts_with nat_eq text (codes "\n") then drop 1 text else text
 
 -- without a newline at the end
 abbrev pub before_newline : List ℕ → List ℕ
@@ -80,7 +80,7 @@ before_newline text = if ends_with nat_eq text (codes "\n") then take (length te
 
 -- what stands between these places, without one newline at its front and one at its end
 abbrev pub match_text : List ℕ → ℕ → ℕ → List ℕ
-match_text area start end = before_newline (behind_newline (take (end - start) (drop start area)))
+match_text area start end = before_newline (after_newline (take (end - start) (drop start area)))
 
 -- a condition that holds, or doesn't
 abbrev pub holds_if : Bool → Outcome

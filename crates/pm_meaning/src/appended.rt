@@ -11,11 +11,11 @@ use pm_bytes::{is_blank, is_space};
 pub fn appended_name(line: &[u8]) -> &[u8]
     ensures { result.now ≡ ProgramActions.appended_name line.now }
 {
-    first_name(behind_blanks(behind_arrows(line)))
+    first_name(after_blanks(after_arrows(line)))
 }
 
-fn behind_arrows(line: &[u8]) -> &[u8]
-    ensures { result.now ≡ ProgramActions.behind_arrows line.now }
+fn after_arrows(line: &[u8]) -> &[u8]
+    ensures { result.now ≡ ProgramActions.after_arrows line.now }
 {
     let mut rest = line;
     while let [_, behind @ ..] = rest {
@@ -27,8 +27,8 @@ fn behind_arrows(line: &[u8]) -> &[u8]
     b""
 }
 
-fn behind_blanks(text: &[u8]) -> &[u8]
-    ensures { result.now ≡ Leads.behind_blanks text.now }
+fn after_blanks(text: &[u8]) -> &[u8]
+    ensures { result.now ≡ Leads.after_blanks text.now }
 {
     &text[blanks_end(text).unwrap_or(text.len())..]
 }

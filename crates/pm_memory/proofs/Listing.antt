@@ -26,14 +26,14 @@ behind (a ∷ front) [] = None
 behind (a ∷ front) (b ∷ bs) = cond (nat_eq a b) (behind front bs) None
 
 -- the part after a slash
-abbrev part_behind : Option (List ℕ) → Option (List ℕ)
-part_behind None = None
-part_behind (Some []) = None
-part_behind (Some (b ∷ bs)) = cond (nat_eq b 47 && is_part bs) (Some bs) None
+abbrev part_after : Option (List ℕ) → Option (List ℕ)
+part_after None = None
+part_after (Some []) = None
+part_after (Some (b ∷ bs)) = cond (nat_eq b 47 && is_part bs) (Some bs) None
 
 -- the last part of the name of something directly in the folder
 abbrev pub the_part : List ℕ → List ℕ → Option (List ℕ)
-the_part folder name = part_behind (behind folder name)
+the_part folder name = part_after (behind folder name)
 
 -- with one more in front, where there is one
 abbrev pub with_part : Option (List ℕ) → List (List ℕ) → List (List ℕ)
@@ -50,13 +50,13 @@ parts_in folder (name ∷ names) = with_part (the_part folder (string_bytes name
 same_byte : (a : ℕ) → nat_eq a a ≡ true
 same_byte a = grind arith
 
-behind_front : (front text : List ℕ) → behind front (front ++ text) ≡ Some text
-behind_front [] text = refl
-behind_front (a ∷ front) text = ap (λ t. cond t (behind front (front ++ text)) None) (same_byte a) ∙ behind_front front text
+after_front : (front text : List ℕ) → behind front (front ++ text) ≡ Some text
+after_front [] text = refl
+after_front (a ∷ front) text = ap (λ t. cond t (behind front (front ++ text)) None) (same_byte a) ∙ after_front front text
 
 -- it is found
 found_part : (folder part : List ℕ) → is_part part ≡ true → the_part folder (inside folder part) ≡ Some part
-found_part folder part is = ap part_behind (behind_front folder (47 ∷ part)) ∙ ap (λ t. cond t (Some part) None) is
+found_part folder part is = ap part_after (after_front folder (47 ∷ part)) ∙ ap (λ t. cond t (Some part) None) is
 
 some_is : (front text : List ℕ) (part : List ℕ) → behind front text ≡ Some part → text ≡ front ++ part
 some_is [] text part e = grind arith
@@ -67,10 +67,10 @@ some_is (a ∷ front) (b ∷ bs) part e =
       | false ↦ λ t h. grind arith
     ] refl e
 
-behind_slash : (rest : Option (List ℕ)) (part : List ℕ) → part_behind rest ≡ Some part → (rest ≡ Some (47 ∷ part)) × (is_part part ≡ true)
-behind_slash None part e = grind arith
-behind_slash (Some []) part e = grind arith
-behind_slash (Some (b ∷ bs)) part e =
+after_slash : (rest : Option (List ℕ)) (part : List ℕ) → part_after rest ≡ Some part → (rest ≡ Some (47 ∷ part)) × (is_part part ≡ true)
+after_slash None part e = grind arith
+after_slash (Some []) part e = grind arith
+after_slash (Some (b ∷ bs)) part e =
     elim (nat_eq b 47) as (λ t. nat_eq b 47 ≡ t → cond (t && is_part bs) (Some bs) None ≡ Some part → (Some (b ∷ bs) ≡ Some (47 ∷ part)) × (is_part part ≡ true)) [
       | true ↦ λ t. elim (is_part bs) as (λ u. is_part bs ≡ u → cond u (Some bs) None ≡ Some part → (Some (b ∷ bs) ≡ Some (47 ∷ part)) × (is_part part ≡ true)) [
         | true ↦ λ u h. grind arith
@@ -82,7 +82,7 @@ behind_slash (Some (b ∷ bs)) part e =
 -- what is found is it
 pub part_is : (folder name part : List ℕ) → the_part folder name ≡ Some part → (name ≡ inside folder part) × (is_part part ≡ true)
 part_is folder name part e =
-    let slash = behind_slash (behind folder name) part e in
+    let slash = after_slash (behind folder name) part e in
     (some_is folder name (47 ∷ part) slash.0, slash.1)
 
 -- the part that a call tells is the one that is found
@@ -162,12 +162,12 @@ all_told folder part is (e ∷ es) h =
 is_before : (xs ys : List ℕ) (o : Ordering) → o ≡ slice_cmp nat_cmp xs ys → is_lt o ≡ comes_before xs ys
 is_before = same_from_slice_cmp nat_cmp is_lt comes_before refl (λ _ _. refl) (λ _ _. refl) (λ x y xs ys o h. grind (arith, nat_tests))
 
-behind_order : (front a b : List ℕ) → slice_cmp nat_cmp (front ++ a) (front ++ b) ≡ slice_cmp nat_cmp a b
-behind_order [] a b = refl
-behind_order (x ∷ front) a b = ap (λ o. ordering_then o (slice_cmp nat_cmp (front ++ a) (front ++ b))) (same_number x) ∙ behind_order front a b
+after_order : (front a b : List ℕ) → slice_cmp nat_cmp (front ++ a) (front ++ b) ≡ slice_cmp nat_cmp a b
+after_order [] a b = refl
+after_order (x ∷ front) a b = ap (λ o. ordering_then o (slice_cmp nat_cmp (front ++ a) (front ++ b))) (same_number x) ∙ after_order front a b
 
 less_part : (folder p q : List ℕ) → slice_cmp nat_cmp (inside folder p) (inside folder q) ≡ Less → comes_before p q ≡ true
-less_part folder p q e = sym (is_before p q (slice_cmp nat_cmp p q) refl) ∙ ap is_lt (sym (behind_order folder (47 ∷ p) (47 ∷ q)) ∙ e)
+less_part folder p q e = sym (is_before p q (slice_cmp nat_cmp p q) refl) ∙ ap is_lt (sym (after_order folder (47 ∷ p) (47 ∷ q)) ∙ e)
 
 all_later : (folder name p : List ℕ) → name ≡ inside folder p → (ks : List (String Global)) → AllByRecursion (λ k. slice_cmp nat_cmp name (string_bytes k) ≡ Less) ks
     → AllByRecursion (λ q. comes_before p q ≡ true) (parts_in folder ks)

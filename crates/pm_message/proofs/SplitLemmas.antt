@@ -19,13 +19,13 @@ not_twice (x ∷ xs) e = cc
 not_empty : (fresh : Bool) → EndsAt fresh [] → ⊥
 not_empty fresh e = ⊎_elim (λ w. (let h : [] ≡ 10 ∷ [] = w.1 in cc)) (λ w. not_twice w.0 w.1) e
 
-twice_behind : (b : ℕ) (t before : List ℕ) → b ∷ t ≡ before ++ codes "\n\n" → ((b ≡ 10) × (t ≡ codes "\n")) ⊎ EndsTwice t
-twice_behind b t [] e = inl (cc, cc)
-twice_behind b t (x ∷ xs) e = inr (xs, cc)
+twice_after : (b : ℕ) (t before : List ℕ) → b ∷ t ≡ before ++ codes "\n\n" → ((b ≡ 10) × (t ≡ codes "\n")) ⊎ EndsTwice t
+twice_after b t [] e = inl (cc, cc)
+twice_after b t (x ∷ xs) e = inr (xs, cc)
 
 -- what an ending says of the bytes after the first
 behind : (fresh : Bool) (b : ℕ) (t : List ℕ) → EndsAt fresh (b ∷ t) → ((fresh ≡ true) × (b ≡ 10)) ⊎ (((b ≡ 10) × (t ≡ codes "\n")) ⊎ EndsTwice t)
-behind fresh b t e = ⊎_elim (λ w. inl (w.0, (let h : b ∷ t ≡ 10 ∷ [] = w.1 in cc))) (λ w. inr (twice_behind b t w.0 w.1)) e
+behind fresh b t e = ⊎_elim (λ w. inl (w.0, (let h : b ∷ t ≡ 10 ∷ [] = w.1 in cc))) (λ w. inr (twice_after b t w.0 w.1)) e
 
 after_break : (b : ℕ) (t : List ℕ) → EndsAt false (b ∷ t) → EndsAt true t
 after_break b t e = ⊎_elim (λ w. absurd (false≢true w.0)) (λ w. ⊎_elim (λ v. inl (refl, v.1)) inr w) (behind false b t e)

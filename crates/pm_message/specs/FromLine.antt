@@ -36,12 +36,12 @@ abbrev pub ends_word : ℕ → Bool
 ends_word byte = is_blank_byte byte || is_newline byte
 
 -- the bytes without the blanks at their front
-abbrev pub behind_blanks : List ℕ → List ℕ
-behind_blanks bytes = drop (position_or_len is_no_blank bytes) bytes
+abbrev pub after_blanks : List ℕ → List ℕ
+after_blanks bytes = drop (position_or_len is_no_blank bytes) bytes
 
 -- the sender of a line `From `: the bytes after `From ` and blanks, up to the next blank or newline
 abbrev pub sender_of : List ℕ → List ℕ
-sender_of bytes = before_first ends_word (behind_blanks (drop 5 bytes))
+sender_of bytes = before_first ends_word (after_blanks (drop 5 bytes))
 
 -- whom a new line is from: the sender that is given, for a new date the one that was, else the one of this name
 abbrev pub who_of : List ℕ → Renew → List ℕ → List ℕ

@@ -2,7 +2,7 @@
 ghost use Rattle.std.specs.Prelude.{◌≡◌, ◌≤◌, false, true, length, position, IfOk};
 ghost use Rattle.std.specs.List.{before_first};
 ghost use Rattle.pm_message.specs.FromLine.{has_from_line, makes_line, is_newline, without_line, is_no_blank};
-ghost use Rattle.pm_message.specs.FromLine.{ends_word, behind_blanks, sender_of, who_of, renewed_of, prepared_of};
+ghost use Rattle.pm_message.specs.FromLine.{ends_word, after_blanks, sender_of, who_of, renewed_of, prepared_of};
 ghost use Rattle.pm_message.specs.Split.{split_of};
 
 use crate::{Mail, Message, divide, from_line, split};
@@ -59,7 +59,7 @@ fn word_end(bytes: &[u8]) -> Option<usize>
 
 /// The bytes without the blanks at their front.
 fn without_blanks(bytes: &[u8]) -> &[u8]
-    ensures { result.now ≡ behind_blanks bytes.now }
+    ensures { result.now ≡ after_blanks bytes.now }
 {
     &bytes[word_start(bytes).unwrap_or(bytes.len())..]
 }
@@ -80,7 +80,7 @@ fn sender(bytes: &[u8]) -> &[u8]
 }
 
 /// The mail without the line `From ` that it may begin with.
-fn behind_line(bytes: &[u8]) -> &[u8]
+fn after_line(bytes: &[u8]) -> &[u8]
     ensures { result.now ≡ without_line bytes.now }
 {
     if !bytes.starts_with(b"From ") {
@@ -120,7 +120,7 @@ fn with_line(
 {
     let who = new_sender(bytes, renew, logname);
     let mut renewed = from_line(alloc, who, moment)?;
-    renewed.push_slice(behind_line(bytes))?;
+    renewed.push_slice(after_line(bytes))?;
     Ok(renewed)
 }
 

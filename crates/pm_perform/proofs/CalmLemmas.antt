@@ -19,7 +19,7 @@ use Rattle.pm_meaning.specs.Locks.{is_nothing, with_lock}
 use Rattle.pm_meaning.specs.Logging.{log, log_to, log_file, logged}
 use Rattle.pm_meaning.specs.Minds.{Mind}
 use Rattle.pm_meaning.specs.Outputs.{Outputs, run_fault, tell_maybe, run_command, run_line, output_of, output_with, outputs_behind, outputs_of, taken_output}
-use Rattle.pm_meaning.specs.ProgramActions.{Tried, Trying, unlock_behind, try_locked, try_under}
+use Rattle.pm_meaning.specs.ProgramActions.{Tried, Trying, unlock_after, try_locked, try_under}
 use Rattle.pm_meaning.specs.Programs.{command_line_of, with_code}
 use Rattle.pm_meaning.specs.Turns.{say_then}
 use Rattle.pm_meaning.specs.declared.process.ProgramLine.{ProgramLine}
@@ -139,20 +139,20 @@ calm_line flags NoWords text p = calm_said flags p _ _
 calm_line flags Unusable text p = calm_said flags p _ _
 calm_line flags (TooLong size) text p = calm_said flags p _ _
 
-calm_behind : (flags : Flags) (outputs texts : List (List ℕ)) (p : Mind) → IsCalm flags (outputs_behind outputs texts p)
-calm_behind flags outputs [] p = tt
-calm_behind flags outputs (text ∷ texts) p =
-    calm_then flags (output_of text p) (λ one. outputs_behind (outputs ++ one.output ∷ []) texts one.mind) (calm_line flags (command_line_of text p) text p) (λ one. calm_behind flags (outputs ++ one.output ∷ []) texts one.mind)
+calm_after : (flags : Flags) (outputs texts : List (List ℕ)) (p : Mind) → IsCalm flags (outputs_behind outputs texts p)
+calm_after flags outputs [] p = tt
+calm_after flags outputs (text ∷ texts) p =
+    calm_then flags (output_of text p) (λ one. outputs_behind (outputs ++ one.output ∷ []) texts one.mind) (calm_line flags (command_line_of text p) text p) (λ one. calm_after flags (outputs ++ one.output ∷ []) texts one.mind)
 
 pub calm_ready : (flags : Flags) (lock_commands commands : List (List ℕ)) (p : Mind) → IsCalm flags (make_ready lock_commands commands p)
 calm_ready flags lock_commands commands p =
     let last : Outputs → Outputs → Plan Ready = λ first second. Ends (record { lock_outputs = first.outputs; outputs = second.outputs; mind = second.mind }) in
-    calm_then flags (outputs_of lock_commands p) (λ first. and_then (outputs_of commands first.mind) (last first)) (calm_behind flags [] lock_commands p)
-    (λ first. calm_then flags (outputs_of commands first.mind) (last first) (calm_behind flags [] commands first.mind) (λ second. tt))
+    calm_then flags (outputs_of lock_commands p) (λ first. and_then (outputs_of commands first.mind) (last first)) (calm_after flags [] lock_commands p)
+    (λ first. calm_then flags (outputs_of commands first.mind) (last first) (calm_after flags [] commands first.mind) (λ second. tt))
 
 -- what delivers nothing, under a lock file
 calm_locked : (flags : Flags) (name : List ℕ) (work : Mind → Plan Tried) (p : Mind) (reply : Reply) → ((q : Mind) → IsCalm flags (work q)) → IsCalm flags (try_locked name work p reply)
-calm_locked flags name work p (Held sleeps forced) h = calm_then flags (work (with_lock name p)) (unlock_behind name forced) (h (with_lock name p)) (λ t reply. (refl, tt))
+calm_locked flags name work p (Held sleeps forced) h = calm_then flags (work (with_lock name p)) (unlock_after name forced) (h (with_lock name p)) (λ t reply. (refl, tt))
 calm_locked flags name work p other h = tt
 
 pub calm_under : (flags : Flags) (lock : Option (List ℕ)) (work : Mind → Plan Tried) (p : Mind) → ((q : Mind) → IsCalm flags (work q)) → IsCalm flags (try_under lock work p)

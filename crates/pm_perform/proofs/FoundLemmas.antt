@@ -22,9 +22,9 @@ or_true_right : (b c : Bool) → c ≡ true → (b || c) ≡ true
 or_true_right true c e = refl
 or_true_right false c e = e
 
-met_behind : (front back : List Entry) → met_folder back ≡ true → met_folder (front ++ back) ≡ true
-met_behind [] back h = h
-met_behind (e ∷ es) back h = or_true_right (is_folder_met e.act e.reply) (met_folder (es ++ back)) (met_behind es back h)
+met_after : (front back : List Entry) → met_folder back ≡ true → met_folder (front ++ back) ≡ true
+met_after [] back h = h
+met_after (e ∷ es) back h = or_true_right (is_folder_met e.act e.reply) (met_folder (es ++ back)) (met_after es back h)
 
 -- an append found a folder
 pub met_append : (e : Entry) (name piece : List ℕ) (reply : Reply) → e.act ≡ Append name piece → e.reply ≡ reply → is_folder_there reply ≡ true → is_folder_met e.act e.reply ≡ true
@@ -47,7 +47,7 @@ met_later : (x y z : JournalState) (front : List Entry) → y.entries ≡ x.entr
 met_later x y z front e h back f more k =
     let whole : z.entries ≡ x.entries ++ (front ++ back) = f ∙ (ap (λ l. l ++ back) e ∙ append_assoc x.entries front back) in
     let is : more ≡ front ++ back = new_are x z (front ++ back) more whole k in
-    ap met_folder is ∙ met_behind front back (h back f)
+    ap met_folder is ∙ met_after front back (h back f)
 
 -- the first of these entries met a folder
 pub met_first : (x y z : JournalState) (e : Entry) (back : List Entry) → y.entries ≡ x.entries ++ e ∷ [] → is_folder_met e.act e.reply ≡ true → z.entries ≡ y.entries ++ back → HasMet x z

@@ -18,7 +18,7 @@ use Rattle.pm_meaning.specs.Abstracts.{copy_lines, logs_all, abstract_of}
 use Rattle.pm_meaning.specs.Delivering.{Filing, Attempted, is_without, is_stored, line_if, filed_lines, attempt_lines, appended_by, in_folder, file_as, file_one, file_all, give_back, under_lock, attempt}
 use Rattle.pm_meaning.specs.Locks.{is_fault, with_lock}
 use Rattle.pm_meaning.specs.Minds.{Mind}
-use Rattle.pm_meaning.specs.ProgramActions.{Tried, Trying, is_fine, fed, filter_mail, capture, write_outcome, stored_if, outcome_lines, trial_lines, unlock_behind, try_locked, try_under}
+use Rattle.pm_meaning.specs.ProgramActions.{Tried, Trying, is_fine, fed, filter_mail, capture, write_outcome, stored_if, outcome_lines, trial_lines, unlock_after, try_locked, try_under}
 use Rattle.pm_meaning.specs.declared.process.Attempt.TheVariants.{Unlocked as AttemptUnlocked}
 use Rattle.pm_meaning.specs.declared.process.Destination.{Destination}
 use Rattle.pm_meaning.specs.declared.process.Filed.{Filed}
@@ -86,7 +86,7 @@ free_quiet flags act g line (e ∷ []) done agrees h =
 
 -- it was tried under one that was got
 held_quiet : (flags : Flags) (act : Act) (g : Reply → Tried) (name line : List ℕ) (forced : ℕ) (es : List Entry) (done : Trying) → ((reply : Reply) → delivers flags act reply ≡ is_fine (g reply).outcome)
-    → Plays (Asks act (λ reply. unlock_behind name forced (g reply))) es done → nat_lt 0 forced ≡ false → any_hinders es ≡ false → Quiet flags es (trial_lines flags line done.trial)
+    → Plays (Asks act (λ reply. unlock_after name forced (g reply))) es done → nat_lt 0 forced ≡ false → any_hinders es ≡ false → Quiet flags es (trial_lines flags line done.trial)
 held_quiet flags act g name line forced [] done agrees h unforced free = absurd h
 held_quiet flags act g name line forced (e ∷ []) done agrees h unforced free = absurd h.2
 held_quiet flags act g name line forced (e ∷ (f ∷ (k ∷ ks))) done agrees h unforced free = absurd h.2.2
@@ -105,7 +105,7 @@ locked_quiet : (flags : Flags) (work : Mind → Plan Tried) (act : Act) (g : Min
     → Plays (try_locked name work p reply) es done → is_forced reply ≡ false → any_hinders es ≡ false → Quiet flags es (trial_lines flags line done.trial)
 locked_quiet flags work act g name line p (Held sleeps forced) es done is agrees h unforced free =
     let q = with_lock name p in
-    held_quiet flags act (g q) name line forced es done (agrees q) (subst (λ w. Plays (and_then w (unlock_behind name forced)) es done) (is q) h) unforced free
+    held_quiet flags act (g q) name line forced es done (agrees q) (subst (λ w. Plays (and_then w (unlock_after name forced)) es done) (is q) h) unforced free
 locked_quiet flags work act g name line p other [] done is agrees h unforced free = inl refl
 locked_quiet flags work act g name line p other (e ∷ es) done is agrees h unforced free = absurd h
 

@@ -19,7 +19,7 @@ use Rattle.pm_journal.proofs.FirstActs.{first_act, first_act_out, later_start}
 use Rattle.pm_journal.proofs.WantsMemory.{executes_nothing, out_front}
 use Rattle.pm_meaning.specs.Locks.{is_fault, rule_of, with_lock}
 use Rattle.pm_meaning.specs.Minds.{Mind}
-use Rattle.pm_meaning.specs.ProgramActions.{Tried, Trying, unlock_behind, try_locked, try_under}
+use Rattle.pm_meaning.specs.ProgramActions.{Tried, Trying, unlock_after, try_locked, try_under}
 use Rattle.pm_meaning.specs.declared.process.Outcome.{Outcome}
 use Rattle.pm_meaning.specs.declared.process.Trial.TheVariants.{Unlocked, Locked}
 use Rattle.pm_perform.specs.Errands.{tried_of, trying_of}
@@ -77,10 +77,10 @@ tried_locked work name noted rule end sleeps forced p q r s outcome removed stuc
     let end0 : Trying = last (is_fault (unlock_reply removed)) left in
     let sameEnd : end0 ≡ last stuck s = ap (λ l. last l left) (sym fault) ∙ ap (last stuck) (sym back) in
     let give : Reply → Plan Trying = λ reply. Ends (last (is_fault reply) left) in
-    let gives : Executes (unlock_behind name forced (tried_of outcome r)) end0 z v c d = first_act (Unlock name) give (unlock_reply removed) end0 z z v v c d d refl unlock (executes_nothing end0 v v d refl) in
+    let gives : Executes (unlock_after name forced (tried_of outcome r)) end0 z v c d = first_act (Unlock name) give (unlock_reply removed) end0 z z v v c d d refl unlock (executes_nothing end0 v v d refl) in
     let works : Executes (work (with_lock name p)) (tried_of outcome r) y z b c = subst (λ m. Executes (work m) (tried_of outcome r) y z b c) with tried in
     let rest : Executes (try_locked name work p (lock_reply (Held sleeps forced))) end0 y v b d =
-    executes_then (work (with_lock name p)) (unlock_behind name forced) (tried_of outcome r) end0 y z v b c d works gives in
+    executes_then (work (with_lock name p)) (unlock_after name forced) (tried_of outcome r) end0 y z v b c d works gives in
     subst (λ u. Executes (try_under (Some name) work p) u x v a d) sameEnd
     (first_act (lock_act name (rule_of p.vars)) (try_locked name work p) (lock_reply (Held sleeps forced)) end0 x w y v a b d e (taken_so name noted rule end sleeps forced p w y a b same by got lock) rest)
 
@@ -90,4 +90,4 @@ pub tried_locked_out : (work : Mind → Plan Tried) (name noted : List ℕ) (rul
     → OutOfMemory (try_under (Some name) work p) x z a c
 tried_locked_out work name noted rule end sleeps forced p q x w y z a b c same by got e lock with wants =
     first_act_out (lock_act name (rule_of p.vars)) (try_locked name work p) (lock_reply (Held sleeps forced)) x w y z a b c e (taken_so name noted rule end sleeps forced p w y a b same by got lock)
-    (out_front (work (with_lock name p)) (unlock_behind name forced) y z b c (subst (λ m. OutOfMemory (work m) y z b c) with wants))
+    (out_front (work (with_lock name p)) (unlock_after name forced) y z b c (subst (λ m. OutOfMemory (work m) y z b c) with wants))

@@ -6,12 +6,12 @@ use Rattle.std.proofs.lemmas.Bool.Decides.{nat_tests}
 use Rattle.pm_bytes.specs.Alphabet.{NEWLINE, BACKSLASH, COLON, HASH, ZERO}
 use Rattle.pm_bytes.specs.Letter.{is_blank_byte}
 use Rattle.pm_recipe.specs.Bytes.{begins_with}
-use Rattle.pm_recipe.specs.Places.{far, behind}
+use Rattle.pm_recipe.specs.Places.{far, text_after}
 use Rattle.pm_recipe.specs.declared.runs.Run.TheVariants as Run
 use Rattle.pm_recipe.specs.declared.line_words.InFlags.TheVariants as InFlags
 use Rattle.pm_recipe.specs.Runs.{run_places}
 use Rattle.pm_recipe.specs.LineWords.{flag_places}
-use Rattle.pm_recipe.specs.Colon.{behind_zero, behind_lock, flags_part, has_lock, lock_part, lock_of, word_length, ends_statement, has_junk}
+use Rattle.pm_recipe.specs.Colon.{after_zero, after_lock, flags_part, has_lock, lock_part, lock_of, word_length, ends_statement, has_junk}
 use Rattle.pm_recipe.specs.Front.{ends_name, ends_line}
 use Rattle.pm_recipe.specs.Words.{joins, IsRun, AreBlanks, AreJoins, AreWords, in_join, in_flags}
 use Rattle.pm_recipe.specs.Quotes.{IsValue, IsWord}
@@ -30,9 +30,9 @@ use Rattle.pm_recipe.proofs.OneCut.{same-first}
 pub flags-read : (text after : List ℕ) (h : IsHead text after) → flags_part text ≡ h.flags
 flags-read text after h =
     let flagged = h.flags ++ after in
-    let joins_is : behind run_places Run.Joins (h.joins ++ (ZERO ∷ flagged)) ≡ ZERO ∷ flagged =
+    let joins_is : text_after run_places Run.Joins (h.joins ++ (ZERO ∷ flagged)) ≡ ZERO ∷ flagged =
     drop_at h.joins (ZERO ∷ flagged) _ (sym (joins-far h.joins (ZERO ∷ flagged) h.joined)) in
-    let zero_is : behind_zero text ≡ flagged = ap behind_zero h.text_is ∙ ap (drop 1) joins_is in
+    let zero_is : after_zero text ≡ flagged = ap after_zero h.text_is ∙ ap (drop 1) joins_is in
     ap (λ xs. take (far flag_places InFlags.Word xs) xs) zero_is ∙ take_at h.flags after _ (sym (flags-length false 0 h.flags after h.flagged))
 
 lock-none : (text after : List ℕ) → IsHead text after → begins_with COLON after ≡ false → has_lock text ≡ false
@@ -42,14 +42,14 @@ lock-none text after h none = ap (begins_with COLON) (known-head text after h).a
 record IsLocked (text : List ℕ) (lock : List ℕ) (tail : List ℕ) : Type 0 where
   has : has_lock text ≡ true
   lock_is : lock_of text ≡ Some lock
-  tail_is : behind_lock text ≡ tail
+  tail_is : after_lock text ≡ tail
 
 locked : (text lock tail : List ℕ) → IsLockHead text (lock ++ tail) → IsValue lock tail → IsLocked text lock tail
 locked text lock tail h value =
     let after = lock ++ tail in
     let k = known-head text (COLON ∷ (h.blanks ++ after)) h.head in
     let has : has_lock text ≡ true = ap (begins_with COLON) k.after_is in
-    let part_is : lock_part text ≡ after = ap (λ xs. behind run_places Run.Blanks (drop 1 xs)) k.after_is ∙ drop_at h.blanks after _ (sym (blanks-far h.blanks after h.apart)) in
+    let part_is : lock_part text ≡ after = ap (λ xs. text_after run_places Run.Blanks (drop 1 xs)) k.after_is ∙ drop_at h.blanks after _ (sym (blanks-far h.blanks after h.apart)) in
     let r = value-read lock tail value in
     record {
       has = has;
@@ -64,7 +64,7 @@ pub lock-read : (text lock tail : List ℕ) → IsLockHead text (lock ++ tail) �
 lock-read text lock tail h value = (locked text lock tail h value).lock_is
 
 -- what isn't understood
-letters-run : (flags : List ℕ) → IsRun is_flag_or_blank 0 (take (far run_places Run.Letters flags) flags) (behind run_places Run.Letters flags)
+letters-run : (flags : List ℕ) → IsRun is_flag_or_blank 0 (take (far run_places Run.Letters flags) flags) (text_after run_places Run.Letters flags)
 letters-run flags = run Run.Letters 0 flags
 
 letters-far : (flags : List ℕ) → AreFlags flags → far run_places Run.Letters flags ≡ length flags
@@ -86,16 +86,16 @@ flags-denied flags = by (others flags) refl
         subst (λ xs. IsRun is_flag_or_blank 0 xs []) (take_all (far run_places Run.Letters flags) flags (all h))
         (subst (λ xs. IsRun is_flag_or_blank 0 (take (far run_places Run.Letters flags) flags) xs) (drop_all (far run_places Run.Letters flags) flags (all h)) (letters-run flags))
 
-quiet-denied : (tail : List ℕ) → Denies (not (ends_statement (behind run_places Run.Blanks tail))) (IsQuiet tail)
-quiet-denied tail = by (ends_statement (behind run_places Run.Blanks tail)) refl
+quiet-denied : (tail : List ℕ) → Denies (not (ends_statement (text_after run_places Run.Blanks tail))) (IsQuiet tail)
+quiet-denied tail = by (ends_statement (text_after run_places Run.Blanks tail)) refl
   where
-    ends-is : (q : IsQuiet tail) → ends_statement (behind run_places Run.Blanks tail) ≡ true
-    ends-is q = ap (λ xs. ends_statement (behind run_places Run.Blanks xs)) q.tail_is ∙ ap ends_statement (drop_at q.blanks q.rest _ (sym (blanks-far q.blanks q.rest q.apart))) ∙ q.ends
+    ends-is : (q : IsQuiet tail) → ends_statement (text_after run_places Run.Blanks tail) ≡ true
+    ends-is q = ap (λ xs. ends_statement (text_after run_places Run.Blanks xs)) q.tail_is ∙ ap ends_statement (drop_at q.blanks q.rest _ (sym (blanks-far q.blanks q.rest q.apart))) ∙ q.ends
 
-    by : (b : Bool) → ends_statement (behind run_places Run.Blanks tail) ≡ b → Denies (not b) (IsQuiet tail)
+    by : (b : Bool) → ends_statement (text_after run_places Run.Blanks tail) ≡ b → Denies (not b) (IsQuiet tail)
     by true h = record {
       blanks = take (far run_places Run.Blanks tail) tail;
-      rest = behind run_places Run.Blanks tail;
+      rest = text_after run_places Run.Blanks tail;
       tail_is = sym (take-append-drop (far run_places Run.Blanks tail) tail);
       apart = blanks-run tail;
       ends = h;
@@ -120,19 +120,19 @@ or-none false = refl
 junk-plain : (text after : List ℕ) (h : IsHead text after) → begins_with COLON after ≡ false → Denies (has_junk text) (AreFlags h.flags)
 junk-plain text after h none =
     let e : has_junk text ≡ others h.flags =
-    ap (λ b. others (flags_part text) || (b && not (ends_statement (behind run_places Run.Blanks (behind_lock text))))) (lock-none text after h none)
+    ap (λ b. others (flags_part text) || (b && not (ends_statement (text_after run_places Run.Blanks (after_lock text))))) (lock-none text after h none)
     ∙ or-none (others (flags_part text)) ∙ ap others (flags-read text after h) in
     subst (λ b. Denies b (AreFlags h.flags)) (sym e) (flags-denied h.flags)
 
 junk-locked : (text lock tail : List ℕ) (h : IsLockHead text (lock ++ tail)) → IsValue lock tail → Denies (has_junk text) (AreFlags h.head.flags × IsQuiet tail)
 junk-locked text lock tail h value =
     let l = locked text lock tail h value in
-    let e : has_junk text ≡ (others h.head.flags || not (ends_statement (behind run_places Run.Blanks tail))) =
-    ap (λ b. others (flags_part text) || (b && not (ends_statement (behind run_places Run.Blanks (behind_lock text))))) l.has
-    ∙ ap (λ xs. others xs || not (ends_statement (behind run_places Run.Blanks (behind_lock text)))) (flags-read text _ h.head)
-    ∙ ap (λ xs. others h.head.flags || not (ends_statement (behind run_places Run.Blanks xs))) l.tail_is in
+    let e : has_junk text ≡ (others h.head.flags || not (ends_statement (text_after run_places Run.Blanks tail))) =
+    ap (λ b. others (flags_part text) || (b && not (ends_statement (text_after run_places Run.Blanks (after_lock text))))) l.has
+    ∙ ap (λ xs. others xs || not (ends_statement (text_after run_places Run.Blanks (after_lock text)))) (flags-read text _ h.head)
+    ∙ ap (λ xs. others h.head.flags || not (ends_statement (text_after run_places Run.Blanks xs))) l.tail_is in
     subst (λ b. Denies b (AreFlags h.head.flags × IsQuiet tail)) (sym e)
-    (both-denied (others h.head.flags) (not (ends_statement (behind run_places Run.Blanks tail))) (AreFlags h.head.flags) (IsQuiet tail) (flags-denied h.head.flags) (quiet-denied tail))
+    (both-denied (others h.head.flags) (not (ends_statement (text_after run_places Run.Blanks tail))) (AreFlags h.head.flags) (IsQuiet tail) (flags-denied h.head.flags) (quiet-denied tail))
 
 -- a text has one reading
 pub record IsReadOnce (text : List ℕ) (flags : List ℕ) (lock : Option (List ℕ)) (junk : Bool) : Type 0 where

@@ -4,7 +4,7 @@ use Rattle.std.proofs.lemmas.Bool.{cond_both}
 use Rattle.std.proofs.lemmas.Bool.Decides.{nat_tests}
 use Rattle.pm_recipe.specs.Bytes.{begins_with}
 use Rattle.pm_bytes.specs.Alphabet.{NEWLINE}
-use Rattle.pm_recipe.specs.Places.{Places, joins_before, place_behind, reach_of, far, behind}
+use Rattle.pm_recipe.specs.Places.{Places, joins_before, place_after, reach_of, far, text_after}
 use Rattle.pm_recipe.specs.declared.runs.Run.TheVariants as Run
 use Rattle.pm_recipe.specs.declared.runs.UpTo.TheVariants as UpTo
 use Rattle.pm_recipe.specs.Runs.{run_places, up_to_places}
@@ -27,16 +27,16 @@ and-right false b h = absurd (false-true h)
     false-true h = grind arith
 
 -- how far readers come at a line, blanks, a name and joins
-pub line-run : (text : List ℕ) → IsLine 0 (take (far run_places Run.Line text) text) (behind run_places Run.Line text)
+pub line-run : (text : List ℕ) → IsLine 0 (take (far run_places Run.Line text) text) (text_after run_places Run.Line text)
 line-run text = run Run.Line 0 text
 
-pub blanks-run : (text : List ℕ) → AreBlanks 0 (take (far run_places Run.Blanks text) text) (behind run_places Run.Blanks text)
+pub blanks-run : (text : List ℕ) → AreBlanks 0 (take (far run_places Run.Blanks text) text) (text_after run_places Run.Blanks text)
 blanks-run text = run Run.Blanks 0 text
 
-pub name-run : (text : List ℕ) → IsName (take (far run_places Run.Name text) text) (behind run_places Run.Name text)
+pub name-run : (text : List ℕ) → IsName (take (far run_places Run.Name text) text) (text_after run_places Run.Name text)
 name-run text = run Run.Name 0 text
 
-pub joins-run : (text : List ℕ) → AreJoins 0 (take (far run_places Run.Joins text) text) (behind run_places Run.Joins text)
+pub joins-run : (text : List ℕ) → AreJoins 0 (take (far run_places Run.Joins text) text) (text_after run_places Run.Joins text)
 joins-run text = run Run.Joins 0 text
 
 -- lists in two parts
@@ -64,11 +64,11 @@ pub three : (Q : List ℕ → List ℕ → List ℕ → Type 0) (a b c d e f : L
 three Q a b c d e f p q r h = subst (λ x. Q d e x) r (subst (λ x. Q d x c) q (subst (λ x. Q x b c) p h))
 
 -- a comment's run
-pub rest-run : (text : List ℕ) → IsRest (take (far up_to_places UpTo.Newline text) text) (behind up_to_places UpTo.Newline text)
+pub rest-run : (text : List ℕ) → IsRest (take (far up_to_places UpTo.Newline text) text) (text_after up_to_places UpTo.Newline text)
 rest-run [] = record { inside = refl; ends = refl }
 rest-run (byte ∷ bytes) = by (nat_eq byte NEWLINE) refl (rest-run bytes)
   where
-    by : (b : Bool) → nat_eq byte NEWLINE ≡ b → IsRest (take (far up_to_places UpTo.Newline bytes) bytes) (behind up_to_places UpTo.Newline bytes)
+    by : (b : Bool) → nat_eq byte NEWLINE ≡ b → IsRest (take (far up_to_places UpTo.Newline bytes) bytes) (text_after up_to_places UpTo.Newline bytes)
         → IsRest (take (cond b 0 (far up_to_places UpTo.Newline bytes + 1)) (byte ∷ bytes)) (drop (cond b 0 (far up_to_places UpTo.Newline bytes + 1)) (byte ∷ bytes))
     by true h rest = record { inside = refl; ends = h }
     by false h rest =
@@ -83,6 +83,6 @@ no h = absurd (grind arith)
 pub within : {Place : Type 0} (places : Places Place) (joined : Bool) (place : Place) (text : List ℕ) → reach_of places joined place text ≤ length text
 within places joined place [] = omega arith
 within places joined place (byte ∷ bytes) =
-    let rest = within places (joins_before places place byte bytes && not joined) (place_behind places joined place byte bytes) bytes in
+    let rest = within places (joins_before places place byte bytes && not joined) (place_after places joined place byte bytes) bytes in
     cond_both (not joined && not (joins_before places place byte bytes) && places.ends place byte) 0 _ (λ n. n ≤ length (byte ∷ bytes))
     (λ e. omega arith) (λ e. omega (arith, rest))

@@ -5,7 +5,7 @@ use Rattle.std.proofs.lemmas.Bool.Decides.{nat_tests}
 use Rattle.pm_bytes.specs.Letter.{is_blank_byte, is_name_byte, is_name_start}
 use Rattle.pm_bytes.specs.Alphabet.{BANG, DOLLAR, QUESTION}
 use Rattle.pm_recipe.specs.Bytes.{begins_with}
-use Rattle.pm_recipe.specs.Places.{far, behind, rest_of, reach_of}
+use Rattle.pm_recipe.specs.Places.{far, text_after, rest_of, reach_of}
 use Rattle.pm_recipe.specs.declared.leads.InLead.{InLead}
 use Rattle.pm_recipe.specs.Leads.{lead_after, lead_places}
 use Rattle.pm_recipe.specs.Weights.{is_at_dollar, is_expanded}
@@ -106,13 +106,13 @@ expanded-read text e =
     let after : List ℕ = DOLLAR ∷ e.rest in
     let g = lead-on e.lead after e.leads in
     let count_is : length e.lead ≡ far lead_places InLead.Before (e.lead ++ after) = omega (arith, g.far_is, g.length_is, length-append e.lead after) in
-    let behind_is : behind lead_places InLead.Before text ≡ after = ap (behind lead_places InLead.Before) e.text_is ∙ drop_at e.lead after _ count_is in
-    both (is_at_dollar (rest_of lead_places false InLead.Before text)) (begins_with DOLLAR (behind lead_places InLead.Before text))
+    let behind_is : text_after lead_places InLead.Before text ≡ after = ap (text_after lead_places InLead.Before) e.text_is ∙ drop_at e.lead after _ count_is in
+    both (is_at_dollar (rest_of lead_places false InLead.Before text)) (begins_with DOLLAR (text_after lead_places InLead.Before text))
     (ap (λ xs. is_at_dollar (rest_of lead_places false InLead.Before xs)) e.text_is ∙ ap is_at_dollar g.place_is) (ap (begins_with DOLLAR) behind_is)
 
 -- from a place on, what is found is an expression with a `$` before it
 abbrev found : InLead → List ℕ → Bool
-found at text = is_at_dollar (rest_of lead_places false at text) && begins_with DOLLAR (behind lead_places at text)
+found at text = is_at_dollar (rest_of lead_places false at text) && begins_with DOLLAR (text_after lead_places at text)
 
 record InName (text : List ℕ) : Type 0 where
   others : List ℕ
@@ -139,7 +139,7 @@ record InMark (text : List ℕ) : Type 0 where
 found-on : (at next : InLead) (byte : ℕ) (bytes : List ℕ) → Goes lead_places at (byte ∷ bytes) next bytes → found at (byte ∷ bytes) ≡ true → found next bytes ≡ true
 found-on at next byte bytes g h =
     let far_is : far lead_places at (byte ∷ bytes) ≡ suc (far lead_places next bytes) = omega (arith, g.far_is, g.length_is) in
-    sym (ap (λ p. is_at_dollar p && begins_with DOLLAR (behind lead_places at (byte ∷ bytes))) g.place_is
+    sym (ap (λ p. is_at_dollar p && begins_with DOLLAR (text_after lead_places at (byte ∷ bytes))) g.place_is
     ∙ ap (λ n. is_at_dollar (rest_of lead_places false next bytes) && begins_with DOLLAR (drop n (byte ∷ bytes))) far_is) ∙ h
 
 at-name : (byte : ℕ) (bytes : List ℕ) → is_name_start byte ≡ true → InName bytes → IsExpanded (byte ∷ bytes)

@@ -9,9 +9,9 @@ use Rattle.pm_recipe.specs.Places.{rest_of}
 use Rattle.pm_recipe.specs.WordPlaces.{word_places, is_quote}
 use Rattle.pm_recipe.specs.declared.words.InWord.TheVariants as InWord
 use Rattle.pm_recipe.specs.Opens.{is_open, AreOpens, opens_before, word_before, Knows}
-use Rattle.pm_recipe.specs.Colon.{lock_part, behind_flags}
+use Rattle.pm_recipe.specs.Colon.{lock_part, after_flags}
 use Rattle.pm_recipe.proofs.Left.{IsLeft}
-use Rattle.pm_recipe.specs.Front.{behind_name, behind_equals}
+use Rattle.pm_recipe.specs.Front.{behind_name, after_equals}
 
 -- a byte of a word
 word-open : (byte : ℕ) (opens : Opens) (rest : List ℕ) → AreOpens opens rest → word_before byte opens ≡ is_open InWord.Plain (byte ∷ rest)
@@ -96,8 +96,8 @@ knows-more known text at b size b_is knows = record { at = λ front rest is less
 
 pub knows-lock : (known : List Bool) (text : List ℕ) → Knows known text → Knows known (lock_part text)
 knows-lock known text k =
-    knows-drop known _ _ (knows-drop known 1 (behind_flags text) (knows-drop known _ _ (knows-drop known 1 _ (knows-drop known _ _ (knows-drop known 1 text k)))))
+    knows-drop known _ _ (knows-drop known 1 (after_flags text) (knows-drop known _ _ (knows-drop known 1 _ (knows-drop known _ _ (knows-drop known 1 text k)))))
 
-pub knows-value : (known : List Bool) (text : List ℕ) → Knows known text → Knows known (behind_equals text)
+pub knows-value : (known : List Bool) (text : List ℕ) → Knows known text → Knows known (after_equals text)
 knows-value known text k =
     knows-drop known _ _ (knows-drop known 1 (behind_name text) (knows-drop known _ _ (knows-drop known _ text k)))

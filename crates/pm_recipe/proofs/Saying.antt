@@ -4,7 +4,7 @@ use Rattle.std.proofs.lemmas.List.{drop_at, take-append-drop}
 use Rattle.pm_recipe.specs.declared.fronts.Kind.{Kind}
 use Rattle.pm_recipe.specs.declared.fronts.Kind.TheVariants as kind
 use Rattle.pm_recipe.specs.declared.fronts.Situation.{Situation}
-use Rattle.pm_recipe.specs.Places.{far, behind}
+use Rattle.pm_recipe.specs.Places.{far, text_after}
 use Rattle.pm_recipe.specs.declared.runs.Run.TheVariants as Run
 use Rattle.pm_recipe.specs.Runs.{run_places}
 use Rattle.pm_recipe.specs.Colon.{flags_part, flags_of, lock_of, has_junk}
@@ -25,7 +25,7 @@ use Rattle.pm_recipe.proofs.ConditionForms.{condition-once, condition-some}
 
 -- a program's line
 program-once : (text line : List ℕ) → IsProgram text line → line ≡ program_line text
-program-once text line p = sym (ap (behind run_places Run.Blanks) p.text_is ∙ drop_at p.blanks line _ (sym (blanks-far p.blanks line p.apart)))
+program-once text line p = sym (ap (text_after run_places Run.Blanks) p.text_is ∙ drop_at p.blanks line _ (sym (blanks-far p.blanks line p.apart)))
 
 program-some : (text : List ℕ) → IsProgram text (program_line text)
 program-some text = record {

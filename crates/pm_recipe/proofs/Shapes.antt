@@ -10,15 +10,15 @@ use Rattle.pm_recipe.proofs.Left.{IsLeft, left-self, left-drop, left-of, left-mo
 use Rattle.pm_recipe.specs.declared.fronts.Situation.{Situation}
 use Rattle.pm_recipe.specs.declared.fronts.Kind.{Kind}
 use Rattle.pm_recipe.specs.declared.fronts.Kind.TheVariants as kind
-use Rattle.pm_recipe.specs.Places.{reach_of, far, passed, behind}
+use Rattle.pm_recipe.specs.Places.{reach_of, far, passed, text_after}
 use Rattle.pm_recipe.specs.declared.runs.Run.TheVariants as Run
 use Rattle.pm_recipe.specs.declared.runs.UpTo.TheVariants as UpTo
 use Rattle.pm_recipe.specs.declared.line_words.InFlags.TheVariants as InFlags
 use Rattle.pm_recipe.specs.declared.line_words.InTail.TheVariants as InTail
 use Rattle.pm_recipe.specs.Runs.{run_places, up_to_places}
 use Rattle.pm_recipe.specs.LineWords.{flag_places, tail_places}
-use Rattle.pm_recipe.specs.Colon.{word_length, is_unclosed, begins_recipe, has_lock, lock_part, behind_lock, behind_flags, behind_colon}
-use Rattle.pm_recipe.specs.Front.{Front, before, front_of, piece, gap, whole_front, line_front, ends_name, behind_name, named, statement_of, opens, ends_line, behind_equals, captures, capture, other_action, brace, recipe_line, most_blocks}
+use Rattle.pm_recipe.specs.Colon.{word_length, is_unclosed, begins_recipe, has_lock, lock_part, after_lock, after_flags, behind_colon}
+use Rattle.pm_recipe.specs.Front.{Front, before, front_of, piece, gap, whole_front, line_front, ends_name, behind_name, named, statement_of, opens, ends_line, after_equals, captures, capture, other_action, brace, recipe_line, most_blocks}
 use Rattle.pm_recipe.specs.Words.{belongs, IsRun, AreBlanks, IsName, AreJoins, in_line}
 use Rattle.pm_recipe.specs.Quotes.{IsValue}
 use Rattle.pm_recipe.specs.Spells.{IsMarked, IsOpened, IsNamed, IsSet, IsHead, IsLockHead, IsColonLine, HasForm, HasNone, IsBroken, IsUnclosed, IsMailbox, IsJunk, Spells}
@@ -57,7 +57,7 @@ mark-line mark byte bytes h = record { bytes_are = ap (λ b. b ∷ take (far run
 
 mailbox-stands : (situation : Situation) (byte : ℕ) (bytes : List ℕ) → (situation.in_recipe && not (nat_eq byte CLOSE_BRACE || nat_eq byte COLON)) ≡ true
     → is_space_byte byte ≡ false → (nat_eq byte BACKSLASH && begins_with 10 bytes) ≡ false
-    → Stands situation (byte ∷ bytes) (whole_front kind.Mailbox (byte ∷ bytes) (behind run_places Run.Line bytes))
+    → Stands situation (byte ∷ bytes) (whole_front kind.Mailbox (byte ∷ bytes) (text_after run_places Run.Line bytes))
 mailbox-stands situation byte bytes here space join =
     let n = far run_places Run.Line bytes in
     let r : IsRun in_line byte (take n bytes) (drop n bytes) =
@@ -69,14 +69,14 @@ mailbox-stands situation byte bytes here space join =
 
 -- what isn't understood
 broken-stands : (situation : Situation) (byte : ℕ) (bytes : List ℕ) → (situation.in_recipe && not (nat_eq byte CLOSE_BRACE || nat_eq byte COLON)) ≡ false
-    → IsBroken (byte ∷ bytes) → Stands situation (byte ∷ bytes) (whole_front kind.Skipped (byte ∷ bytes) (behind up_to_places UpTo.Newline bytes))
+    → IsBroken (byte ∷ bytes) → Stands situation (byte ∷ bytes) (whole_front kind.Skipped (byte ∷ bytes) (text_after up_to_places UpTo.Newline bytes))
 broken-stands situation byte bytes here broken =
     let n = far up_to_places UpTo.Newline bytes in
     let again : IsBroken (byte ∷ (take n bytes ++ drop n bytes)) = subst (λ xs. IsBroken (byte ∷ xs)) (sym (take-append-drop n bytes)) broken in
     (left-of n bytes, marked (λ t. IsJunk situation [] t t (drop n bytes)) n byte bytes (here, refl, refl, Broken byte (take n bytes) refl (rest-run bytes) again))
 
 other-stands : (situation : Situation) (byte : ℕ) (bytes : List ℕ) → (situation.in_recipe && not (nat_eq byte CLOSE_BRACE || nat_eq byte COLON)) ≡ false
-    → (IsBroken (byte ∷ bytes) → ⊥) → Stands situation (byte ∷ bytes) (whole_front kind.Skipped (byte ∷ bytes) (behind tail_places InTail.Word bytes))
+    → (IsBroken (byte ∷ bytes) → ⊥) → Stands situation (byte ∷ bytes) (whole_front kind.Skipped (byte ∷ bytes) (text_after tail_places InTail.Word bytes))
 other-stands situation byte bytes here sound =
     let n = far tail_places InTail.Word bytes in
     let again : IsBroken (byte ∷ (take n bytes ++ drop n bytes)) → ⊥ = λ b. sound (subst (λ xs. IsBroken (byte ∷ xs)) (take-append-drop n bytes) b) in
@@ -89,19 +89,19 @@ unclosed-is text h word last is value = true-false (sym h ∙ ap is_unclosed is 
 colon-left : (byte : ℕ) (bytes : List ℕ) → IsLeft (behind_colon (byte ∷ bytes)) bytes
 colon-left byte bytes =
     let zero_left = left-drop 1 _ bytes (left-drop (far run_places Run.Joins bytes) bytes bytes (left-self bytes)) in
-    let flags_left = left-drop (far flag_places InFlags.Word (drop 1 (behind run_places Run.Joins bytes))) _ bytes zero_left in
-    let lock_left = left-drop (far run_places Run.Blanks (drop 1 (behind_flags (byte ∷ bytes)))) _ bytes (left-drop 1 _ bytes flags_left) in
+    let flags_left = left-drop (far flag_places InFlags.Word (drop 1 (text_after run_places Run.Joins bytes))) _ bytes zero_left in
+    let lock_left = left-drop (far run_places Run.Blanks (drop 1 (after_flags (byte ∷ bytes)))) _ bytes (left-drop 1 _ bytes flags_left) in
     let after_left = left-drop (word_length (lock_part (byte ∷ bytes))) _ bytes lock_left in
-    cond_both (has_lock (byte ∷ bytes)) (behind tail_places InTail.Fresh (behind_lock (byte ∷ bytes))) (behind up_to_places UpTo.Newline (behind_flags (byte ∷ bytes)))
+    cond_both (has_lock (byte ∷ bytes)) (text_after tail_places InTail.Fresh (after_lock (byte ∷ bytes))) (text_after up_to_places UpTo.Newline (after_flags (byte ∷ bytes)))
     (λ xs. IsLeft xs bytes) (λ h. left-drop _ _ bytes after_left) (λ h. left-drop _ _ bytes flags_left)
 
 -- a colon line
-head-of : (byte : ℕ) (bytes : List ℕ) → begins_recipe (byte ∷ bytes) ≡ true → IsHead (byte ∷ bytes) (behind_flags (byte ∷ bytes))
+head-of : (byte : ℕ) (bytes : List ℕ) → begins_recipe (byte ∷ bytes) ≡ true → IsHead (byte ∷ bytes) (after_flags (byte ∷ bytes))
 head-of byte bytes h =
-    let zeroed = behind run_places Run.Joins bytes in
+    let zeroed = text_after run_places Run.Joins bytes in
     let after = drop 1 zeroed in
     let flags = take (far flag_places InFlags.Word after) after in
-    let last = behind flag_places InFlags.Word after in
+    let last = text_after flag_places InFlags.Word after in
     let after_is : flags ++ last ≡ after = take-append-drop (far flag_places InFlags.Word after) after in
     let zero_is : 48 ∷ (flags ++ last) ≡ zeroed = ap (λ xs. 48 ∷ xs) after_is ∙ sym (begins-cons 48 zeroed (and-right (nat_eq byte COLON) _ h)) in
     record {
@@ -115,10 +115,10 @@ head-of byte bytes h =
 
 lock-head-of : (byte : ℕ) (bytes : List ℕ) → begins_recipe (byte ∷ bytes) ≡ true → has_lock (byte ∷ bytes) ≡ true → IsLockHead (byte ∷ bytes) (lock_part (byte ∷ bytes))
 lock-head-of byte bytes h lock =
-    let flagless = behind_flags (byte ∷ bytes) in
+    let flagless = after_flags (byte ∷ bytes) in
     let after = drop 1 flagless in
     let blanks = take (far run_places Run.Blanks after) after in
-    let is : flagless ≡ COLON ∷ (blanks ++ behind run_places Run.Blanks after) =
+    let is : flagless ≡ COLON ∷ (blanks ++ text_after run_places Run.Blanks after) =
     begins-cons COLON flagless lock ∙ ap (λ xs. COLON ∷ xs) (sym (take-append-drop (far run_places Run.Blanks after) after)) in
     record { blanks = blanks; head = subst (λ xs. IsHead (byte ∷ bytes) xs) is (head-of byte bytes h); apart = blanks-run after }
 
@@ -126,22 +126,22 @@ line-of : (byte : ℕ) (bytes : List ℕ) → begins_recipe (byte ∷ bytes) ≡
     → IsColonLine (byte ∷ bytes) (behind_colon (byte ∷ bytes))
 line-of byte bytes h closed = by (has_lock (byte ∷ bytes)) refl
   where
-    by : (b : Bool) → has_lock (byte ∷ bytes) ≡ b → IsColonLine (byte ∷ bytes) (cond b (behind tail_places InTail.Fresh (behind_lock (byte ∷ bytes))) (behind up_to_places UpTo.Newline (behind_flags (byte ∷ bytes))))
+    by : (b : Bool) → has_lock (byte ∷ bytes) ≡ b → IsColonLine (byte ∷ bytes) (cond b (text_after tail_places InTail.Fresh (after_lock (byte ∷ bytes))) (text_after up_to_places UpTo.Newline (after_flags (byte ∷ bytes))))
     by true e =
         let part = lock_part (byte ∷ bytes) in
         let lock = take (word_length part) part in
         let after = drop (word_length part) part in
         let tail = take (far tail_places InTail.Fresh after) after in
-        let last = behind tail_places InTail.Fresh after in
+        let last = text_after tail_places InTail.Fresh after in
         let after_is : after ≡ tail ++ last = sym (take-append-drop (far tail_places InTail.Fresh after) after) in
         let part_is : part ≡ lock ++ (tail ++ last) = sym (take-append-drop (word_length part) part) ∙ ap (λ xs. lock ++ xs) after_is in
         Locked lock tail (subst (λ xs. IsLockHead (byte ∷ bytes) xs) part_is (lock-head-of byte bytes h e))
         (subst (λ xs. IsValue lock xs) after_is (read-value part (ap (λ b. b && is_unclosed part) (sym e) ∙ closed)))
         (tail-run true 0 after)
     by false e =
-        let flagless = behind_flags (byte ∷ bytes) in
+        let flagless = after_flags (byte ∷ bytes) in
         let rest = take (far up_to_places UpTo.Newline flagless) flagless in
-        let is : flagless ≡ rest ++ behind up_to_places UpTo.Newline flagless = sym (take-append-drop (far up_to_places UpTo.Newline flagless) flagless) in
+        let is : flagless ≡ rest ++ text_after up_to_places UpTo.Newline flagless = sym (take-append-drop (far up_to_places UpTo.Newline flagless) flagless) in
         Plain rest (subst (λ xs. IsHead (byte ∷ bytes) xs) is (head-of byte bytes h)) (ap (begins_with COLON) (sym is) ∙ e) (rest-run flagless)
 
 colon-stands : (situation : Situation) (byte : ℕ) (bytes : List ℕ) → begins_recipe (byte ∷ bytes) ≡ true
@@ -169,7 +169,7 @@ named-at byte bytes last start last_is =
       reaches = subst (λ xs. IsName (take (far run_places Run.Name (byte ∷ bytes)) (byte ∷ bytes)) xs) (sym last_is) (name-run (byte ∷ bytes));
     }
 
-name-left : (byte : ℕ) (bytes : List ℕ) → is_name_start byte ≡ true → IsLeft (behind run_places Run.Name (byte ∷ bytes)) bytes
+name-left : (byte : ℕ) (bytes : List ℕ) → is_name_start byte ≡ true → IsLeft (text_after run_places Run.Name (byte ∷ bytes)) bytes
 name-left byte bytes start =
     let first : belongs is_name_byte 0 byte bytes ≡ true = ap (λ b. b || is_digit_byte byte || (nat_eq byte BACKSLASH && begins_with 10 bytes) || false) start in
     record {
@@ -177,21 +177,21 @@ name-left byte bytes start =
       left_is = ap (λ k. drop k (byte ∷ bytes)) (go Run.Name 0 byte bytes first);
     }
 
-value-left : (byte : ℕ) (bytes : List ℕ) → is_name_start byte ≡ true → IsLeft (behind_equals (byte ∷ bytes)) bytes
+value-left : (byte : ℕ) (bytes : List ℕ) → is_name_start byte ≡ true → IsLeft (after_equals (byte ∷ bytes)) bytes
 value-left byte bytes start = left-drop _ _ bytes (left-drop 1 _ bytes (left-drop _ _ bytes (name-left byte bytes start)))
 
 -- a name and an `=`
 set-of : (byte : ℕ) (bytes : List ℕ) → is_name_start byte ≡ true → begins_with EQUALS (behind_name (byte ∷ bytes)) ≡ true
-    → IsSet (take (far run_places Run.Name (byte ∷ bytes)) (byte ∷ bytes)) (byte ∷ bytes) (behind run_places Run.Blanks (drop 1 (behind_name (byte ∷ bytes))))
+    → IsSet (take (far run_places Run.Name (byte ∷ bytes)) (byte ∷ bytes)) (byte ∷ bytes) (text_after run_places Run.Blanks (drop 1 (behind_name (byte ∷ bytes))))
 set-of byte bytes start equals =
     let text : List ℕ = byte ∷ bytes in
     let na = far run_places Run.Name text in
-    let rest = behind run_places Run.Name text in
+    let rest = text_after run_places Run.Name text in
     let bl = far run_places Run.Blanks rest in
-    let at_equals = behind run_places Run.Blanks rest in
+    let at_equals = text_after run_places Run.Blanks rest in
     let after = drop 1 at_equals in
     let ind = far run_places Run.Blanks after in
-    let value = behind run_places Run.Blanks after in
+    let value = text_after run_places Run.Blanks after in
     let after_is : take ind after ++ value ≡ after = take-append-drop ind after in
     let equals_is : EQUALS ∷ (take ind after ++ value) ≡ at_equals = ap (λ xs. EQUALS ∷ xs) after_is ∙ sym (begins-cons EQUALS at_equals equals) in
     let rest_is : take bl rest ++ (EQUALS ∷ (take ind after ++ value)) ≡ rest = ap (λ xs. take bl rest ++ xs) equals_is ∙ take-append-drop bl rest in
@@ -206,13 +206,13 @@ set-of byte bytes start equals =
 
 -- an assignment, where the value's quotes are closed
 setting : (situation : Situation) (byte : ℕ) (bytes : List ℕ) → situation.in_recipe ≡ false → is_name_start byte ≡ true
-    → begins_with EQUALS (behind_name (byte ∷ bytes)) ≡ true → is_unclosed (behind_equals (byte ∷ bytes)) ≡ false
+    → begins_with EQUALS (behind_name (byte ∷ bytes)) ≡ true → is_unclosed (after_equals (byte ∷ bytes)) ≡ false
     → Stands situation (byte ∷ bytes)
-    (let value = behind_equals (byte ∷ bytes) in
+    (let value = after_equals (byte ∷ bytes) in
     piece kind.Assign (passed run_places Run.Name (byte ∷ bytes)) (take (word_length value) value) (drop (word_length value) value))
 setting situation byte bytes here start equals closed =
     let text : List ℕ = byte ∷ bytes in
-    let value = behind_equals text in
+    let value = after_equals text in
     let wl = word_length value in
     let last = drop wl value in
     let name = passed run_places Run.Name text in
@@ -234,20 +234,20 @@ captured : (situation : Situation) (byte : ℕ) (bytes : List ℕ) → situation
     → captures (byte ∷ bytes) ≡ true → Stands situation (byte ∷ bytes) (capture (byte ∷ bytes))
 captured situation byte bytes here start h =
     let text : List ℕ = byte ∷ bytes in
-    let equals : begins_with EQUALS (behind_name text) ≡ true = and-left _ (begins_with BAR (behind_equals text)) h in
-    let bar : begins_with BAR (behind_equals text) ≡ true = and-right (begins_with EQUALS (behind_name text)) _ h in
-    let line = drop 1 (behind_equals text) in
-    let last = behind run_places Run.Line line in
+    let equals : begins_with EQUALS (behind_name text) ≡ true = and-left _ (begins_with BAR (after_equals text)) h in
+    let bar : begins_with BAR (after_equals text) ≡ true = and-right (begins_with EQUALS (behind_name text)) _ h in
+    let line = drop 1 (after_equals text) in
+    let last = text_after run_places Run.Line line in
     let name = passed run_places Run.Name text in
     let left = left-drop _ line bytes (left-drop 1 _ bytes (value-left byte bytes start)) in
     let whole_is : before text last ++ last ≡ text = before-left last text (left-more last byte bytes left) in
-    let bar_is : behind_equals text ≡ BAR ∷ (passed run_places Run.Line line ++ last) =
-    begins-cons BAR (behind_equals text) bar ∙ ap (λ xs. BAR ∷ xs) (sym (take-append-drop (far run_places Run.Line line) line)) in (
+    let bar_is : after_equals text ≡ BAR ∷ (passed run_places Run.Line line ++ last) =
+    begins-cons BAR (after_equals text) bar ∙ ap (λ xs. BAR ∷ xs) (sym (take-append-drop (far run_places Run.Line line) line)) in (
       left,
       (
         here,
         record {
-          set = subst (λ xs. IsSet name (before text last ++ last) xs) bar_is (subst (λ xs. IsSet name xs (behind_equals text)) (sym whole_is) (set-of byte bytes start equals));
+          set = subst (λ xs. IsSet name (before text last ++ last) xs) bar_is (subst (λ xs. IsSet name xs (after_equals text)) (sym whole_is) (set-of byte bytes start equals));
           line = line-run line;
         },
       ),
@@ -256,7 +256,7 @@ captured situation byte bytes here start h =
 -- a byte that begins a name begins no colon line
 no-lock : {A : Type 0} (byte : ℕ) (bytes lock : List ℕ) → is_name_start byte ≡ true → IsLockHead (byte ∷ bytes) lock → A
 no-lock byte bytes lock start h =
-    true-false (sym (and-left _ (begins_with 48 (behind run_places Run.Joins bytes)) (known-head (byte ∷ bytes) _ h.head).begins) ∙ other-name byte COLON start refl)
+    true-false (sym (and-left _ (begins_with 48 (text_after run_places Run.Joins bytes)) (known-head (byte ∷ bytes) _ h.head).begins) ∙ other-name byte COLON start refl)
 
 -- a name at the front
 named-stands : (situation : Situation) (byte : ℕ) (bytes : List ℕ) → situation.in_recipe ≡ false → is_name_start byte ≡ true
@@ -264,12 +264,12 @@ named-stands : (situation : Situation) (byte : ℕ) (bytes : List ℕ) → situa
 named-stands situation byte bytes here start =
     let text : List ℕ = byte ∷ bytes in
     let outside : (situation.in_recipe && not (nat_eq byte CLOSE_BRACE || nat_eq byte COLON)) ≡ false = ap (λ b. b && not (nat_eq byte CLOSE_BRACE || nat_eq byte COLON)) here in
-    let value = behind_equals text in
+    let value = after_equals text in
     cond_both (begins_with EQUALS (behind_name text)) _ _ (Stands situation text)
     (λ equals. cond_both (is_unclosed value) _ _ (Stands situation text)
     (λ h. broken-stands situation byte bytes outside (Value _ value (set-of byte bytes start equals) (unclosed-is value h)))
     (λ h. setting situation byte bytes here start equals h))
-    (λ h. cond_both (ends_name (behind run_places Run.Name text)) _ _ (Stands situation text)
+    (λ h. cond_both (ends_name (text_after run_places Run.Name text)) _ _ (Stands situation text)
     (λ ends. (
       name-left byte bytes start,
       (
@@ -349,7 +349,7 @@ brace-stands situation byte bytes here h =
     let byte_is : byte ≡ OPEN_BRACE = equal byte OPEN_BRACE (and-left _ (opens bytes) h) in
     let o : IsOpened bytes = record {
       joins = take (far run_places Run.Joins bytes) bytes;
-      rest = behind run_places Run.Joins bytes;
+      rest = text_after run_places Run.Joins bytes;
       behind_is = sym (take-append-drop (far run_places Run.Joins bytes) bytes);
       joined = joins-run bytes;
       ends = and-right (nat_eq byte OPEN_BRACE) _ h;
@@ -378,16 +378,16 @@ brace-stands situation byte bytes here h =
 
 -- a bar and a line
 bar-stands : (situation : Situation) (byte : ℕ) (bytes : List ℕ) → situation.in_recipe ≡ true → nat_eq byte BAR ≡ true
-    → Stands situation (byte ∷ bytes) (cond (ends_line (behind run_places Run.Blanks bytes)) (line_front kind.WriteOut bytes) (line_front kind.Pipe bytes))
+    → Stands situation (byte ∷ bytes) (cond (ends_line (text_after run_places Run.Blanks bytes)) (line_front kind.WriteOut bytes) (line_front kind.Pipe bytes))
 bar-stands situation byte bytes here bar =
     let n = far run_places Run.Line bytes in
     let m = mark-line BAR byte bytes bar in
     let all : take n bytes ++ drop n bytes ≡ bytes = take-append-drop n bytes in
-    cond_both (ends_line (behind run_places Run.Blanks bytes)) _ _ (Stands situation (byte ∷ bytes))
+    cond_both (ends_line (text_after run_places Run.Blanks bytes)) _ _ (Stands situation (byte ∷ bytes))
     (λ e. (
       left-of n bytes,
       marked (λ b. HasForm situation kind.WriteOut [] (take n bytes) b (drop n bytes)) n byte bytes
-          (here, refl, m, blanks-are (take n bytes) (drop n bytes) m.line (ap (λ xs. ends_line (behind run_places Run.Blanks xs)) all ∙ e)),
+          (here, refl, m, blanks-are (take n bytes) (drop n bytes) m.line (ap (λ xs. ends_line (text_after run_places Run.Blanks xs)) all ∙ e)),
     ))
     (λ e. (
       left-of n bytes,
@@ -396,7 +396,7 @@ bar-stands situation byte bytes here bar =
         refl,
         m,
         λ blanks. true-false (sym (ap ends_line (drop_at (take n bytes) (drop n bytes) _ (sym (blanks-far (take n bytes) (drop n bytes) blanks)))
-            ∙ line-ends 0 (take n bytes) (drop n bytes) m.line) ∙ ap (λ xs. ends_line (behind run_places Run.Blanks xs)) all ∙ e),
+            ∙ line-ends 0 (take n bytes) (drop n bytes) m.line) ∙ ap (λ xs. ends_line (text_after run_places Run.Blanks xs)) all ∙ e),
       ),
     ))
 
@@ -405,7 +405,7 @@ action-stands : (situation : Situation) (byte : ℕ) (bytes : List ℕ) → (sit
     → (nat_eq byte BACKSLASH && begins_with 10 bytes) ≡ false
     → Stands situation (byte ∷ bytes)
     (cond (nat_eq byte BANG) (line_front kind.Forward bytes)
-    (cond (nat_eq byte BAR) (cond (ends_line (behind run_places Run.Blanks bytes)) (line_front kind.WriteOut bytes) (line_front kind.Pipe bytes)) (other_action (byte ∷ bytes))))
+    (cond (nat_eq byte BAR) (cond (ends_line (text_after run_places Run.Blanks bytes)) (line_front kind.WriteOut bytes) (line_front kind.Pipe bytes)) (other_action (byte ∷ bytes))))
 action-stands situation byte bytes on space join =
     let text : List ℕ = byte ∷ bytes in
     let here : situation.in_recipe ≡ true = and-left _ (not (nat_eq byte CLOSE_BRACE || nat_eq byte COLON)) on in
@@ -454,7 +454,7 @@ front-stands situation byte bytes =
     (λ e. line-stands situation byte bytes e space join)
     (λ e. statement-stands situation byte bytes e))))
   where
-    comment : nat_eq byte HASH ≡ true → Stands situation (byte ∷ bytes) (gap (behind up_to_places UpTo.Newline bytes))
+    comment : nat_eq byte HASH ≡ true → Stands situation (byte ∷ bytes) (gap (text_after up_to_places UpTo.Newline bytes))
     comment h =
         let n = far up_to_places UpTo.Newline bytes in (
           left-of n bytes,

@@ -7,14 +7,14 @@ use Rattle.std.proofs.lemmas.Bool.Decides.{nat_tests}
 use Rattle.pm_bytes.specs.Letter.{is_digit_byte}
 use Rattle.pm_bytes.specs.Alphabet.{DOT, PLUS, MINUS, CARET}
 use Rattle.pm_recipe.specs.Bytes.{begins_with}
-use Rattle.pm_recipe.specs.Places.{far, behind}
+use Rattle.pm_recipe.specs.Places.{far, text_after}
 use Rattle.pm_recipe.specs.declared.runs.Run.TheVariants as Run
 use Rattle.pm_recipe.specs.declared.leads.InNumeral.TheVariants as InNumeral
 use Rattle.pm_recipe.specs.Runs.{run_places}
 use Rattle.pm_recipe.specs.Leads.{numeral_places}
 use Rattle.pm_recipe.specs.declared.tree.Weight.{Weight}
 use Rattle.pm_recipe.specs.declared.tree.Weight.TheVariants as weight
-use Rattle.pm_recipe.specs.Weights.{digits_value, number_within, digits_of, weight_of, numeral, has_digit, exponent, ends_word, has_weight, exponent_value, weight_at, behind_weight}
+use Rattle.pm_recipe.specs.Weights.{digits_value, number_within, digits_of, weight_of, numeral, has_digit, exponent, ends_word, has_weight, exponent_value, weight_at, after_weight}
 use Rattle.pm_recipe.specs.Conditions.{IsSign, are_digits, IsNumeral, IsWeight, IsNumber, most_power, IsWorth, IsWeighed}
 use Rattle.pm_recipe.specs.Conditions.IsSign.{Absent, Plus, Minus}
 use Rattle.pm_recipe.specs.Conditions.IsWorth.{Adds, Takes, Bad}
@@ -105,7 +105,7 @@ record IsReadWeight (text : List ℕ) (minus : Bool) (digits : List ℕ) (less :
   digits_are : digits_of (numeral text) ≡ digits
   less_is : begins_with MINUS (numeral (exponent text)) ≡ less
   power_is : digits_of (numeral (exponent text)) ≡ power
-  rest_is : behind numeral_places InNumeral.Sign (exponent text) ≡ rest
+  rest_is : text_after numeral_places InNumeral.Sign (exponent text) ≡ rest
 
 numeral-digit : (text : List ℕ) (minus : Bool) (digits : List ℕ) → IsNumeral text minus digits → has_digit text ≡ true
 numeral-digit text minus digits n = by n.sign n.signed n.text_is
@@ -137,12 +137,12 @@ weight-read text minus digits less power rest h =
     let w_far : far numeral_places InNumeral.Sign (h.w ++ after) ≡ length h.w = numeral-far h.w minus digits after h.w_is refl in
     let x_far : far numeral_places InNumeral.Sign (h.x ++ rest) ≡ length h.x = numeral-far h.x less power rest h.x_is (ends-figures rest h.ends) in
     let w_is : numeral text ≡ h.w = ap numeral h.text_is ∙ take_at h.w after _ (sym w_far) in
-    let caret_is : behind numeral_places InNumeral.Sign text ≡ after = ap (behind numeral_places InNumeral.Sign) h.text_is ∙ drop_at h.w after _ (sym w_far) in
+    let caret_is : text_after numeral_places InNumeral.Sign text ≡ after = ap (text_after numeral_places InNumeral.Sign) h.text_is ∙ drop_at h.w after _ (sym w_far) in
     let power_at : exponent text ≡ h.x ++ rest = ap (drop 1) caret_is in
     let x_is : numeral (exponent text) ≡ h.x = ap numeral power_at ∙ take_at h.x rest _ (sym x_far) in
-    let rest_is : behind numeral_places InNumeral.Sign (exponent text) ≡ rest = ap (behind numeral_places InNumeral.Sign) power_at ∙ drop_at h.x rest _ (sym x_far) in
+    let rest_is : text_after numeral_places InNumeral.Sign (exponent text) ≡ rest = ap (text_after numeral_places InNumeral.Sign) power_at ∙ drop_at h.x rest _ (sym x_far) in
     record {
-      has = all-four (has_digit (numeral text)) (begins_with CARET (behind numeral_places InNumeral.Sign text)) (has_digit (numeral (exponent text))) (ends_word (behind numeral_places InNumeral.Sign (exponent text)))
+      has = all-four (has_digit (numeral text)) (begins_with CARET (text_after numeral_places InNumeral.Sign text)) (has_digit (numeral (exponent text))) (ends_word (text_after numeral_places InNumeral.Sign (exponent text)))
           (ap has_digit w_is ∙ numeral-digit h.w minus digits h.w_is) (ap (begins_with CARET) caret_is)
           (ap has_digit x_is ∙ numeral-digit h.x less power h.x_is) (ap ends_word rest_is ∙ h.ends);
       minus_is = ap (begins_with MINUS) h.text_is ∙ (split h.w minus digits after h.w_is).minus_is;
@@ -217,13 +217,13 @@ numeral-at (byte ∷ bytes) h = by (is_digit_byte byte || nat_eq byte DOT || nat
 
 weight-there : (text : List ℕ) → has_weight text ≡ true
     → IsWeight text (begins_with MINUS (numeral text)) (digits_of (numeral text)) (begins_with MINUS (numeral (exponent text))) (digits_of (numeral (exponent text)))
-    (behind numeral_places InNumeral.Sign (exponent text))
+    (text_after numeral_places InNumeral.Sign (exponent text))
 weight-there text h =
     let a = has_digit (numeral text) in
-    let b = begins_with CARET (behind numeral_places InNumeral.Sign text) in
+    let b = begins_with CARET (text_after numeral_places InNumeral.Sign text) in
     let c = has_digit (numeral (exponent text)) in
-    let d = ends_word (behind numeral_places InNumeral.Sign (exponent text)) in
-    let caret : behind numeral_places InNumeral.Sign text ≡ CARET ∷ exponent text = begins-cons CARET (behind numeral_places InNumeral.Sign text) (second a b c d h) in
+    let d = ends_word (text_after numeral_places InNumeral.Sign (exponent text)) in
+    let caret : text_after numeral_places InNumeral.Sign text ≡ CARET ∷ exponent text = begins-cons CARET (text_after numeral_places InNumeral.Sign text) (second a b c d h) in
     record {
       w = numeral text;
       x = numeral (exponent text);
@@ -316,7 +316,7 @@ worth-some minus digits less power = by (number_within 2147483647 digits) (numbe
 -- a line and what follows its weight
 pub record IsWeighedOnce (line : List ℕ) (worth : Weight) (rest : List ℕ) : Type 0 where
   pub worth_is : worth ≡ weight_at line
-  pub rest_is : rest ≡ behind_weight line
+  pub rest_is : rest ≡ after_weight line
 
 pub weighed-once : (line : List ℕ) (worth : Weight) (rest : List ℕ) → IsWeighed line worth rest → IsWeighedOnce line worth rest
 weighed-once line worth rest (Bare none worth_is rest_is) = by (has_weight line) refl
@@ -335,30 +335,30 @@ weighed-once line worth rest (Weighted minus less digits power last blanks w v i
     ∙ ap (λ xs. weight_of minus (number_within 2147483647 xs) (exponent_value (numeral (exponent line)))) r.digits_are
     ∙ ap (λ b. weight_of minus (number_within 2147483647 digits) (number_within (cond b 0 2147483647) (digits_of (numeral (exponent line))))) r.less_is
     ∙ ap (λ xs. weight_of minus (number_within 2147483647 digits) (number_within (cond less 0 2147483647) xs)) r.power_is in
-    let behind_is : behind run_places Run.Blanks (behind numeral_places InNumeral.Sign (exponent line)) ≡ rest =
-    ap (behind run_places Run.Blanks) (r.rest_is ∙ is) ∙ drop_at blanks rest _ (sym (blanks-far blanks rest apart)) in
+    let behind_is : text_after run_places Run.Blanks (text_after numeral_places InNumeral.Sign (exponent line)) ≡ rest =
+    ap (text_after run_places Run.Blanks) (r.rest_is ∙ is) ∙ drop_at blanks rest _ (sym (blanks-far blanks rest apart)) in
     record {
       worth_is = worth-once minus digits less power worth v ∙ sym (cond-true (has_weight line) _ _ r.has ∙ value_is);
       rest_is = sym (cond-true (has_weight line) _ _ r.has ∙ behind_is);
     }
 
-pub weighed-some : (line : List ℕ) → IsWeighed line (weight_at line) (behind_weight line)
+pub weighed-some : (line : List ℕ) → IsWeighed line (weight_at line) (after_weight line)
 weighed-some line = by (has_weight line) refl
   where
-    by : (b : Bool) → has_weight line ≡ b → IsWeighed line (weight_at line) (behind_weight line)
+    by : (b : Bool) → has_weight line ≡ b → IsWeighed line (weight_at line) (after_weight line)
     by false h =
         Bare (λ minus less digits power last w. true-false (sym (weight-read line minus digits less power last w).has ∙ h))
         (cond-false (has_weight line) _ _ h) (cond-false (has_weight line) _ _ h)
     by true h =
         let w = weight-there line h in
         let r = weight-read line _ _ _ _ _ w in
-        let after = behind numeral_places InNumeral.Sign (exponent line) in
+        let after = text_after numeral_places InNumeral.Sign (exponent line) in
         let minus_is : begins_with MINUS line ≡ begins_with MINUS (numeral line) = r.minus_is in
         let worth_is : weight_at line ≡ worth_of (begins_with MINUS (numeral line)) (digits_of (numeral line)) (begins_with MINUS (numeral (exponent line))) (digits_of (numeral (exponent line))) =
         cond-true (has_weight line) _ _ h
         ∙ ap (λ b. weight_of b (number_within 2147483647 (digits_of (numeral line))) (exponent_value (numeral (exponent line)))) minus_is in
-        let rest_is : behind_weight line ≡ behind run_places Run.Blanks after = cond-true (has_weight line) _ _ h in
-        subst (λ v. IsWeighed line v (behind_weight line)) (sym worth_is)
+        let rest_is : after_weight line ≡ text_after run_places Run.Blanks after = cond-true (has_weight line) _ _ h in
+        subst (λ v. IsWeighed line v (after_weight line)) (sym worth_is)
         (subst (λ xs. IsWeighed line (worth_of (begins_with MINUS (numeral line)) (digits_of (numeral line)) (begins_with MINUS (numeral (exponent line))) (digits_of (numeral (exponent line)))) xs) (sym rest_is)
         (Weighted _ _ _ _ after (take (far run_places Run.Blanks after) after) w
         (worth-some (begins_with MINUS (numeral line)) (digits_of (numeral line)) (begins_with MINUS (numeral (exponent line))) (digits_of (numeral (exponent line))))

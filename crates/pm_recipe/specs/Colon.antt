@@ -2,7 +2,7 @@
 use Rattle.std.specs.Prelude.{ℕ, List, [], ◌∷◌, if◌then◌else◌, nat_eq, nat_lt, Bool, false, true, not, ◌&&◌, ◌||◌, take, drop, length, Option, Some, None, codes}
 use Rattle.std.specs.List.{list_any}
 use Rattle.pm_recipe.specs.Bytes.{begins_with}
-use Rattle.pm_recipe.specs.Places.{far, behind, rest_of}
+use Rattle.pm_recipe.specs.Places.{far, text_after, rest_of}
 use Rattle.pm_recipe.specs.declared.runs.Run.TheVariants as Run
 use Rattle.pm_recipe.specs.declared.runs.UpTo.TheVariants as UpTo
 use Rattle.pm_recipe.specs.declared.line_words.InFlags.TheVariants as InFlags
@@ -29,35 +29,35 @@ ends_statement (byte ∷ bytes) = nat_eq byte NEWLINE || nat_eq byte HASH
 
 -- whether a colon and a zero begin the text
 abbrev pub begins_recipe : List ℕ → Bool
-begins_recipe text = begins_with COLON text && begins_with ZERO (behind run_places Run.Joins (drop 1 text))
+begins_recipe text = begins_with COLON text && begins_with ZERO (text_after run_places Run.Joins (drop 1 text))
 
 -- what follows the zero
-abbrev pub behind_zero : List ℕ → List ℕ
-behind_zero text = drop 1 (behind run_places Run.Joins (drop 1 text))
+abbrev pub after_zero : List ℕ → List ℕ
+after_zero text = drop 1 (text_after run_places Run.Joins (drop 1 text))
 
 -- the bytes after the zero among which the flags stand
 abbrev pub flags_part : List ℕ → List ℕ
-flags_part text = take (far flag_places InFlags.Word (behind_zero text)) (behind_zero text)
+flags_part text = take (far flag_places InFlags.Word (after_zero text)) (after_zero text)
 
 -- what follows the flags
-abbrev pub behind_flags : List ℕ → List ℕ
-behind_flags text = behind flag_places InFlags.Word (behind_zero text)
+abbrev pub after_flags : List ℕ → List ℕ
+after_flags text = text_after flag_places InFlags.Word (after_zero text)
 
 -- a second colon begins a lock
 abbrev pub has_lock : List ℕ → Bool
-has_lock text = begins_with COLON (behind_flags text)
+has_lock text = begins_with COLON (after_flags text)
 
 -- from the lock's text on
 abbrev pub lock_part : List ℕ → List ℕ
-lock_part text = behind run_places Run.Blanks (drop 1 (behind_flags text))
+lock_part text = text_after run_places Run.Blanks (drop 1 (after_flags text))
 
 -- what follows the lock's text
-abbrev pub behind_lock : List ℕ → List ℕ
-behind_lock text = drop (word_length (lock_part text)) (lock_part text)
+abbrev pub after_lock : List ℕ → List ℕ
+after_lock text = drop (word_length (lock_part text)) (lock_part text)
 
 -- what follows the line
 abbrev pub behind_colon : List ℕ → List ℕ
-behind_colon text = if has_lock text then behind tail_places InTail.Fresh (behind_lock text) else behind up_to_places UpTo.Newline (behind_flags text)
+behind_colon text = if has_lock text then text_after tail_places InTail.Fresh (after_lock text) else text_after up_to_places UpTo.Newline (after_flags text)
 
 -- the lock's text as written, where there is a lock
 abbrev pub lock_of : List ℕ → Option (List ℕ)
@@ -67,7 +67,7 @@ lock_of text = if has_lock text then Some (take (word_length (lock_part text)) (
 abbrev pub has_junk : List ℕ → Bool
 has_junk text =
     nat_lt (far run_places Run.Letters (flags_part text)) (length (flags_part text))
-    || (has_lock text && not (ends_statement (behind run_places Run.Blanks (behind_lock text))))
+    || (has_lock text && not (ends_statement (text_after run_places Run.Blanks (after_lock text))))
 
 -- whether the flag of a letter is among these bytes
 abbrev pub has_letter : List ℕ → List ℕ → Bool

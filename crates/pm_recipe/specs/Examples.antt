@@ -73,7 +73,7 @@ pub record OfStatements : Type 0 where
   pub no_value : front_of outside (codes "A=\nB") ≡ piece kind.Assign (codes "A") [] (codes "\nB")
   pub joined_name : front_of outside (codes "A\\\nB=c") ≡ piece kind.Assign (codes "A\\\nB") (codes "c") []
   -- a word that begins with `#` is a comment
-  pub comment_behind : front_of outside (codes "A= #b") ≡ piece kind.Assign (codes "A") [] (codes "#b")
+  pub comment_after : front_of outside (codes "A= #b") ≡ piece kind.Assign (codes "A") [] (codes "#b")
   pub hash_in_word : front_of outside (codes "A=b#c") ≡ piece kind.Assign (codes "A") (codes "b#c") []
   -- quotes keep blanks and newlines in a word; each kind is a byte as any other in the others, but for backquotes in double ones
   pub single_quotes : front_of outside (codes "A='b\\\" \n`'c d") ≡ piece kind.Assign (codes "A") (codes "'b\\\" \n`'c") (codes " d")

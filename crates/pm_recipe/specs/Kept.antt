@@ -1,7 +1,7 @@
 -- How the code drops the joins of a text, byte by byte.
 use Rattle.std.specs.Prelude.{ℕ, List, [], ◌∷◌, if◌then◌else◌, Bool, true, ◌||◌}
 use Rattle.pm_bytes.specs.Letter.{is_blank_byte}
-use Rattle.pm_recipe.specs.Places.{behind}
+use Rattle.pm_recipe.specs.Places.{text_after}
 use Rattle.pm_recipe.specs.declared.runs.Run.TheVariants as Run
 use Rattle.pm_recipe.specs.Runs.{run_places}
 use Rattle.pm_recipe.specs.Joins.{is_join, before_blanks}
@@ -29,4 +29,4 @@ kept indents side (byte ∷ bytes) =
 
 -- without the blanks at both ends
 abbrev pub trimmed : List ℕ → List ℕ
-trimmed text = before_blanks (behind run_places Run.Blanks text)
+trimmed text = before_blanks (text_after run_places Run.Blanks text)

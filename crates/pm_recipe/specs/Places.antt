@@ -15,22 +15,22 @@ abbrev pub joins_before : {Place : Type 0} → Places Place → Place → ℕ �
 joins_before places place byte bytes = places.joins place && nat_eq byte BACKSLASH && begins_with NEWLINE bytes
 
 -- the place after a byte; a join changes none
-abbrev pub place_behind : {Place : Type 0} → Places Place → Bool → Place → ℕ → List ℕ → Place
-place_behind places joined place byte bytes = if joined || joins_before places place byte bytes then place else places.after place byte
+abbrev pub place_after : {Place : Type 0} → Places Place → Bool → Place → ℕ → List ℕ → Place
+place_after places joined place byte bytes = if joined || joins_before places place byte bytes then place else places.after place byte
 
 -- how many bytes are read from a place; the first may be the newline of a join
 abbrev pub reach_of : {Place : Type 0} → Places Place → Bool → Place → List ℕ → ℕ
 reach_of places joined place [] = 0
 reach_of places joined place (byte ∷ bytes) =
     if not joined && not (joins_before places place byte bytes) && places.ends place byte then 0
-    else reach_of places (joins_before places place byte bytes && not joined) (place_behind places joined place byte bytes) bytes + 1
+    else reach_of places (joins_before places place byte bytes && not joined) (place_after places joined place byte bytes) bytes + 1
 
 -- the place in which it ends
 abbrev pub rest_of : {Place : Type 0} → Places Place → Bool → Place → List ℕ → Place
 rest_of places joined place [] = place
 rest_of places joined place (byte ∷ bytes) =
     if not joined && not (joins_before places place byte bytes) && places.ends place byte then place
-    else rest_of places (joins_before places place byte bytes && not joined) (place_behind places joined place byte bytes) bytes
+    else rest_of places (joins_before places place byte bytes && not joined) (place_after places joined place byte bytes) bytes
 
 -- how far a reader comes from this place
 abbrev pub far : {Place : Type 0} → Places Place → Place → List ℕ → ℕ
@@ -41,5 +41,5 @@ abbrev pub passed : {Place : Type 0} → Places Place → Place → List ℕ →
 passed places place text = take (far places place text) text
 
 -- what stands after there
-abbrev pub behind : {Place : Type 0} → Places Place → Place → List ℕ → List ℕ
-behind places place text = drop (far places place text) text
+abbrev pub text_after : {Place : Type 0} → Places Place → Place → List ℕ → List ℕ
+text_after places place text = drop (far places place text) text

@@ -3,7 +3,7 @@ use Rattle.std.specs.Prelude.{ℕ, List, [], ◌∷◌}
 use Rattle.pm_recipe.specs.declared.fronts.Kind.{Kind}
 use Rattle.pm_recipe.specs.declared.fronts.Kind.TheVariants.{Gap, Colon, Condition, Mailbox, Pipe, WriteOut, Capture, Forward, Open, TooDeep, Close, Assign, Unset, Skipped}
 use Rattle.pm_recipe.specs.declared.building.Head.{Head}
-use Rattle.pm_recipe.specs.Places.{behind}
+use Rattle.pm_recipe.specs.Places.{text_after}
 use Rattle.pm_recipe.specs.declared.runs.Run.TheVariants as Run
 use Rattle.pm_recipe.specs.Runs.{run_places}
 use Rattle.pm_recipe.specs.Joins.{unjoined}
@@ -20,7 +20,7 @@ head_of line text = record { line = line; text = text; flags = flags_of (flags_p
 
 -- a program's line
 abbrev pub program_line : List ℕ → List ℕ
-program_line text = behind run_places Run.Blanks (unjoined text)
+program_line text = text_after run_places Run.Blanks (unjoined text)
 
 -- what a span says
 abbrev pub item_of : Span → Kind → Item

@@ -3,7 +3,7 @@ use Rattle.std.specs.Prelude.{ℕ, ◌+◌, ◌-◌, ◌*◌, List, [], ◌∷�
 use Rattle.std.specs.List.{list_any}
 use Rattle.pm_bytes.specs.Letter.{is_blank_byte, is_digit_byte}
 use Rattle.pm_recipe.specs.Bytes.{begins_with}
-use Rattle.pm_recipe.specs.Places.{far, behind, rest_of}
+use Rattle.pm_recipe.specs.Places.{far, text_after, rest_of}
 use Rattle.pm_recipe.specs.declared.runs.Run.TheVariants as Run
 use Rattle.pm_recipe.specs.declared.runs.UpTo.TheVariants as UpTo
 use Rattle.pm_recipe.specs.declared.leads.InNumeral.TheVariants as InNumeral
@@ -48,7 +48,7 @@ has_digit text = list_any is_digit_byte text
 
 -- what stands after the caret
 abbrev pub exponent : List ℕ → List ℕ
-exponent text = drop 1 (behind numeral_places InNumeral.Sign text)
+exponent text = drop 1 (text_after numeral_places InNumeral.Sign text)
 
 -- a blank or the end
 abbrev pub ends_word : List ℕ → Bool
@@ -62,8 +62,8 @@ most_weight = 2147483647
 -- two numerals with a caret between them, and a blank or the end after
 abbrev pub has_weight : List ℕ → Bool
 has_weight text =
-    has_digit (numeral text) && begins_with CARET (behind numeral_places InNumeral.Sign text)
-    && has_digit (numeral (exponent text)) && ends_word (behind numeral_places InNumeral.Sign (exponent text))
+    has_digit (numeral text) && begins_with CARET (text_after numeral_places InNumeral.Sign text)
+    && has_digit (numeral (exponent text)) && ends_word (text_after numeral_places InNumeral.Sign (exponent text))
 
 -- an exponent that is minus nothing but zeros is zero
 abbrev pub exponent_value : List ℕ → Option ℕ
@@ -77,8 +77,8 @@ weight_at text =
     else weight.None
 
 -- what follows the weight, where there is one
-abbrev pub behind_weight : List ℕ → List ℕ
-behind_weight text = if has_weight text then behind run_places Run.Blanks (behind numeral_places InNumeral.Sign (exponent text)) else text
+abbrev pub after_weight : List ℕ → List ℕ
+after_weight text = if has_weight text then text_after run_places Run.Blanks (text_after numeral_places InNumeral.Sign (exponent text)) else text
 
 -- whether nothing but a weight, blanks, inversions and names with two question marks can stand before this place
 abbrev pub is_at_dollar : InLead → Bool
@@ -87,17 +87,17 @@ is_at_dollar _ = false
 
 -- whether a dollar stands after nothing else
 abbrev pub is_expanded : List ℕ → Bool
-is_expanded text = is_at_dollar (rest_of lead_places false InLead.Before text) && begins_with DOLLAR (behind lead_places InLead.Before text)
+is_expanded text = is_at_dollar (rest_of lead_places false InLead.Before text) && begins_with DOLLAR (text_after lead_places InLead.Before text)
 
 -- after such a dollar the blanks after a join stay
 abbrev pub dollar_line : List ℕ → List ℕ
-dollar_line text = unindented (take (far up_to_places UpTo.Dollar text) text) ++ unjoined (behind up_to_places UpTo.Dollar text)
+dollar_line text = unindented (take (far up_to_places UpTo.Dollar text) text) ++ unjoined (text_after up_to_places UpTo.Dollar text)
 
 -- the line of a condition
 abbrev pub condition_line : List ℕ → List ℕ
 condition_line text =
-    if is_expanded (behind_weight (trimmed (unindented text))) then trimmed (dollar_line text) else trimmed (unindented text)
+    if is_expanded (after_weight (trimmed (unindented text))) then trimmed (dollar_line text) else trimmed (unindented text)
 
 -- a condition, of what follows its star
 abbrev pub condition_of : List ℕ → Condition
-condition_of text = record { weight = weight_at (condition_line text); text = behind_weight (condition_line text) }
+condition_of text = record { weight = weight_at (condition_line text); text = after_weight (condition_line text) }

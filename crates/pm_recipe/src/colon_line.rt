@@ -3,8 +3,8 @@ ghost use Rattle.std.specs.Prelude.{◌≡◌, ◌≤◌, ◌<◌, ◌+◌, ◌-
 ghost use Rattle.pm_recipe.specs.Places.{far};
 ghost use Rattle.pm_recipe.specs.Runs.{run_places};
 ghost use Rattle.pm_recipe.specs.declared.runs.Run.TheVariants.{Letters};
-ghost use Rattle.pm_recipe.specs.Colon.{word_length, ends_statement, begins_recipe, behind_zero};
-ghost use Rattle.pm_recipe.specs.Colon.{flags_part, behind_flags, has_lock, lock_part, behind_lock, behind_colon};
+ghost use Rattle.pm_recipe.specs.Colon.{word_length, ends_statement, begins_recipe, after_zero};
+ghost use Rattle.pm_recipe.specs.Colon.{flags_part, after_flags, has_lock, lock_part, after_lock, behind_colon};
 ghost use Rattle.pm_recipe.specs.Colon.{lock_of, has_junk, has_letter, flags_of};
 
 use crate::bytes::starts_with;
@@ -45,7 +45,7 @@ pub fn is_recipe(text: &[u8]) -> bool
 }
 
 fn past_zero(text: &[u8]) -> &[u8]
-    ensures text { result.now ≡ behind_zero text.now }
+    ensures text { result.now ≡ after_zero text.now }
     ensures shorter { length result.now ≤ length text.now - 1 }
 {
     past_first(past(Run::Joins, past_first(text)))
@@ -58,7 +58,7 @@ fn flags_in(text: &[u8]) -> &[u8]
 }
 
 fn past_flags(text: &[u8]) -> &[u8]
-    ensures text { result.now ≡ behind_flags text.now }
+    ensures text { result.now ≡ after_flags text.now }
     ensures shorter { length result.now ≤ length text.now - 1 }
 {
     past(InFlags::Word, past_zero(text))
@@ -78,7 +78,7 @@ pub fn from_lock(text: &[u8]) -> &[u8]
 }
 
 fn past_lock(text: &[u8]) -> &[u8]
-    ensures text { result.now ≡ behind_lock text.now }
+    ensures text { result.now ≡ after_lock text.now }
     ensures shorter { length result.now ≤ length text.now - 1 }
 {
     split_word(from_lock(text)).1

@@ -2,7 +2,7 @@
 ghost use Rattle.std.specs.Prelude.{◌≡◌, ◌≤◌, ◌<◌, ◌^◌, IfOk, IfSome, None, Some, if◌then◌else◌, nat_lt, neg_ℤ, pos};
 ghost use Rattle.pm_recipe.specs.Weights.{most_weight, digits_value, number_within, digits_of, weight_of, numeral};
 ghost use Rattle.pm_recipe.specs.Weights.{has_digit, exponent, ends_word, has_weight, exponent_value, weight_at};
-ghost use Rattle.pm_recipe.specs.Weights.{behind_weight, is_expanded, condition_line, condition_of, is_at_dollar};
+ghost use Rattle.pm_recipe.specs.Weights.{after_weight, is_expanded, condition_line, condition_of, is_at_dollar};
 ghost use Rattle.pm_recipe.specs.Weights.{dollar_line};
 
 use crate::bytes::starts_with;
@@ -149,7 +149,7 @@ fn read_weight(text: &[u8]) -> Weight
 }
 
 fn past_weight(text: &[u8]) -> &[u8]
-    ensures { result.now ≡ behind_weight text.now }
+    ensures { result.now ≡ after_weight text.now }
 {
     if is_weighted(text) {
         past(Run::Blanks, past(InNumeral::Sign, exponent_in(text)))

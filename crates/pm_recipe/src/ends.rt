@@ -29,7 +29,7 @@ pub fn none_unended() -> Unended
 }
 
 /// After a span of this kind, which begins on this line in this situation.
-pub fn unended_behind(kind: Kind, line: u64, situation: Situation, unended: Unended) -> Unended
+pub fn unended_after(kind: Kind, line: u64, situation: Situation, unended: Unended) -> Unended
     ensures { (blocks : Blocks) → Stands unended situation.depth blocks
         → Stands result (situation_after kind situation).depth (blocks_after kind line blocks) }
 {

@@ -4,7 +4,7 @@ ghost use Rattle.pm_recipe.specs.declared.joins.Side.TheVariants as Side;
 ghost use Rattle.pm_recipe.specs.Joins.{is_join, unjoined, unindented, before_blanks};
 ghost use Rattle.pm_recipe.specs.Kept.{is_dropped, side_after, kept, trimmed};
 
-use crate::places::{newline_behind, past};
+use crate::places::{newline_after, past};
 use crate::runs::Run;
 use pm_bytes::{BACKSLASH, Blob, Memory, is_blank};
 use std::alloc::Global;
@@ -57,7 +57,7 @@ fn joins_at(text: &[u8], i: usize, byte: u8) -> bool
     requires { i < length text.now }
     ensures { result ≡ is_join byte (drop (i + 1) text.now) }
 {
-    byte == BACKSLASH && newline_behind(text, i)
+    byte == BACKSLASH && newline_after(text, i)
 }
 
 fn keep(alloc: Global, indents: bool, text: &[u8]) -> Result<Vec<u8>, Memory>

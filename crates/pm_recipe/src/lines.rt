@@ -1,6 +1,6 @@
 //! Lines of a recipe at their first byte: conditions and actions.
 ghost use Rattle.std.specs.Prelude.{◌≡◌, ◌<◌, length};
-ghost use Rattle.pm_recipe.specs.Front.{front_in, opens, ends_line, behind_equals, captures, capture, other_action};
+ghost use Rattle.pm_recipe.specs.Front.{front_in, opens, ends_line, after_equals, captures, capture, other_action};
 ghost use Rattle.pm_recipe.specs.Front.{line_front, brace, recipe_line};
 
 use crate::bytes::starts_with;
@@ -26,7 +26,7 @@ fn at_line_end(text: &[u8]) -> bool
 }
 
 fn past_equals(text: &[u8]) -> &[u8]
-    ensures text { result.now ≡ behind_equals text.now }
+    ensures text { result.now ≡ after_equals text.now }
 {
     past(Run::Blanks, past_first(past_name(text)))
 }

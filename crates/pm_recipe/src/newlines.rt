@@ -1,6 +1,6 @@
 //! The ends of lines.
 ghost use Rattle.std.specs.Prelude.{◌≡◌, ◌≤◌, length};
-ghost use Rattle.pm_recipe.specs.Places.{far, behind};
+ghost use Rattle.pm_recipe.specs.Places.{far, text_after};
 ghost use Rattle.pm_recipe.specs.Runs.{up_to_places};
 ghost use Rattle.pm_recipe.specs.declared.runs.UpTo.TheVariants.{Newline};
 ghost use Rattle.pm_recipe.specs.Spans.{newlines};
@@ -21,7 +21,7 @@ fn line_end(text: &[u8]) -> usize
 
 /// The end of the line as written, and what follows.
 pub fn past_line(text: &[u8]) -> &[u8]
-    ensures text { result.now ≡ behind up_to_places Newline text.now }
+    ensures text { result.now ≡ text_after up_to_places Newline text.now }
     ensures shorter { length result.now ≤ length text.now }
 {
     &text[line_end(text)..]

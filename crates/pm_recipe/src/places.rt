@@ -3,7 +3,7 @@ ghost use Rattle.std.specs.Prelude.{◌≡◌, ◌≤◌, ◌<◌, length, drop,
 ghost use Rattle.std.specs.Prelude.{◌-◌, Bool, ℕ};
 ghost use Rattle.pm_bytes.specs.Alphabet as alphabet;
 ghost use Rattle.pm_recipe.specs.Bytes.{begins_with};
-ghost use Rattle.pm_recipe.specs.Places.{Places, reach_of, rest_of, far, passed, behind};
+ghost use Rattle.pm_recipe.specs.Places.{Places, reach_of, rest_of, far, passed, text_after};
 
 use crate::bytes::starts_with;
 use pm_bytes::{BACKSLASH, NEWLINE};
@@ -32,7 +32,7 @@ pub struct Extent<P> {
     pub place: P,
 }
 
-pub fn newline_behind(text: &[u8], i: usize) -> bool
+pub fn newline_after(text: &[u8], i: usize) -> bool
     requires { i < length text.now }
     ensures { result ≡ begins_with alphabet.NEWLINE (drop (i + 1) text.now) }
 {
@@ -54,14 +54,14 @@ pub fn reach<P: Place>(place: P, text: &[u8]) -> Extent<P>
     let mut here = place;
     let mut joined = false;
     for (i, byte) in text.iter().enumerate() {
-        let joining = joins_here(here, *byte, newline_behind(text, i));
+        let joining = joins_here(here, *byte, newline_after(text, i));
         if stops(joined, joining, here, *byte) {
             return Extent {
                 length: i,
                 place: here,
             };
         }
-        here = place_behind(joined, joining, here, *byte);
+        here = place_after(joined, joining, here, *byte);
         joined = joining && !joined;
     }
     Extent {
@@ -76,7 +76,7 @@ fn stops<P: Place>(joined: bool, joining: bool, place: P, byte: u8) -> bool
     !joined && !joining && place.ends(byte)
 }
 
-fn place_behind<P: Place>(joined: bool, joining: bool, place: P, byte: u8) -> P
+fn place_after<P: Place>(joined: bool, joining: bool, place: P, byte: u8) -> P
     ensures { result ≡ (if joined || joining then place else P.places.after place byte) }
 {
     if joined || joining {
@@ -89,7 +89,7 @@ fn place_behind<P: Place>(joined: bool, joining: bool, place: P, byte: u8) -> P
 /// What is read, and what is after, where a reader comes no further.
 pub fn split<P: Place>(place: P, text: &[u8]) -> (&[u8], &[u8])
     ensures passed { result.0.now ≡ passed P.places place text.now }
-    ensures behind { result.1.now ≡ behind P.places place text.now }
+    ensures behind { result.1.now ≡ text_after P.places place text.now }
     ensures length { far P.places place text.now + length result.1.now ≡ length text.now }
 {
     let length = reach(place, text).length;
@@ -98,7 +98,7 @@ pub fn split<P: Place>(place: P, text: &[u8]) -> (&[u8], &[u8])
 
 /// What is after, where a reader comes no further.
 pub fn past<P: Place>(place: P, text: &[u8]) -> &[u8]
-    ensures text { result.now ≡ behind P.places place text.now }
+    ensures text { result.now ≡ text_after P.places place text.now }
     ensures length { far P.places place text.now + length result.now ≡ length text.now }
 {
     split(place, text).1

@@ -8,7 +8,7 @@ ghost use Rattle.pm_recipe.specs.Ends.{Blocks, closings};
 ghost use Rattle.pm_recipe.specs.Builder.{built_of, whole, Stands};
 
 use crate::building::Builder;
-use crate::ends::{Unended, none_unended, tell_missing, unended_behind};
+use crate::ends::{Unended, none_unended, tell_missing, unended_after};
 use crate::fronts::{Kind, front_at, situation_behind, statements_in, text_before};
 use crate::items::take_span;
 use crate::newlines::newlines_in;
@@ -65,7 +65,7 @@ fn read_statements(alloc: Global, bytes: &[u8]) -> Result<Statements, Memory>
         let front = front_at(&known, &situation, rest);
         learn(alloc, front.kind, bytes, &mut known)?;
         take_span(&mut builder, front.kind, line, front.name, front.text)?;
-        unended = unended_behind(front.kind, line, situation, unended);
+        unended = unended_after(front.kind, line, situation, unended);
         situation = situation_behind(front.kind, situation);
         line += newlines_in(text_before(rest, front.behind));
         rest = front.behind;

@@ -3,7 +3,7 @@ use Rattle.std.proofs.Common.{◌≡◌, ℕ, zero, suc, ◌+◌, ◌≤◌, Boo
 use Rattle.std.proofs.lemmas.Bool.{cases_lt}
 use Rattle.pm_regex.specs.Re.{Re, Whole}
 use Rattle.pm_regex.specs.declared.found.Found.{Found}
-use Rattle.pm_regex.specs.Found.{IsPlainMatch, IsPlainFound, IsRun, IsCount, place_behind, without_cut}
+use Rattle.pm_regex.specs.Found.{IsPlainMatch, IsPlainFound, IsRun, IsCount, place_after, without_cut}
 use Rattle.pm_regex.proofs.Deciding.{Decided, both, likewise, some_or_none, least_or_none}
 use Rattle.pm_regex.proofs.MatchOrNot.{at_or_not, at_after}
 
@@ -12,7 +12,7 @@ within_or_not : (s n : ℕ) → Decided (s ≤ n)
 within_or_not s n = elim (cases_lt n s) [ inl less ↦ inr (λ h. absurd (omega arith)) | inr inside ↦ inl inside ]
 
 -- the search goes on after where the match began
-goes_on : (from start end : ℕ) → from ≤ start → start ≤ end → from + 1 ≤ place_behind start end
+goes_on : (from start end : ℕ) → from ≤ start → start ≤ end → from + 1 ≤ place_after start end
 goes_on from start end after order = grind (arith, after, order)
 
 module _ (fold : Bool) (e : Re) (area : List ℕ) where
@@ -48,7 +48,7 @@ module _ (fold : Bool) (e : Re) (area : List ℕ) where
       | inl b ↦ (
           let order = at_after fold area e a.number b.number (b.holds).at in
           let further = goes_on from a.number b.number (b.holds).after order in
-          let rest = run_from n (place_behind a.number b.number) (omega (arith, further, near)) in
+          let rest = run_from n (place_after a.number b.number) (omega (arith, further, near)) in
           let inside : suc a.number ≤ length area = (a.holds).0 in (
             record { start = a.number; cut = None; end = b.number } ∷ rest.0,
             (
@@ -86,7 +86,7 @@ module _ (fold : Bool) (e : Re) (area : List ℕ) where
   one_run from (x ∷ ms) (y ∷ ns) h k =
       let same = one_plain from x y h.1 k.1 in
       ap (λ m. m ∷ ms) same
-      ∙ ap (λ l. y ∷ l) (one_run (place_behind y.start y.end) ms ns (subst (λ m. IsRun fold e area (place_behind m.start m.end) ms) same h.2) k.2)
+      ∙ ap (λ l. y ∷ l) (one_run (place_after y.start y.end) ms ns (subst (λ m. IsRun fold e area (place_after m.start m.end) ms) same h.2) k.2)
 
 -- how many matches of an expression stand in an area
 pub count_of : (fold : Bool) (e : Whole) (area : List ℕ) → (n : ℕ) × IsCount fold e area n

@@ -76,8 +76,8 @@ closes (a ∷ u) is = ([], u, subst (λ z. Members (z ∷ u) [] u) (sym (eqb-tru
 no_more : (t : List ℕ) → begins_with 93 t ≡ false → HasNoMember t → HasNoMembers t
 no_more t other lacks rs rest ms = (let p = opened t rs rest ms other in lacks p.0 p.1 p.2 p.4)
 
-stuck_behind : (t u : List ℕ) (a b : ℕ) → begins_with 93 t ≡ false → Member t a b u → HasNoMembers u → HasNoMembers t
-stuck_behind t u a b other m lacks rs rest ms =
+stuck_after : (t u : List ℕ) (a b : ℕ) → begins_with 93 t ≡ false → Member t a b u → HasNoMembers u → HasNoMembers t
+stuck_after t u a b other m lacks rs rest ms =
     let p = opened t rs rest ms other in
     let one = one_member t a b p.0 p.1 u p.2 m p.4 in
     lacks p.3 rest (subst (λ z. Members z p.3 rest) (sym one.2) p.5)
@@ -91,7 +91,7 @@ members_or_not (suc n) t fits = elim (cases_Bool (begins_with 93 t)) [
     | inr lacks ↦ inr (no_more t other lacks)
     | inl h ↦ elim (members_or_not n h.2 (let less = member_shorter t h.0 h.1 h.2 h.3 in omega (arith, less, fits))) [
       | inl k ↦ inl ((h.0, h.1) ∷ k.0, k.1, more t h.2 k.1 h.0 h.1 k.0 other h.3 k.2)
-      | inr nay ↦ inr (stuck_behind t h.2 h.0 h.1 other h.3 nay)
+      | inr nay ↦ inr (stuck_after t h.2 h.0 h.1 other h.3 nay)
     ]
   ]
 ]
@@ -169,8 +169,8 @@ first_or_not (b ∷ u) = elim (cases_Bool (b == 91)) [ inl is ↦ by_bracket (b 
 abbrev HasNoTokens : List ℕ → Type 0
 HasNoTokens text = (ts : List Token) → IsTokens text ts → ⊥
 
-no_tokens_behind : (text : List ℕ) (t : Token) (rest : List ℕ) → 0 < length text → First text t rest → HasNoTokens rest → HasNoTokens text
-no_tokens_behind text t rest some f nay ts is =
+no_tokens_after : (text : List ℕ) (t : Token) (rest : List ℕ) → 0 < length text → First text t rest → HasNoTokens rest → HasNoTokens text
+no_tokens_after text t rest some f nay ts is =
     let h = has_first text ts some is in
     let one = one_first text t h.token rest h.rest f h.first in
     nay h.others (subst (λ z. IsTokens z h.others) (sym one.1) h.behind)
@@ -183,7 +183,7 @@ tokens_or_not (suc n) (b ∷ u) fits = elim (first_or_not (b ∷ u)) [
   | inr nay ↦ inr (λ ts is. (let h = has_first (b ∷ u) ts (omega arith) is in nay h.token h.rest h.first))
   | inl h ↦ elim (tokens_or_not n h.1 (let less = first_shorter (b ∷ u) h.0 h.1 h.2 in omega (arith, less, fits))) [
     | inl k ↦ inl (h.0 ∷ k.0, next (b ∷ u) h.1 h.0 k.0 h.2 k.1)
-    | inr nay ↦ inr (no_tokens_behind (b ∷ u) h.0 h.1 (omega arith) h.2 nay)
+    | inr nay ↦ inr (no_tokens_after (b ∷ u) h.0 h.1 (omega arith) h.2 nay)
   ]
 ]
 

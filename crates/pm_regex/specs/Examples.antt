@@ -81,7 +81,7 @@ pub record OfMacros : Type 0 where
   pub two_carets : plain_span (codes "^^TO") ≡ codes "^^"
   pub in_brackets : plain_span (codes "[^TO_]x") ≡ codes "[^TO_]"
   pub bracket_first : plain_span (codes "[]^TO]x") ≡ codes "[]^TO]"
-  pub bracket_behind_caret : plain_span (codes "[^]^TO]x") ≡ codes "[^]^TO]"
+  pub bracket_after_caret : plain_span (codes "[^]^TO]x") ≡ codes "[^]^TO]"
   pub open_bracket : plain_span (codes "[^TO") ≡ codes "[^TO"
   pub one_byte : plain_span (codes "^a") ≡ codes "^"
   pub last_backslash : plain_span (codes "\\") ≡ codes "\\"
@@ -113,7 +113,7 @@ pub record OfExpressions : Type 0 where
   pub start_in_group : IsRead (codes "a(^^)") (branch (byte (codes "a") ∷ branch (one AreaStart ∷ []) ∷ []))
   -- the cut; directly after it two carets are the end of the area
   pub cut : IsReadWithCut (codes "a|b\\/*c") (either (branch (bytes (codes "a"))) (branch (bytes (codes "b")))) (branch (bytes (codes "*c")))
-  pub end_behind_cut : IsReadWithCut (codes "\\/^^|^^") nothing (either (branch (one AreaEnd ∷ [])) (branch (one AreaStart ∷ [])))
+  pub end_after_cut : IsReadWithCut (codes "\\/^^|^^") nothing (either (branch (one AreaEnd ∷ [])) (branch (one AreaStart ∷ [])))
   -- bracket expressions: ranges, a `]` that stands first, a `-` at the end, and a `^`
   pub ranges : IsRead (codes "[a-cx]") (branch (set false ((97, 99) ∷ (120, 120) ∷ []) ∷ []))
   pub range_of_one : IsRead (codes "[a-a]") (branch (set false ((97, 97) ∷ []) ∷ []))

@@ -50,14 +50,14 @@ without_cut None r = r
 without_cut (Some l) r = seq l r
 
 -- where the search goes on: at the end of a match, or one further where it is empty
-abbrev pub place_behind : ℕ → ℕ → ℕ
-place_behind start end = if start == end then end + 1 else end
+abbrev pub place_after : ℕ → ℕ → ℕ
+place_after start end = if start == end then end + 1 else end
 
 -- the matches one after the other, from place `from` on: each has the least start, which is below the area's length, and the
 -- least end
 abbrev pub IsRun : Bool → Re → List ℕ → ℕ → List Found → Type 0
 IsRun fold e area from [] = (s j : ℕ) → s < length area → IsPlainMatch fold e area from s j → ⊥
-IsRun fold e area from (m ∷ ms) = (m.start < length area) × IsPlainFound fold e area from (Some m) × IsRun fold e area (place_behind m.start m.end) ms
+IsRun fold e area from (m ∷ ms) = (m.start < length area) × IsPlainFound fold e area from (Some m) × IsRun fold e area (place_after m.start m.end) ms
 
 -- there are n matches one after the other
 abbrev pub IsCount : Bool → Whole → List ℕ → ℕ → Type 0

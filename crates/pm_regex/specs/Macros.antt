@@ -60,9 +60,9 @@ bracket_text (b ∷ u) = if b == CARET then b ∷ members_text u else members_te
 
 -- where no macro stands: two bytes where the text begins with `\` or with two carets, a bracket expression, or one
 -- byte
-abbrev pub span_behind : ℕ → List ℕ → List ℕ
-span_behind b [] = b ∷ []
-span_behind b (c ∷ u) =
+abbrev pub span_after : ℕ → List ℕ → List ℕ
+span_after b [] = b ∷ []
+span_after b (c ∷ u) =
     if b == BACKSLASH then b ∷ c ∷ [] else
     (if b == BRACKET then b ∷ bracket_text (c ∷ u) else
     (if (b == CARET) && (c == CARET) then b ∷ c ∷ [] else
@@ -71,7 +71,7 @@ span_behind b (c ∷ u) =
 -- the first part of a text at which no macro is: its first byte, with what belongs to that; nothing of an empty text
 abbrev pub plain_span : List ℕ → List ℕ
 plain_span [] = []
-plain_span (b ∷ u) = span_behind b u
+plain_span (b ∷ u) = span_after b u
 
 -- the first part of a text: a macro or what else stands there
 abbrev pub span_of : Option Macro → List ℕ → List ℕ

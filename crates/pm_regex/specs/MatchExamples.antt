@@ -6,7 +6,7 @@ use Rattle.pm_regex.specs.Re.{Re, one, seq, either, times, nothing}
 use Rattle.pm_regex.specs.declared.op.Atom.TheVariants.{Byte, Any, LineStart, LineEnd, WordStart, WordEnd, AreaStart, AreaEnd}
 use Rattle.pm_regex.specs.declared.op.Times.TheVariants.{Star, Plus, Maybe}
 use Rattle.pm_regex.specs.Matching.{At, atom_passes, atom_takes, other_case, set_takes}
-use Rattle.pm_regex.specs.Found.{place_behind}
+use Rattle.pm_regex.specs.Found.{place_after}
 
 -- the byte that is this text
 abbrev pub byte : List ℕ → ℕ
@@ -101,8 +101,8 @@ pub record OfPlaces : Type 0 where
   pub byte_passes : atom_passes (Byte (byte (codes "a"))) lines 1 ≡ false
   pub any_passes : atom_passes Any lines 4 ≡ false
   -- where the matches are counted, the next one is searched at the end of the one before, or one further where that was empty
-  pub after_match : place_behind 3 5 ≡ 5
-  pub after_empty_match : place_behind 3 3 ≡ 4
+  pub after_match : place_after 3 5 ≡ 5
+  pub after_empty_match : place_after 3 3 ≡ 4
 
 -- the expressions `a` and `b`
 abbrev pub a : Re

@@ -49,11 +49,11 @@ always_any (Ends r) = tt
 always_any (Asks act go_on) = λ reply. always_any (go_on reply)
 
 -- after a plan whose end says nothing
-pub always_behind : {R S : Type 0} (Q : S → Type 0) (plan : Plan R) (f : R → Plan S) → ((r : R) → Always Q (f r)) → Always Q (and_then plan f)
-always_behind {R} Q plan f k = always_then (λ (r : R). Unit {0}) Q plan f (always_any plan) (λ r any. k r)
+pub always_after : {R S : Type 0} (Q : S → Type 0) (plan : Plan R) (f : R → Plan S) → ((r : R) → Always Q (f r)) → Always Q (and_then plan f)
+always_after {R} Q plan f k = always_then (λ (r : R). Unit {0}) Q plan f (always_any plan) (λ r any. k r)
 
 pub always_said : {R : Type 0} (Q : R → Type 0) (p : Mind) (text : List ℕ) (next : R) → Q next → Always Q (say_then p text next)
-always_said Q p text next h = always_behind Q (log text p) (λ done. Ends next) (λ done. h)
+always_said Q p text next h = always_after Q (log text p) (λ done. Ends next) (λ done. h)
 
 pub always_told : {R : Type 0} (Q : R → Type 0) (o : Option (List ℕ)) (p : Mind) (next : R) → Q next → Always Q (tell_maybe o p next)
 always_told Q None p next h = h
@@ -61,4 +61,4 @@ always_told Q (Some text) p next h = always_said Q p text next h
 
 pub always_each : {R : Type 0} (Q : R → Type 0) (p : Mind) (lines : List (List ℕ)) (next : R) → Q next → Always Q (say_each p lines next)
 always_each Q p [] next h = h
-always_each Q p (line ∷ lines) next h = always_behind Q (log line p) (λ done. say_each p lines next) (λ done. always_each Q p lines next h)
+always_each Q p (line ∷ lines) next h = always_after Q (log line p) (λ done. say_each p lines next) (λ done. always_each Q p lines next h)

@@ -108,12 +108,12 @@ word_out pair name value p x y a b e host n v h =
     (subst (λ m. OutOfMemory (assigned m pair.value p) x y a b) n (subst (λ w. OutOfMemory (assigned name w p) x y a b) v h)))
 
 -- the process after a word
-mind_behind : (way : Turned) (p : Mind) → mind_in (turn_in way p) ≡ p
-mind_behind turned.Goes p = refl
-mind_behind (turned.Halts end) p = refl
-mind_behind (turned.Includes name) p = refl
-mind_behind (turned.Switches name) p = refl
-mind_behind turned.EndsFile p = refl
+mind_after : (way : Turned) (p : Mind) → mind_in (turn_in way p) ≡ p
+mind_after turned.Goes p = refl
+mind_after (turned.Halts end) p = refl
+mind_after (turned.Includes name) p = refl
+mind_after (turned.Switches name) p = refl
+mind_after turned.EndsFile p = refl
 
 -- one word after the other
 abbrev SetsTo : List Pair → List Pair → Mind → Mind → JournalState → JournalState → View → View → Type 0
@@ -126,7 +126,7 @@ word_set words items rest pair way p q r x y z a b c e h k = λ line home.
     reaches_then step (Setting words line home p) (Setting (pair ∷ rest) line home q) (Setting rest line home r) x y z a b c
     (subst (λ l. Reaches {X = Event} step (Setting words line home p) (Setting l line home q) x y a b) e (h line home))
     (executes_then (set_by_word pair q) (λ turn. Ends (next turn)) (turn_in way r) (Go (Setting rest line home r)) y z z b c c k
-    (subst (λ m. Executes {R = Onward} (Ends (Go (Setting rest line home m))) (Go (Setting rest line home r)) z z c c) (sym (mind_behind way r)) (executes_nothing (Go (Setting rest line home r)) z z c refl)))
+    (subst (λ m. Executes {R = Onward} (Ends (Go (Setting rest line home m))) (Go (Setting rest line home r)) z z c c) (sym (mind_after way r)) (executes_nothing (Go (Setting rest line home r)) z z c refl)))
 
 pub word_wants : (words items rest : List Pair) (pair : Pair) (p q : Mind) (x y z : JournalState) (a b c : View) → items ≡ pair ∷ rest → SetsTo words items p q x y a b
     → OutOfMemory (set_by_word pair q) y z b c → (line : CommandLine) (home : List ℕ) → RunsOut {X = Event} step MayRunOut (Setting words line home p) x z a c

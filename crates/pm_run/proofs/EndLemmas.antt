@@ -64,18 +64,18 @@ over_wants end p x y a b h told =
     ran_out_at_once step MayRunOut (Over end p) x y a b (out_front (tell_delivery end p) (λ done. Ends next) x y a b h) (λ more e. told)
 
 -- what comes after TRAP's program
-abbrev behind_trap : End → Trapped → Plan Onward
-behind_trap end = λ t. Ends (Go (Unlocking (ending_of end t.code t.mind) t.mind))
+abbrev after_trap : End → Trapped → Plan Onward
+after_trap end = λ t. Ends (Go (Unlocking (ending_of end t.code t.mind) t.mind))
 
 pub trap_unlocks : (s : State) (end : End) (code : ℕ) (p q : Mind) (x y z : JournalState) (a b c : View) → Reaches {X = Event} step s (Trapping end p) x y a b → Executes (trap end p) (trapped_with code q) y z b c
     → Reaches {X = Event} step s (Unlocking (ending_of end code q) q) x z a c
 trap_unlocks s end code p q x y z a b c h k =
     let next : Onward = Go (Unlocking (ending_of end code q) q) in
     reaches_then step s (Trapping end p) (Unlocking (ending_of end code q) q) x y z a b c h
-    (executes_then (trap end p) (behind_trap end) (trapped_with code q) next y z z b c c k (executes_nothing next z z c refl))
+    (executes_then (trap end p) (after_trap end) (trapped_with code q) next y z z b c c k (executes_nothing next z z c refl))
 
 pub trap_wants : (s : State) (end : End) (p : Mind) (x y z : JournalState) (a b c : View) → Reaches {X = Event} step s (Trapping end p) x y a b → OutOfMemory (trap end p) y z b c → is_trapped end p ≡ true → RunsOut {X = Event} step MayRunOut s x z a c
-trap_wants s end p x y z a b c h k set = ran_out_then step MayRunOut s (Trapping end p) x y z a b c h (out_front (trap end p) (behind_trap end) y z b c k) (λ more e. set)
+trap_wants s end p x y z a b c h k set = ran_out_then step MayRunOut s (Trapping end p) x y z a b c h (out_front (trap end p) (after_trap end) y z b c k) (λ more e. set)
 
 -- LOCKFILE's lock was given back
 pub unlock_closes : (s : State) (ending : Ending) (p q : Mind) (x y z : JournalState) (a b c : View) → Reaches {X = Event} step s (Unlocking ending p) x y a b → Executes (give_named p.global p) q y z b c
@@ -113,8 +113,8 @@ abbrev pub by_read : List ℕ → Read → Plan Trapped
 by_read text = λ read. trap_by read.line text read.mind
 
 -- what comes after its run
-abbrev pub behind_run : List ℕ → Mind → Reply → Plan Trapped
-behind_run text p reply = tell_run (run_end reply) text (with_code reply p) (trapped_with (code_of (run_end reply)) (with_code reply p))
+abbrev pub after_run : List ℕ → Mind → Reply → Plan Trapped
+after_run text p reply = tell_run (run_end reply) text (with_code reply p) (trapped_with (code_of (run_end reply)) (with_code reply p))
 
 -- the same by how the run ended
 abbrev by_end : List ℕ → Mind → RunEnd → Plan Trapped
@@ -125,19 +125,19 @@ module _ (text : List ℕ) (end : RunEnd) (p q : Mind) (reply : Reply) where
   abbrev IsOf : Type 0
   IsOf = (end ≡ run_end reply) × (q ≡ with_exit_code (code_of end) p)
 
-  behind_is : IsOf → tell_run end text q (trapped_with (code_of end) q) ≡ behind_run text p reply
+  behind_is : IsOf → tell_run end text q (trapped_with (code_of end) q) ≡ after_run text p reply
   behind_is is = ap (λ m. tell_run end text m (trapped_with (code_of end) m)) is.1 ∙ ap (by_end text p) is.0
 
-  pub told_behind : (is : IsOf) (code : ℕ) (x y : JournalState) (a b : View) → code ≡ code_of end → Executes (tell_run end text q told) told x y a b → Executes (behind_run text p reply) (trapped_with code q) x y a b
-  told_behind is code x y a b same h =
+  pub told_after : (is : IsOf) (code : ℕ) (x y : JournalState) (a b : View) → code ≡ code_of end → Executes (tell_run end text q told) told x y a b → Executes (after_run text p reply) (trapped_with code q) x y a b
+  told_after is code x y a b same h =
       let next = trapped_with (code_of end) q in
       subst (λ plan. Executes plan (trapped_with code q) x y a b) (behind_is is)
       (subst (λ n. Executes (tell_run end text q next) (trapped_with n q) x y a b) (sym same)
       (subst (λ plan. Executes plan next x y a b) (told_then (run_fault end text) q next)
       (executes_then (tell_run end text q told) (λ _. Ends next) told next x y y a b b h (executes_nothing next y y b refl))))
 
-  pub untold_behind : (is : IsOf) (x y : JournalState) (a b : View) → OutOfMemory (tell_run end text q told) x y a b → OutOfMemory (behind_run text p reply) x y a b
-  untold_behind is x y a b h =
+  pub untold_after : (is : IsOf) (x y : JournalState) (a b : View) → OutOfMemory (tell_run end text q told) x y a b → OutOfMemory (after_run text p reply) x y a b
+  untold_after is x y a b h =
       let next = trapped_with (code_of end) q in
       subst (λ plan. OutOfMemory plan x y a b) (behind_is is)
       (subst (λ plan. OutOfMemory plan x y a b) (told_then (run_fault end text) q next) (out_front (tell_run end text q told) (λ _. Ends next) x y a b h))
@@ -146,18 +146,18 @@ module _ (text : List ℕ) (end : RunEnd) (p q : Mind) (reply : Reply) where
 module _ (command : Command) (input text : List ℕ) (p : Mind) where
   pub trap_unrun : (x y : JournalState) (a b : View) → input ≡ whole_of p.message → OutOfMemory (ask (Run command input false)) x y a b → OutOfMemory (run_trap command text p) x y a b
   trap_unrun x y a b e h =
-      out_front (ask (Run command (whole_of p.message) false)) (behind_run text p) x y a b (subst (λ i. OutOfMemory (ask (Run command i false)) x y a b) e h)
+      out_front (ask (Run command (whole_of p.message) false)) (after_run text p) x y a b (subst (λ i. OutOfMemory (ask (Run command i false)) x y a b) e h)
 
   module _ (reply : Reply) where
     pub trap_then : (code : ℕ) (q : Mind) (x y z : JournalState) (a b c : View) → input ≡ whole_of p.message → Executes (ask (Run command input false)) reply x y a b
-        → Executes (behind_run text p reply) (trapped_with code q) y z b c → Executes (run_trap command text p) (trapped_with code q) x z a c
+        → Executes (after_run text p reply) (trapped_with code q) y z b c → Executes (run_trap command text p) (trapped_with code q) x z a c
     trap_then code q x y z a b c e h k =
-        executes_then (ask (Run command (whole_of p.message) false)) (behind_run text p) reply (trapped_with code q) x y z a b c (subst (λ i. Executes (ask (Run command i false)) reply x y a b) e h) k
+        executes_then (ask (Run command (whole_of p.message) false)) (after_run text p) reply (trapped_with code q) x y z a b c (subst (λ i. Executes (ask (Run command i false)) reply x y a b) e h) k
 
-    pub trap_then_out : (x y z : JournalState) (a b c : View) → input ≡ whole_of p.message → Executes (ask (Run command input false)) reply x y a b → OutOfMemory (behind_run text p reply) y z b c
+    pub trap_then_out : (x y z : JournalState) (a b c : View) → input ≡ whole_of p.message → Executes (ask (Run command input false)) reply x y a b → OutOfMemory (after_run text p reply) y z b c
         → OutOfMemory (run_trap command text p) x z a c
     trap_then_out x y z a b c e h k =
-        out_then (ask (Run command (whole_of p.message) false)) (behind_run text p) reply x y z a b c (subst (λ i. Executes (ask (Run command i false)) reply x y a b) e h) k
+        out_then (ask (Run command (whole_of p.message) false)) (after_run text p) reply x y z a b c (subst (λ i. Executes (ask (Run command i false)) reply x y a b) e h) k
 
 -- a line was told, and the process changed
 pub long_told : (line shown : List ℕ) (p q r : Mind) (x y : JournalState) (a b : View) → shown ≡ line → r ≡ q → Executes (log shown p) logged x y a b → Executes (say_then p line (trapped_with 127 q)) (trapped_with 127 r) x y a b

@@ -68,17 +68,17 @@ in_file_woven lists [] ws = in_file_ahead (first lists) (outer_items ws) ∙ in_
 in_file_woven lists (block ∷ blocks) ws = in_file_ahead (first lists) (end_of block ∷ weave (others lists) blocks (outer_items ws)) ∙ ap (λ l. block.lock ∷ l) (in_file_woven (others lists) blocks ws)
 
 -- after it are those that wait
-behind_ahead : (trees : Trees) (rest : List Item) → behind_file (ahead trees rest) ≡ behind_file rest
-behind_ahead nil rest = refl
-behind_ahead (cons tree trees) rest = behind_ahead trees rest
+after_ahead : (trees : Trees) (rest : List Item) → behind_file (ahead trees rest) ≡ behind_file rest
+after_ahead nil rest = refl
+after_ahead (cons tree trees) rest = after_ahead trees rest
 
-behind_outside : (ws : List Waiting) → behind_file (outer_items ws) ≡ outer_items ws
-behind_outside [] = refl
-behind_outside (w ∷ ws) = refl
+after_outside : (ws : List Waiting) → behind_file (outer_items ws) ≡ outer_items ws
+after_outside [] = refl
+after_outside (w ∷ ws) = refl
 
-pub behind_woven : (lists : List Trees) (blocks : List Open) (ws : List Waiting) → behind_file (weave lists blocks (outer_items ws)) ≡ outer_items ws
-behind_woven lists [] ws = behind_ahead (first lists) (outer_items ws) ∙ behind_outside ws
-behind_woven lists (block ∷ blocks) ws = behind_ahead (first lists) (end_of block ∷ weave (others lists) blocks (outer_items ws)) ∙ behind_woven (others lists) blocks ws
+pub after_woven : (lists : List Trees) (blocks : List Open) (ws : List Waiting) → behind_file (weave lists blocks (outer_items ws)) ≡ outer_items ws
+after_woven lists [] ws = after_ahead (first lists) (outer_items ws) ∙ after_outside ws
+after_woven lists (block ∷ blocks) ws = after_ahead (first lists) (end_of block ∷ weave (others lists) blocks (outer_items ws)) ∙ after_woven (others lists) blocks ws
 
 at_here : (n : ℕ) → n + 0 ≡ n
 at_here n = omega arith
@@ -95,12 +95,12 @@ both_first true b h = refl
 both_first false b h = let e : false ≡ true = h in absurd (cc)
 
 -- after some steps the ends are right too
-right_behind : (at : ℕ) (steps : List Flat) (i : ℕ) → ends_right at steps ≡ true → ends_right (at + i) (drop i steps) ≡ true
-right_behind at steps zero h = subst (λ n. ends_right n steps ≡ true) (sym (at_here at)) h
-right_behind at [] (suc i) h = refl
-right_behind at (Does tree ∷ steps) (suc i) h = subst (λ n. ends_right n (drop i steps) ≡ true) (at_next at i) (right_behind (suc at) steps i (both_right (is_single tree) (ends_right (suc at) steps) h))
-right_behind at (Enters top end ∷ steps) (suc i) h = subst (λ n. ends_right n (drop i steps) ≡ true) (at_next at i) (right_behind (suc at) steps i (both_right (is_first end (ends_of (suc at) steps)) (ends_right (suc at) steps) h))
-right_behind at (Leaves enter ∷ steps) (suc i) h = subst (λ n. ends_right n (drop i steps) ≡ true) (at_next at i) (right_behind (suc at) steps i h)
+right_after : (at : ℕ) (steps : List Flat) (i : ℕ) → ends_right at steps ≡ true → ends_right (at + i) (drop i steps) ≡ true
+right_after at steps zero h = subst (λ n. ends_right n steps ≡ true) (sym (at_here at)) h
+right_after at [] (suc i) h = refl
+right_after at (Does tree ∷ steps) (suc i) h = subst (λ n. ends_right n (drop i steps) ≡ true) (at_next at i) (right_after (suc at) steps i (both_right (is_single tree) (ends_right (suc at) steps) h))
+right_after at (Enters top end ∷ steps) (suc i) h = subst (λ n. ends_right n (drop i steps) ≡ true) (at_next at i) (right_after (suc at) steps i (both_right (is_first end (ends_of (suc at) steps)) (ends_right (suc at) steps) h))
+right_after at (Leaves enter ∷ steps) (suc i) h = subst (λ n. ends_right n (drop i steps) ≡ true) (at_next at i) (right_after (suc at) steps i h)
 
 first_nth : (end : ℕ) (es : List ℕ) → is_first end es ≡ true → nth 0 es ≡ Some end
 first_nth end [] h = absurd (cc)
@@ -108,7 +108,7 @@ first_nth end (e ∷ es) h = ap Some (eqb-true e end h)
 
 -- a statement of the code has no block
 pub single_here : (steps : List Flat) (place : ℕ) (tree : Tree) (more : List Flat) → ends_right 0 steps ≡ true → drop place steps ≡ Does tree ∷ more → is_single tree ≡ true
-single_here steps place tree more right e = both_first (is_single tree) (ends_right (suc (0 + place)) more) (subst (λ l. ends_right (0 + place) l ≡ true) e (right_behind 0 steps place right))
+single_here steps place tree more right e = both_first (is_single tree) (ends_right (suc (0 + place)) more) (subst (λ l. ends_right (0 + place) l ≡ true) e (right_after 0 steps place right))
 
 -- a block that isn't entered: its end is further on, and after it stands what is after the block
 pub record Jumps (steps : List Flat) (place end : ℕ) (more : List Flat) : Type 0 where
@@ -118,7 +118,7 @@ pub record Jumps (steps : List Flat) (place end : ℕ) (more : List Flat) : Type
 
 pub jumps : (steps : List Flat) (place : ℕ) (top : Top) (end : ℕ) (more : List Flat) → ends_right 0 steps ≡ true → drop place steps ≡ Enters top end ∷ more → Jumps steps place end more
 jumps steps place top end more right e =
-    let here = subst (λ l. ends_right (0 + place) l ≡ true) e (right_behind 0 steps place right) in
+    let here = subst (λ l. ends_right (0 + place) l ≡ true) e (right_after 0 steps place right) in
     let t : EndsThere (suc (0 + place)) 0 end more = ends_there 0 (suc (0 + place)) end more (first_nth end (ends_of (suc (0 + place)) more) (both_first (is_first end (ends_of (suc (0 + place)) more)) (ends_right (suc (0 + place)) more) here)) in
     let size : length (drop place steps) ≡ suc (length more) = ap length e in
     let far : end + 1 ≡ place + suc (suc t.far) = omega (arith, t.place) in

@@ -12,7 +12,7 @@ use Rattle.pm_journal.proofs.WantsMemory.{executes_nothing, out_front}
 use Rattle.pm_recipe.specs.Tree.{Top}
 use Rattle.pm_recipe.specs.declared.tree.Condition.{Condition}
 use Rattle.pm_meaning.specs.Chains.{is_admitted, passed, executed}
-use Rattle.pm_meaning.specs.Judging.{Held, held_with, holding, behind_conditions, judge_first}
+use Rattle.pm_meaning.specs.Judging.{Held, held_with, holding, after_conditions, judge_first}
 use Rattle.pm_meaning.specs.Minds.{Mind}
 use Rattle.pm_meaning.specs.Acting.{acted_turn, turn_after}
 use Rattle.pm_meaning.specs.Apart.{acted_with}
@@ -40,7 +40,7 @@ acted_out plan x y a b h = out_front plan (λ came. Ends (turn_after came)) x y 
 module _ (top : Top) (p : Mind) where
   -- what comes after the conditions
   abbrev behind : (Mind → Plan Turn) → Held → Plan Turn
-  behind acts = λ held. behind_conditions top.flags acts held
+  behind acts = λ held. after_conditions top.flags acts held
 
   -- the conditions are judged first
   abbrev judges : (Mind → Plan Turn) → List Condition → Plan Turn

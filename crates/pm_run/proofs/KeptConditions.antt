@@ -13,8 +13,8 @@ use Rattle.pm_journal.specs.Plan.{Plan, Ends}
 use Rattle.pm_meaning.specs.Assigning.{first_word}
 use Rattle.pm_meaning.specs.Chains.{is_admitted, passed, executed}
 use Rattle.pm_meaning.specs.Evaluating.{judged_one, test_outcome, is_expanded, is_program, question_by, is_weighted}
-use Rattle.pm_meaning.specs.Judging.{Come, come_with, seen, with_table, ask_line, by_line, tested, read_again, expanded, comes_within, comes_by, comes_of, Judged, scored_with, judge_each, judge, told_judgement, behind_judgement, holding, judge_first}
-use Rattle.pm_meaning.specs.Leads.{Asking, asking_of, asked, behind_blanks}
+use Rattle.pm_meaning.specs.Judging.{Come, come_with, seen, with_table, ask_line, by_line, tested, read_again, expanded, comes_within, comes_by, comes_of, Judged, scored_with, judge_each, judge, told_judgement, after_judgement, holding, judge_first}
+use Rattle.pm_meaning.specs.Leads.{Asking, asking_of, asked, after_blanks}
 use Rattle.pm_meaning.specs.Minds.{Mind}
 use Rattle.pm_meaning.specs.Outputs.{run_fault, outputs_of, read_line}
 use Rattle.pm_meaning.specs.Turns.{Turn, GoesOn, is_too_long, length_in}
@@ -41,13 +41,13 @@ module _ (K : List (List ℕ) → Option (List ℕ) → Type 0) where
 
   kept_tested : (flags : Flags) (asking : Asking) (p : Mind) → Kept K p → Always (AfterCondition K) (tested flags asking p)
   kept_tested flags asking p h =
-      always_if (AfterCondition K) (is_program asking.text) (ask_line (behind_blanks (drop 1 asking.text)) flags asking.question p) (Ends (come_with (test_outcome asking (seen flags p)) p))
-      (kept_asked (behind_blanks (drop 1 asking.text)) flags asking.question p h) h
+      always_if (AfterCondition K) (is_program asking.text) (ask_line (after_blanks (drop 1 asking.text)) flags asking.question p) (Ends (come_with (test_outcome asking (seen flags p)) p))
+      (kept_asked (after_blanks (drop 1 asking.text)) flags asking.question p h) h
 
   kept_again : (text : List ℕ) (outputs : List (List ℕ)) (question : Question) (p : Mind) (go_on : Asking → Mind → Plan Come) → ((a : Asking) (q : Mind) → Kept K q → Always (AfterCondition K) (go_on a q))
       → Kept K p → Always (AfterCondition K) (read_again text outputs question p go_on)
   kept_again text outputs question p go_on k h =
-      let asking = asking_of (behind_blanks (first_word (words_in Quoted p.vars outputs text))) question in
+      let asking = asking_of (after_blanks (first_word (words_in Quoted p.vars outputs text))) question in
       always_if (AfterCondition K) (is_too_long Quoted text p.vars outputs) (Ends (come_with (outcome.TooLong (length_in Quoted text p.vars outputs)) p))
       (go_on asking p) h (k asking p h)
 
@@ -90,7 +90,7 @@ module _ (K : List (List ℕ) → Option (List ℕ) → Type 0) where
 
   kept_holding : (conditions : List Condition) (flags : Flags) (p : Mind) → Kept K p → Always (AfterConditions K) (holding conditions flags p)
   kept_holding conditions flags p h =
-      always_then (AfterJudging K) (AfterConditions K) (judge conditions flags p) behind_judgement
+      always_then (AfterJudging K) (AfterConditions K) (judge conditions flags p) after_judgement
       (kept_each (list_any is_weighted conditions) flags conditions _ p h) (λ judged k. kept_told judged.verdict judged.mind k)
 
   -- what holds after a recipe's action, and of the process as it was before the recipe, holds after the recipe

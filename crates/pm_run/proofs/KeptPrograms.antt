@@ -19,7 +19,7 @@ use Rattle.pm_meaning.specs.Forwards.{forward_reading}
 use Rattle.pm_meaning.specs.Locks.{is_lock_word, full_lock, is_taken, blamed_text, with_lock, text_or}
 use Rattle.pm_meaning.specs.Logging.{log}
 use Rattle.pm_meaning.specs.Minds.{Mind}
-use Rattle.pm_meaning.specs.ProgramActions.{Purpose, Delivers, Filters, Captures, Task, Tried, Trying, is_fine, feed_outcome, end_outcome, unless_overflow, captured_in, work_of, write_outcome, write, unlock_behind, try_locked, try_under, trial_lines, is_fine_trial, settled_by, trial_acted, is_delivery, after_trial, try_and_say, lacks_lock, named_lock, told_first, do_under, do_named, unusable_text, do_line, lock_mode, lock_source, lock_commands, lock_first, fed_piece, program_with, do_program, pipe_task, capture_task, forward_task, write_task, write_with, write_out}
+use Rattle.pm_meaning.specs.ProgramActions.{Purpose, Delivers, Filters, Captures, Task, Tried, Trying, is_fine, feed_outcome, end_outcome, unless_overflow, captured_in, work_of, write_outcome, write, unlock_after, try_locked, try_under, trial_lines, is_fine_trial, settled_by, trial_acted, is_delivery, after_trial, try_and_say, lacks_lock, named_lock, told_first, do_under, do_named, unusable_text, do_line, lock_mode, lock_source, lock_commands, lock_first, fed_piece, program_with, do_program, pipe_task, capture_task, forward_task, write_task, write_with, write_out}
 use Rattle.pm_meaning.specs.Programs.{Reading, line_reading, with_exit_code, code_of}
 use Rattle.pm_meaning.specs.Turns.{ActEnd, refuse_act, skip_act, is_too_long}
 use Rattle.pm_meaning.specs.declared.acted.Cause.TheVariants as cause
@@ -27,7 +27,7 @@ use Rattle.pm_meaning.specs.declared.process.Outcome.{Outcome}
 use Rattle.pm_meaning.specs.declared.process.Outcome.TheVariants.{Done, Overflow}
 use Rattle.pm_meaning.specs.declared.process.ProgramLine.{ProgramLine}
 use Rattle.pm_meaning.specs.declared.process.ProgramLine.TheVariants.{Runs, NoWords, Unusable, TooLong as LineTooLong}
-use Rattle.pm_run.proofs.Always.{Always, always_then, always_if, always_behind, always_each}
+use Rattle.pm_run.proofs.Always.{Always, always_then, always_if, always_after, always_each}
 use Rattle.pm_run.proofs.Kept.{Kept, kept_if, AfterAct, AfterTrial, AfterTry, OnceReady}
 use Rattle.pm_run.proofs.KeptDeliveries.{given_back, kept_refused, kept_overflow, kept_skipped, kept_ready, kept_deliver}
 
@@ -53,7 +53,7 @@ keeps_write piece K p h = λ reply. kept_if K (is_fine (write_outcome reply)) _ 
 module _ (K : List (List ℕ) → Option (List ℕ) → Type 0) where
   kept_locked : (name : List ℕ) (work : Mind → Plan Tried) (p : Mind) (reply : Reply) → Keeps work → Kept K p → Always (AfterTrial K) (try_locked name work p reply)
   kept_locked name work p (Held sleeps forced) keeps h =
-      always_then (AfterTry (λ locks global. K (without locks name) global)) (AfterTrial K) (work (with_lock name p)) (unlock_behind name forced)
+      always_then (AfterTry (λ locks global. K (without locks name) global)) (AfterTrial K) (work (with_lock name p)) (unlock_after name forced)
       (keeps (λ locks global. K (without locks name) global) (with_lock name p) (given_back K name p h)) (λ t k. λ reply. k)
   kept_locked name work p other keeps h = h
 
@@ -74,7 +74,7 @@ module _ (K : List (List ℕ) → Option (List ℕ) → Type 0) where
   kept_first : (t : Task) (p : Mind) (next : Plan ActEnd) → Always (AfterAct K) next → Always (AfterAct K) (told_first t p next)
   kept_first t p next h =
       always_if (AfterAct K) (lacks_lock t) (and_then (log (no_lock_line t.text) p) (λ done. next)) next
-      (always_behind (AfterAct K) (log (no_lock_line t.text) p) (λ done. next) (λ done. h)) h
+      (always_after (AfterAct K) (log (no_lock_line t.text) p) (λ done. next) (λ done. h)) h
 
   kept_under : (t : Task) (lock : Option (List ℕ)) (work : Mind → Plan Tried) (p : Mind) → Keeps work → Kept K p → Always (AfterAct K) (do_under t lock work p)
   kept_under t lock work p keeps h =

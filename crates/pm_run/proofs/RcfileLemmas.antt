@@ -37,7 +37,7 @@ use Rattle.pm_meaning.proofs.Choices.{choose_then, choose_else, then_out, else_o
 use Rattle.pm_run.specs.Frames.{weave, steps_of, items_of, outer_items, block_locks, left_outside, left_in, left_over}
 use Rattle.pm_run.specs.Rcfiles.{GoesInto, TakesPlace, HasCode, ReadsCode, OpensSome, OpensNone, Opens}
 use Rattle.pm_run.specs.declared.frames.Frames.{Frames}
-use Rattle.pm_run.proofs.FrameLemmas.{in_file_woven, behind_woven, weave_over}
+use Rattle.pm_run.proofs.FrameLemmas.{in_file_woven, after_woven, weave_over}
 use Rattle.pm_run.proofs.WalkLemmas.{whole_items}
 
 abbrev Onward : Type 0
@@ -210,7 +210,7 @@ module _ (name : List ℕ) (code : Code) (f : Frames) (p q : Mind) (x y : Journa
       let to = LeavingFile (block_locks f.blocks.items) (ahead h.trees (outer_items f.outer.items)) mind in
       let same : switched name (items_of f) h.trees q ≡ Go to =
       ap (λ l. Go (LeavingFile l (ahead h.trees (behind_file (items_of f))) mind)) (in_file_woven lists f.blocks.items f.outer.items)
-      ∙ ap (λ items. Go (LeavingFile (block_locks f.blocks.items) (ahead h.trees items) mind)) (behind_woven lists f.blocks.items f.outer.items) in
+      ∙ ap (λ items. Go (LeavingFile (block_locks f.blocks.items) (ahead h.trees items) mind)) (after_woven lists f.blocks.items f.outer.items) in
       reaches_once step (Switching name (items_of f) p) to x y a b (subst (λ n. Executes (open_rcfile name (items_of f) p (switched name (items_of f))) n x y a b) same (h.opens (items_of f) (switched name (items_of f))))
 
   pub place_taken : (g : Frames) → TakesPlace code f g → ahead h.trees (outer_items f.outer.items) ≡ items_of g

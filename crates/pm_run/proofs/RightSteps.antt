@@ -26,7 +26,7 @@ use Rattle.pm_meaning.specs.declared.command_line.CommandLine.{CommandLine}
 use Rattle.pm_meaning.specs.declared.process.End.{End}
 use Rattle.pm_meaning.specs.declared.process.End.TheVariants.{Delivered, FellOff, NoRc, HostOff}
 use Rattle.pm_run.specs.HeldLocks.{ComesRight, named, names_of, HeldAre, HoldsOnly, HoldsRight}
-use Rattle.pm_run.proofs.Always.{Always, always_then, always_if, always_behind, always_said}
+use Rattle.pm_run.proofs.Always.{Always, always_then, always_if, always_after, always_said}
 use Rattle.pm_run.proofs.Kept.{Kept, kept_if, AfterAct, AfterTrap}
 use Rattle.pm_run.proofs.NamesOnce.{none_held}
 use Rattle.pm_run.proofs.KeptOutputs.{kept_trap}
@@ -173,7 +173,7 @@ steps_right (Cloning trees items p) h = h
 steps_right (Refusing items p) h = always_said ComesRight p too_many_clones_line (Go (Running items p)) h
 steps_right (FallingOff mailboxes p) h = right_falling mailboxes p h
 steps_right (Leaving locks end p) h = right_leaving locks end p h
-steps_right (Over end p) h = always_behind ComesRight (tell_delivery end p) (λ done. Ends (Go (Trapping end p))) (λ done. h)
+steps_right (Over end p) h = always_after ComesRight (tell_delivery end p) (λ done. Ends (Go (Trapping end p))) (λ done. h)
 steps_right (Trapping end p) h =
     always_then (AfterTrap (HeldAre [])) ComesRight (trap end p) (λ t. Ends (Go (Unlocking (ending_of end t.code t.mind) t.mind))) (kept_trap (HeldAre []) end p h) (λ t k. k)
 steps_right (Unlocking ending p) h =

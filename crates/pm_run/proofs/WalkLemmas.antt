@@ -40,7 +40,7 @@ use Rattle.pm_run.specs.declared.gates.Gate.{Gate}
 use Rattle.pm_run.specs.declared.gates.Gate.TheVariants as gate
 use Rattle.pm_run.specs.declared.turned.Turned.{Turned}
 use Rattle.pm_run.specs.declared.turned.Turned.TheVariants as turned
-use Rattle.pm_run.proofs.FrameLemmas.{weave_does, weave_enters, weave_stops, weave_over, locks_all, in_file_woven, behind_woven, Jumps, jumps, single_here}
+use Rattle.pm_run.proofs.FrameLemmas.{weave_does, weave_enters, weave_stops, weave_over, locks_all, in_file_woven, after_woven, Jumps, jumps, single_here}
 
 abbrev Onward : Type 0
 Onward = Next State Event
@@ -96,7 +96,7 @@ next_by tree count g (turned.Includes name) q = refl
 next_by tree count g (turned.Switches name) q = refl
 next_by tree count g turned.EndsFile q =
     ap (λ l. Go (LeavingFile l (behind_file (items_of g)) (with_openings count q))) (in_file_woven (lists_of (drop g.place (steps_of g))) g.blocks.items g.outer.items)
-    ∙ ap (λ items. Go (LeavingFile (block_locks g.blocks.items) items (with_openings count q))) (behind_woven (lists_of (drop g.place (steps_of g))) g.blocks.items g.outer.items)
+    ∙ ap (λ items. Go (LeavingFile (block_locks g.blocks.items) items (with_openings count q))) (after_woven (lists_of (drop g.place (steps_of g))) g.blocks.items g.outer.items)
 
 -- a step that neither enters nor leaves a block is a statement
 pub record DoesOne (s : Step) : Type 0 where

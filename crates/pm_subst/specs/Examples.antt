@@ -97,7 +97,7 @@ pub record Examples : Type 0 where
   pub one_empty_word : one [] ≡ [] ∷ []
   -- a `#` where a word could begin ends the text, if words are split
   pub comment : many (codes "x#y '#' \\# \\\n# $A") ≡ codes "x#y" ∷ codes "#" ∷ codes "#" ∷ []
-  pub no_comment_behind : many (codes "$A#b \"\"#d") ≡ codes "a.b" ∷ codes "c#b" ∷ codes "#d" ∷ []
+  pub no_comment_after : many (codes "$A#b \"\"#d") ≡ codes "a.b" ∷ codes "c#b" ∷ codes "#d" ∷ []
   pub no_comment : one (codes "x # y") ≡ codes "x # y" ∷ []
   -- commands, also those of texts that aren't used; inside, a backslash goes only before a backquote or a backslash
   pub commands : commands_in One (codes "`d`'`x`'\"`y z`\"\\`${A-`u`}`a\\`b\\\\c\\d") ≡ codes "d" ∷ codes "y z" ∷ codes "u" ∷ codes "a`b\\c\\d" ∷ []

@@ -10,15 +10,15 @@ use pm_bytes::{
     BACKSLASH, CLOSE_BRACE, COLON, DOLLAR, HASH, MINUS, OPEN_BRACE, PLUS, UNDERSCORE, begins_name,
 };
 
-pub fn behind_dollar(rule: Rule, text: &[u8]) -> Front
+pub fn after_dollar(rule: Rule, text: &[u8]) -> Front
     requires { length text.now < 2 ^ 63 }
     ensures front { result ≡ form_of rule text.now }
     ensures within { Within result (length text.now + 1) }
 {
     match text {
         [] => plain_byte(),
-        [OPEN_BRACE, rest @ ..] if rule.may_open => behind_brace(rest),
-        [BACKSLASH, rest @ ..] => behind_dollar_backslash(rest),
+        [OPEN_BRACE, rest @ ..] if rule.may_open => after_brace(rest),
+        [BACKSLASH, rest @ ..] => after_dollar_backslash(rest),
         [byte, rest @ ..] if begins_name(*byte) => {
             let length = rest_of_name(rest);
             if *byte == UNDERSCORE && length == 0 {
@@ -64,7 +64,7 @@ fn parameter(byte: u8) -> Option<Parameter>
     }
 }
 
-fn behind_dollar_backslash(text: &[u8]) -> Front
+fn after_dollar_backslash(text: &[u8]) -> Front
     requires { length text.now < 2 ^ 63 }
     ensures front { result ≡ literal_of text.now }
     ensures within { Within result (length text.now + 2) }
@@ -83,7 +83,7 @@ fn behind_dollar_backslash(text: &[u8]) -> Front
     }
 }
 
-fn behind_brace(text: &[u8]) -> Front
+fn after_brace(text: &[u8]) -> Front
     requires { length text.now < 2 ^ 63 }
     ensures front { result ≡ braced text.now }
     ensures within { Within result (length text.now + 2) }

@@ -4,7 +4,7 @@ ghost use Rattle.pm_subst.specs.Front.{front_of, unquoted_front, itself, quotes_
 ghost use Rattle.pm_subst.specs.Front.{turn_of, Within};
 
 use crate::bytes::{plain_front, until_backquote, until_single};
-use crate::forms::behind_dollar;
+use crate::forms::after_dollar;
 use crate::kinds::{Front, Kind, Rule};
 use pm_bytes::{
     BACKQUOTE, BACKSLASH, CLOSE_BRACE, DOLLAR, DOUBLE_QUOTE, HASH, NEWLINE, SINGLE_QUOTE, is_space,
@@ -49,10 +49,10 @@ fn front_at(rule: Rule, text: &[u8]) -> Front
 {
     let byte = text[0];
     if byte == BACKSLASH {
-        return behind_backslash(rule, &text[1..]);
+        return after_backslash(rule, &text[1..]);
     }
     if byte == DOLLAR {
-        return behind_dollar(rule, &text[1..]);
+        return after_dollar(rule, &text[1..]);
     }
     if byte == DOUBLE_QUOTE {
         return double_quote(rule);
@@ -139,7 +139,7 @@ fn double_quote(rule: Rule) -> Front
     }
 }
 
-fn behind_backslash(rule: Rule, text: &[u8]) -> Front
+fn after_backslash(rule: Rule, text: &[u8]) -> Front
     ensures front { result ≡ escaped rule text.now }
     ensures within { Within result (length text.now + 1) }
 {

@@ -18,8 +18,8 @@ use Rattle.pm_top.specs.declared.totals.Totals.{Totals}
 use Rattle.pm_top.proofs.RunLemmas.{Counted, delivered_more}
 
 -- memory was wanting right after a run with status 0
-pub gives_up_behind : (count : ℕ) (env : Environ) (number : ℕ) (totals : Totals) (before middle : View) (run : Run) → number < count → Counted env number totals before middle → IsRun env number run → run.before ≡ middle → run.status ≡ 0 → GivesUp count env before run.after
-gives_up_behind count env number totals before middle run within c last begins status = record {
+pub gives_up_after : (count : ℕ) (env : Environ) (number : ℕ) (totals : Totals) (before middle : View) (run : Run) → number < count → Counted env number totals before middle → IsRun env number run → run.before ≡ middle → run.status ≡ 0 → GivesUp count env before run.after
+gives_up_after count env number totals before middle run within c last begins status = record {
   number = number + 1;
   within = omega arith;
   delivered = delivered_more env number before middle run c.delivered last begins status;

@@ -33,8 +33,8 @@ two_rcfiles = refl
 softly : line_by (codes "-t" ∷ codes "rc" ∷ []) ≡ Some (record (rcfiles_of (codes "rc" ∷ [])) { fails_softly = true })
 softly = refl
 
-softly_behind : line_by (codes "rc" ∷ codes "-t" ∷ []) ≡ Some (record (rcfiles_of (codes "rc" ∷ [])) { fails_softly = true })
-softly_behind = refl
+softly_after : line_by (codes "rc" ∷ codes "-t" ∷ []) ≡ Some (record (rcfiles_of (codes "rc" ∷ [])) { fails_softly = true })
+softly_after = refl
 
 -- `procmail -m rc`: a mail filter takes the mail as it is
 filter : line_by (codes "-m" ∷ codes "rc" ∷ []) ≡ Some (filter_of Keep [] [] (codes "rc"))
@@ -45,9 +45,9 @@ filter_arguments : line_by (codes "-m" ∷ codes "-a" ∷ codes "x" ∷ codes "r
 filter_arguments = refl
 
 -- `procmail -m rc -t -- X=1 ''`: after the rcfile of a mail filter each word is an argument
-options_behind : line_by (codes "-m" ∷ codes "rc" ∷ codes "-t" ∷ codes "--" ∷ codes "X=1" ∷ [] ∷ [])
+options_after : line_by (codes "-m" ∷ codes "rc" ∷ codes "-t" ∷ codes "--" ∷ codes "X=1" ∷ [] ∷ [])
     ≡ Some (filter_of Keep (codes "-t" ∷ codes "--" ∷ codes "X=1" ∷ [] ∷ []) [] (codes "rc"))
-options_behind = refl
+options_after = refl
 
 -- `procmail -m X=1 rc`
 filter_variable : line_by (codes "-m" ∷ codes "X=1" ∷ codes "rc" ∷ []) ≡ Some (filter_of Keep [] (pair (codes "X") (codes "1") ∷ []) (codes "rc"))
@@ -65,12 +65,12 @@ filter_variable_alone : line_by (codes "-m" ∷ codes "X=1" ∷ []) ≡ None
 filter_variable_alone = refl
 
 -- `procmail rc -m x`, `procmail a X=1 b -m c`: the first rcfile is the filter's, and those after it are arguments
-filter_behind : line_by (codes "rc" ∷ codes "-m" ∷ codes "x" ∷ []) ≡ Some (filter_of Keep (codes "x" ∷ []) [] (codes "rc"))
-filter_behind = refl
+filter_after : line_by (codes "rc" ∷ codes "-m" ∷ codes "x" ∷ []) ≡ Some (filter_of Keep (codes "x" ∷ []) [] (codes "rc"))
+filter_after = refl
 
-filter_behind_two : line_by (codes "a" ∷ codes "X=1" ∷ codes "b" ∷ codes "-m" ∷ codes "c" ∷ [])
+filter_after_two : line_by (codes "a" ∷ codes "X=1" ∷ codes "b" ∷ codes "-m" ∷ codes "c" ∷ [])
     ≡ Some (filter_of Keep (codes "b" ∷ codes "c" ∷ []) (pair (codes "X") (codes "1") ∷ []) (codes "a"))
-filter_behind_two = refl
+filter_after_two = refl
 
 -- `procmail -fwho`, `procmail -r who`, `procmail -tYofwho`
 sender : line_by (codes "-fwho" ∷ []) ≡ Some (record (rcfiles_of []) { renew = Sender (codes "who") })

@@ -32,9 +32,9 @@ pub record Examples : Type 0 where
   pub other_letter : reads (codes "-tx" ∷ []) ≡ None
   -- `-f`, or `-r`, has a sender, and `-f -` renews the date alone
   pub sender : reads (codes "-f" ∷ codes "a@b" ∷ []) ≡ Some (record no_words { renew = Sender (codes "a@b") })
-  pub sender_behind : reads (codes "-tra@b" ∷ []) ≡ Some (record no_words { fails_softly = true; renew = Sender (codes "a@b") })
+  pub sender_after : reads (codes "-tra@b" ∷ []) ≡ Some (record no_words { fails_softly = true; renew = Sender (codes "a@b") })
   pub date : reads (codes "-f" ∷ codes "-" ∷ []) ≡ Some (record no_words { renew = Date })
-  pub date_behind : reads (codes "-f-" ∷ []) ≡ Some (record no_words { renew = Date })
+  pub date_after : reads (codes "-f-" ∷ []) ≡ Some (record no_words { renew = Date })
   pub last_sender : reads (codes "-fa" ∷ codes "-fb" ∷ []) ≡ Some (record no_words { renew = Sender (codes "b") })
   pub no_sender : reads (codes "-f" ∷ []) ≡ None
   pub empty_sender : reads (codes "-f" ∷ [] ∷ []) ≡ None

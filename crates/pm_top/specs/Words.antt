@@ -111,21 +111,21 @@ has_some [] = false
 has_some (rcfile ∷ rcfiles) = true
 
 -- the rcfile of a mail filter was named: all words after it are its arguments
-abbrev pub is_behind : CommandLine → Bool
-is_behind line = line.filter && has_some line.rcfiles
+abbrev pub is_after : CommandLine → Bool
+is_after line = line.filter && has_some line.rcfiles
 
 -- A word that is no option. What stands after the rcfile of a mail filter is kept after it until the end, as it is.
 abbrev pub operand : Next → List ℕ → CommandLine → Option Said
 operand next word line =
     if has_zero word then None
-    else if is_behind line then said_if true next (with_rcfile word line)
+    else if is_after line then said_if true next (with_rcfile word line)
     else if list_any is_equals word then said_if (is_variable (before_first is_equals word)) next (with_variable word line)
     else said_if (not (bytes_eq word [])) next (with_rcfile word line)
 
 -- a word, by what it is
 abbrev pub read_word : Next → List ℕ → CommandLine → Option Said
 read_word Any word line =
-    if is_behind line then operand Any word line
+    if is_after line then operand Any word line
     else if bytes_eq word (codes "--") then Some (record { line = line; next = Operand })
     else if is_options word then letters (drop 1 word) line
     else operand Any word line

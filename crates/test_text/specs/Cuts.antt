@@ -32,6 +32,6 @@ begins_with_blank [] = true
 begins_with_blank (byte ∷ rest) = (byte == 32) || (byte == 9)
 
 -- what stands behind a word and blanks
-abbrev pub behind_word : List ℕ → List ℕ → Option (List ℕ)
-behind_word word text =
+abbrev pub after_word : List ℕ → List ℕ → Option (List ℕ)
+after_word word text =
     if starts_with nat_eq text word && begins_with_blank (drop (length word) text) then Some (trimmed (drop (length word) text)) else None

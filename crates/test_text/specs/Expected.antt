@@ -1,7 +1,7 @@
 -- What stands behind the arrow of a test: destinations, and an exit status.
 use Rattle.std.specs.Prelude.{ℕ, List, [], ◌∷◌, map, Option, Some, None, codes, nat_le, bytes_eq, if◌then◌else◌}
 use Rattle.pm_bytes.specs.Number.{count_of}
-use Rattle.test_text.specs.Cuts.{trimmed, behind_word, pieces_at}
+use Rattle.test_text.specs.Cuts.{trimmed, after_word, pieces_at}
 use Rattle.test_text.specs.declared.expected.Part.{Part}
 use Rattle.test_text.specs.declared.expected.Part.TheVariants.{Blank, Status, NoStatus, Destination}
 use Rattle.test_text.specs.declared.statement.Reason.{Reason}
@@ -18,7 +18,7 @@ destination_or text None = Destination text
 destination_or text (Some number) = status_part (count_of number)
 
 abbrev pub part_of : List ℕ → Part
-part_of text = if bytes_eq text [] then Blank else destination_or text (behind_word (codes "status") text)
+part_of text = if bytes_eq text [] then Blank else destination_or text (after_word (codes "status") text)
 
 -- the parts between commas
 abbrev pub parts_of : List ℕ → List Part

@@ -2,7 +2,7 @@
 use Rattle.std.specs.Prelude.{ℕ, Bool, ◌||◌, List, [], ◌∷◌, Option, Some, None, codes, nat_eq, bytes_eq, if◌then◌else◌}
 use Rattle.std.specs.List.{starts_with}
 use Rattle.test_text.specs.Answers.{answers_of}
-use Rattle.test_text.specs.Cuts.{trimmed, behind_word, cut_at, pieces_at}
+use Rattle.test_text.specs.Cuts.{trimmed, after_word, cut_at, pieces_at}
 use Rattle.test_text.specs.Expected.{parts_of, wanted_in, status_in, fault_in}
 use Rattle.test_text.specs.declared.answer.Answer.{Answer}
 use Rattle.test_text.specs.declared.expected.Part.{Part}
@@ -56,7 +56,7 @@ is_comment text = bytes_eq text [] || starts_with nat_eq text (codes "#")
 
 abbrev pub statement_in : ℕ → List ℕ → Statement
 statement_in number text =
-    if is_comment text then Nothing else statement_by number (behind_word (codes "rcfile") text) (behind_word (codes "mail") text)
+    if is_comment text then Nothing else statement_by number (after_word (codes "rcfile") text) (after_word (codes "mail") text)
 
 -- what a line says that has this number
 abbrev pub statement_of : ℕ → List ℕ → Statement

@@ -1,6 +1,6 @@
 //! The parts of a line.
 ghost use Rattle.std.specs.Prelude.{◌≡◌, option_map};
-ghost use Rattle.test_text.specs.Cuts.{behind_word, begins_with_blank, cut_at, cut_at_last, trimmed};
+ghost use Rattle.test_text.specs.Cuts.{after_word, begins_with_blank, cut_at, cut_at_last, trimmed};
 
 use bstr::ByteSlice;
 
@@ -19,8 +19,8 @@ pub(crate) fn cut_at_last<'a>(text: &'a [u8], needle: &[u8]) -> Option<(&'a [u8]
 }
 
 /// What stands behind the word and blanks, if the text begins with it.
-pub(crate) fn behind_word<'a>(text: &'a [u8], word: &[u8]) -> Option<&'a [u8]>
-    ensures { option_map (λ rest. rest.now) result ≡ behind_word word.now text.now }
+pub(crate) fn after_word<'a>(text: &'a [u8], word: &[u8]) -> Option<&'a [u8]>
+    ensures { option_map (λ rest. rest.now) result ≡ after_word word.now text.now }
 {
     if text.starts_with(word) && begins_with_blank(&text[word.len()..]) {
         return Some((&text[word.len()..]).trim());

@@ -5,7 +5,7 @@ ghost use Rattle.test_text.specs.Expected.{part_of, status_part, parts_of, wante
 ghost use Rattle.pm_bytes.specs.Number.{count_of};
 
 use crate::Reason;
-use crate::cut::behind_word;
+use crate::cut::after_word;
 use bstr::ByteSlice;
 use pm_bytes::{Blob, Memory, read_count};
 use std::alloc::Global;
@@ -36,7 +36,7 @@ fn part_of(alloc: Global, text: &[u8]) -> Result<Part, Memory>
     if text.is_empty() {
         return Ok(Part::Blank);
     }
-    match behind_word(text, b"status") {
+    match after_word(text, b"status") {
         Some(number) => Ok(status_part(number)),
         None => Ok(Part::Destination(Blob::from_slice(alloc, text)?)),
     }

@@ -7,7 +7,7 @@ ghost use Rattle.test_text.specs.Statements.{statement_of, statement_in, rcfile_
 ghost use Rattle.test_text.specs.Statements.{is_comment};
 
 use crate::answer::read_answers;
-use crate::cut::{behind_word, cut_at};
+use crate::cut::{after_word, cut_at};
 use crate::expected::{fault_in, parts_of, status_in, wanted_in};
 use crate::{Answer, Test};
 use bstr::ByteSlice;
@@ -66,10 +66,10 @@ fn statement_in(alloc: Global, number: u64, text: &[u8]) -> Result<Statement, Me
     if is_comment(text) {
         return Ok(Statement::Nothing);
     }
-    if let Some(name) = behind_word(text, b"rcfile") {
+    if let Some(name) = after_word(text, b"rcfile") {
         return rcfile_named(alloc, number, name);
     }
-    match behind_word(text, b"mail") {
+    match after_word(text, b"mail") {
         Some(rest) => mail_test(alloc, number, rest),
         None => Ok(Statement::Wrong(Reason::Unknown)),
     }

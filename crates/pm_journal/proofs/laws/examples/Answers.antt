@@ -40,7 +40,7 @@ returns-clause-texts c = record {
   names = λ make all numbered. numbered.count;
   mh_name = refl;
   first_in_empty = refl;
-  behind_greatest = refl;
+  after_greatest = refl;
   nine_digits = refl;
   other_names = refl;
 }

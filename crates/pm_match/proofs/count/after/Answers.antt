@@ -1,7 +1,7 @@
 use Rattle.std.proofs.Common.{◌≡◌, ◌∷◌, false, refl, subst, arith}
 use Rattle.pm_regex.specs.Re.{nothing}
 use Rattle.pm_match.specs.Finding.{IsFirst}
-use Rattle.pm_regex.specs.Found.{IsRun, place_behind}
+use Rattle.pm_regex.specs.Found.{IsRun, place_after}
 use Rattle.pm_match.specs.Shown.{shown_match}
 use Rattle.pm_match.proofs.CountLemmas.{goes, ordered, run_none, run_late, run_more}
 use Rattle.pm_match.proofs.MarkLemmas.{to_end}
@@ -41,7 +41,7 @@ returns-else-found-area-clause-within c =
 pub returns-else-found-area-clause-counted : goal.returns-else-found-area-clause-counted
 returns-else-found-area-clause-counted c = λ e fold h by rest run.
     let m = c.in-Some.found in
-    let place : c.next_place.result ≡ place_behind m.start m.end = c.next_place.ensures in
+    let place : c.next_place.result ≡ place_after m.start m.end = c.next_place.ensures in
     let some = subst (λ x. IsFirst fold e nothing c.args.area.now c.args.from.place x) c.in-Some.is (h) in
     let r = by (shown_match false m ∷ rest)
     (run_more fold e c.args.area.now c.args.from.place m rest c.if-found-area.false some (subst (λ k. IsRun fold e c.args.area.now k rest) place run)) in

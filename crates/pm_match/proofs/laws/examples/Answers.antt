@@ -93,7 +93,7 @@ returns-clause-lists c = record {
 
 pub returns-clause-anywhere : goal.returns-clause-anywhere
 returns-clause-anywhere c = record {
-  behind_a_letter = record {
+  after_a_letter = record {
     count = 5;
     reach = (
       1,
@@ -122,7 +122,7 @@ returns-clause-anywhere c = record {
       record { step = _; is = refl; edge = (refl, inr (97, refl, refl, refl)) },
     );
   };
-  behind_a_newline = record {
+  after_a_newline = record {
     count = 5;
     reach = (
       1,

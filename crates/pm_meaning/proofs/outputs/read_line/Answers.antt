@@ -6,7 +6,7 @@ use Rattle.pm_meaning.specs.Minds.{mind_of}
 use Rattle.pm_meaning.specs.Outputs.{outputs_with, outputs_of, read_with, read_line}
 use Rattle.pm_meaning.specs.Programs.{expanded_line}
 use Rattle.pm_meaning.proofs.Choices.{carried}
-use Rattle.pm_meaning.proofs.OutputLemmas.{shell_read, commands_first, behind_commands}
+use Rattle.pm_meaning.proofs.OutputLemmas.{shell_read, commands_first, after_commands}
 use Rattle.pm_meaning.proofs.Sequences.{then_carries, known_as, out_same}
 use Rattle.pm_meaning.proofs.outputs.read_line.Goals as goal
 
@@ -25,7 +25,7 @@ returns-in_err-outputs g c = record {
       let p = mind_of c.args.run.now.process in
       let line = c.args.line.now in
       let same = commands_first line p (sym c.needs_shell.ensures ∙ c.if-needs_shell.false) in
-      (search rules, on_err _ _ (out_same _ (read_line line p) _ _ _ _ same (out_front (outputs_of (commands_in Many line) p) (behind_commands line) _ _ _ _ c.in_err-outputs.ensures.carries.1))));
+      (search rules, on_err _ _ (out_same _ (read_line line p) _ _ _ _ same (out_front (outputs_of (commands_in Many line) p) (after_commands line) _ _ _ _ c.in_err-outputs.ensures.carries.1))));
 }
 
 pub returns : goal.returns
@@ -36,6 +36,6 @@ returns g c = record {
       let line = c.args.line.now in
       let same = commands_first line p (sym c.needs_shell.ensures ∙ c.if-needs_shell.false) in
       carried _ (read_line line p) _ _ _ _ _ _ same
-      (then_carries (outputs_of (commands_in Many line) p) (behind_commands line) (outputs_with c.in_ok-outputs.outputs.items q) _ _ _ _ _ _ _ _ c.in_ok-outputs.ensures.carries.0
+      (then_carries (outputs_of (commands_in Many line) p) (after_commands line) (outputs_with c.in_ok-outputs.outputs.items q) _ _ _ _ _ _ _ _ c.in_ok-outputs.ensures.carries.0
       (known_as (expanded_line c.in_ok-outputs.outputs.items line q) (λ r. read_with r q) _ _ _ (rw c.as_slice.ensures.value at c.expanded_line.ensures))));
 }

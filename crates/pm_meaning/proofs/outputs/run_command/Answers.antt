@@ -2,7 +2,7 @@ use Rattle.std.proofs.Common.{refl, rules}
 use Rattle.pm_journal.specs.Outcomes.{last_output}
 use Rattle.pm_journal.proofs.WantsMemory.{on_err, out_anywhere}
 use Rattle.pm_meaning.specs.Minds.{mind_of}
-use Rattle.pm_meaning.proofs.OutputLemmas.{command_unrun, command_then, command_then_out, told_behind, untold_behind}
+use Rattle.pm_meaning.proofs.OutputLemmas.{command_unrun, command_then, command_then_out, told_after, untold_after}
 use Rattle.pm_meaning.proofs.outputs.run_command.Goals as goal
 
 pub returns-in_err-input : goal.returns-in_err-input
@@ -33,7 +33,7 @@ returns-in_err-tell_run g c = record {
       let noted = rw c.run_program.ensures.same at c.note_code.ensures.mind in (
         search rules,
         on_err _ _ (command_then_out c.args.command c.in_ok-input.input c.args.text.now p ran.reply _ _ _ _ _ _ c.in_ok-input.ensures ran.executes
-            (untold_behind c.args.command c.in_ok-input.input c.args.text.now c.in_ok-end.end came p q ran.reply (ran.end_is, ran.output, noted) _ _ _ _ c.in_err-tell_run.ensures.carries.1)),
+            (untold_after c.args.command c.in_ok-input.input c.args.text.now c.in_ok-end.end came p q ran.reply (ran.end_is, ran.output, noted) _ _ _ _ c.in_err-tell_run.ensures.carries.1)),
       ));
 }
 
@@ -47,7 +47,7 @@ returns g c = record {
       let noted = rw c.run_program.ensures.same at c.note_code.ensures.mind in
       rw c.tell_run.ensures.same (
         command_then c.args.command c.in_ok-input.input c.args.text.now p ran.reply c.in_ok-output.output q _ _ _ _ _ _ c.in_ok-input.ensures ran.executes
-            (told_behind c.args.command c.in_ok-input.input c.args.text.now c.in_ok-end.end came p q ran.reply (ran.end_is, ran.output, noted) c.in_ok-output.output _ _ _ _ c.in_ok-output.ensures c.in_ok-tell_run.ensures.carries.0),
+            (told_after c.args.command c.in_ok-input.input c.args.text.now c.in_ok-end.end came p q ran.reply (ran.end_is, ran.output, noted) c.in_ok-output.output _ _ _ _ c.in_ok-output.ensures c.in_ok-tell_run.ensures.carries.0),
         tt,
       ));
 }

@@ -48,7 +48,7 @@ loop-rest-preserved c =
           (suits-after _ _ (span_of front c.loop-rest.line) front.kind c.loop-rest.situation c.in_ok-take_span.ensures c.loop-rest.invariant.suits);
       goes_on = (
         blocks,
-        rw c.situation_behind-situation.ensures.after (c.unended_behind-unended.ensures old.0 old.1),
+        rw c.situation_behind-situation.ensures.after (c.unended_after-unended.ensures old.0 old.1),
         c.in_ok-take_span.ensures.built (ahead_of (items_at (c.loop-rest.line + c.newlines_in-line.result) situation blocks front.behind))
             ∙ ap (λ is. whole (built_of c.loop-rest.builder) is) (sym (turned c.loop-rest.line c.loop-rest.situation old.0 rest front _ _
             some c.front_at-front.ensures.front

@@ -113,7 +113,7 @@ returns-clause-macros c = record {
   two_carets = refl;
   in_brackets = refl;
   bracket_first = refl;
-  bracket_behind_caret = refl;
+  bracket_after_caret = refl;
   open_bracket = refl;
   one_byte = refl;
   last_backslash = refl;
@@ -138,7 +138,7 @@ returns-clause-expressions c = record {
   area = is_read _ _ _ (an_edge (a_sign refl (an_edge none))) refl;
   start_in_group = is_read _ _ _ (a_sign refl (a_sign refl (an_edge (a_sign refl none)))) refl;
   cut = is_read _ _ _ (a_sign refl (a_sign refl (a_sign refl (an_escape (a_sign refl (a_sign refl none)))))) refl;
-  end_behind_cut = is_read _ _ _ (an_escape (an_edge (a_sign refl (an_edge none)))) refl;
+  end_after_cut = is_read _ _ _ (an_escape (an_edge (a_sign refl (an_edge none)))) refl;
   ranges = is_read _ _ _ (some_bytes refl (body _ _ _ _ _ _ (range _ _ _ (λ e. absurd (omega (arith, e))) (omega arith)) (more _ _ _ _ _ _ refl (byte _ _ refl) (closed _))) none) refl;
   range_of_one = is_read _ _ _
       (some_bytes refl (body _ _ _ _ _ _ (range _ _ _ (λ e. absurd (omega (arith, e))) (omega arith)) (closed _)) none) refl;

@@ -4,7 +4,7 @@ use Rattle.pm_top.specs.Counting.{plus, totals_of}
 use Rattle.pm_top.specs.Sources.{telling, left_of}
 use Rattle.pm_top.proofs.MessageLemmas.{is_run}
 use Rattle.pm_top.proofs.RunLemmas.{counted_none, counted_more}
-use Rattle.pm_top.proofs.TrialLemmas.{gives_up_behind, fails, succeeds, on_err}
+use Rattle.pm_top.proofs.TrialLemmas.{gives_up_after, fails, succeeds, on_err}
 use Rattle.pm_top.proofs.delivering.deliver_all.Goals as goal
 
 pub loop-number-init : goal.loop-number-init
@@ -20,7 +20,7 @@ pub returns-in_err-add-clause-memory : goal.returns-in_err-add-clause-memory
 returns-in_err-add-clause-memory g c =
     let last = is_run _ c.loop-number.number (left_of c.deliver_mail-status.new.source) (omega arith) (ap all_bytes c.as_slice.ensures.value ∙ c.in_ok-words.ensures)
     (c.new-source.ensures ∙ ap telling c.in_ok-make_message.ensures) refl c.deliver_mail-status.ensures.promise in
-    on_err _ _ (gives_up_behind _ _ c.loop-number.number c.loop-number.totals _ _ _ c.loop-number-test.true c.loop-number.invariant.runs last refl c.if-status-ne0.false)
+    on_err _ _ (gives_up_after _ _ c.loop-number.number c.loop-number.totals _ _ _ c.loop-number-test.true c.loop-number.invariant.runs last refl c.if-status-ne0.false)
 
 pub loop-number-preserved : goal.loop-number-preserved
 loop-number-preserved g c =
