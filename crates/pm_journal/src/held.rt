@@ -1,5 +1,6 @@
 //! The locks that a process holds.
 ghost use Rattle.std.specs.Prelude.{◌≡◌, ◌+◌, ◌<◌, ◌≤◌, [], ◌∷◌, length, OnOk, OnErr, IfSome, IsNone, is_some};
+ghost use Rattle.std.specs.Prelude.{bytes_eq};
 ghost use Rattle.pm_journal.specs.Held.{holds_name, without};
 
 use pm_bytes::{Memory, Name};
@@ -45,7 +46,7 @@ impl HeldLocks {
     {
         let mut index = 0;
         while index < self.names.len() {
-            if self.names[index].as_str() == name.as_str() {
+            if is_same(self.names[index].as_str(), name.as_str()) {
                 return true;
             }
             index += 1;
@@ -97,4 +98,11 @@ impl HeldLocks {
     {
         self.names.pop()
     }
+}
+
+// The names of locks mostly begin alike, so their last bytes are compared first.
+fn is_same(held: &str, name: &str) -> bool
+    ensures { result ≡ bytes_eq held.now name.now }
+{
+    held.as_bytes().last() == name.as_bytes().last() && held == name
 }
