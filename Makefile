@@ -27,7 +27,7 @@ build-explain:
 build-test:
 	@bash .ci/build procmail-test
 
-# The program that runs the cases of tests/cases.
+# The program that runs the cases of tests/cases, and does what three scripts of bench/ measure.
 build-cases:
 	@bash .ci/build run_cases
 
@@ -71,7 +71,7 @@ test:
 cases:
 	@bash tests/cases.sh $(NAME)
 
-# A file of cases on code that isn't proved, in about two minutes: make try NAME=locks
+# A file of cases on code that isn't proved, in two to four minutes: make try NAME=locks
 try:
 	@bash tests/try $(NAME)
 

@@ -6,18 +6,13 @@
 # ordinary rcfile of 5,000 lines of comments costs: 12 at most.
 set -u
 cd "$(dirname "$0")/.." || exit 1
-program=bin/calls
+program=bin/run_cases
 small=65536
 large=1048576
 failed=0
 
-# The build proves nearly all libraries first if that is still to be done. It ends by a run that reads an empty rcfile.
-mkdir -p bin
-if ! (cd crates/calls && rt run -- rcfile read x 0) > bin/calls.log 2>&1 < /dev/null; then
-    tail -n 40 bin/calls.log
-    exit 1
-fi
-cp crates/calls/out/calls "$program"
+# The build proves nearly all libraries first if that is still to be done.
+bash .ci/build run_cases > /dev/null || exit 1
 
 if command -v valgrind > /dev/null; then
     counts=yes
@@ -28,7 +23,7 @@ fi
 
 # The instructions of one run.
 instructions() {
-    valgrind --tool=callgrind --callgrind-out-file=/dev/null "$program" rcfile "$@" 2>&1 > /dev/null |
+    valgrind --tool=callgrind --callgrind-out-file=/dev/null "$program" calls rcfile "$@" 2>&1 > /dev/null |
         awk '/Collected/ { print $NF }'
 }
 
@@ -42,7 +37,7 @@ nanoseconds() {
     local best=0 start took
     for _ in 1 2 3; do
         start=$(date +%s%N)
-        "$program" rcfile read "$@" > /dev/null || echo "failed: $*" >&2
+        "$program" calls rcfile read "$@" > /dev/null || echo "failed: $*" >&2
         took=$(($(date +%s%N) - start))
         if [ "$best" -eq 0 ] || [ "$took" -lt "$best" ]; then
             best=$took

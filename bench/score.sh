@@ -5,17 +5,17 @@
 #
 #     bench/score.sh          with bin/procmail
 #     bench/score.sh PROGRAM  with another build of procmail
-#     bench/score.sh calls    with bin/calls, which counts and delivers nothing (bench/egrep.sh builds it)
+#     bench/score.sh calls    with bin/run_cases, whose calls count and deliver nothing (make build-cases builds it)
 set -eu
 cd "$(dirname "$0")/.."
 turns=5
 ours=${1:-bin/procmail}
 case $ours in
-    calls) ours=bin/calls counts=yes ;;
+    calls) ours=bin/run_cases counts=yes ;;
     *) counts=no ;;
 esac
 if [ ! -x "$ours" ]; then
-    echo "score.sh: $ours isn't there: skipped (make builds bin/procmail, bench/egrep.sh bin/calls)"
+    echo "score.sh: $ours isn't there: skipped (make builds bin/procmail, make build-cases bin/run_cases)"
     exit 0
 fi
 ours=$(realpath "$ours")
@@ -26,7 +26,7 @@ trap 'rm -rf "$folder"' EXIT
 cd "$folder"
 unset MAILDIR DEFAULT ORGMAIL
 
-# The same texts as in crates/calls/src/area.rt.
+# The same texts as in crates/run_cases/src/calls/area.rt.
 links='<p>See <a href="https://shop.example/item?id=4711">this offer</a> or '
 links+='<a class="more" href="https://shop.example/list">all of them</a>, <b>today</b> only.</p> '
 prose='thank you for the notes about our meeting on Tuesday. I have read them twice and I '
@@ -75,7 +75,7 @@ made() {
 # set_run WHOSE EXPRESSION KIND SIZE: sets `run`
 set_run() {
     if [ "$1" = ours ] && [ "$counts" = yes ]; then
-        run=("$ours" search count "$2" "${3/lines/text}" "$4")
+        run=("$ours" calls search count "$2" "${3/lines/text}" "$4")
     else
         printf 'DEFAULT=/dev/null\n:0 B\n* 1^1 %s\n/dev/null\n' "$2" > rc
         run=("${!1}" -m ./rc)

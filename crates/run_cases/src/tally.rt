@@ -1,4 +1,4 @@
-//! How many tries came as wanted.
+//! How many tries, or answers of the real host, came as wanted.
 
 /// How many failed tries of one case are printed in full.
 pub const IN_FULL: u64 = 3;

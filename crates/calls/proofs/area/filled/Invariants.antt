@@ -1,5 +1,0 @@
-use Rattle.std.proofs.Common.{◌≡◌, ◌+◌, length, vec_len}
-use Rattle.calls.proofs.area.filled.Given as goal
-
-abbrev pub invariant-loop-index : goal.invariant-loop-index
-invariant-loop-index l = vec_len l.area ≡ length l.first + l.index
