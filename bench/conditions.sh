@@ -3,8 +3,8 @@
 # this, and the merge gate doesn't run it. Counting takes some minutes.
 set -eu
 cd "$(dirname "$0")/.."
-program=$PWD/bin/procmail
-[ -x "$program" ] || make -s build > /dev/null
+[ -n "${BIN:-}" ] || [ -x bin/procmail ] || make -s build > /dev/null
+program=$(cd "${BIN:-bin}" && pwd)/procmail
 other=$(command -v procmail || true)
 command -v valgrind > /dev/null || { echo "valgrind isn't there"; exit 0; }
 folder=$(mktemp -d)

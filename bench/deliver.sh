@@ -3,8 +3,8 @@
 # those after the program's start, by strace; and the most memory, by time(1). It isn't part of the check.
 set -eu
 cd "$(dirname "$0")/.."
-[ -x bin/procmail ] || make -s build > /dev/null
-ours=$PWD/bin/procmail
+[ -n "${BIN:-}" ] || [ -x bin/procmail ] || make -s build > /dev/null
+ours=$(cd "${BIN:-bin}" && pwd)/procmail
 theirs=$(command -v procmail || true)
 folder=$(mktemp -d)
 trap 'rm -rf "$folder"' EXIT

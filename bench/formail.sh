@@ -5,8 +5,8 @@
 # instructions that a tenth of it takes, and those of -x Subject: on a mail of 4 KiB: at most those of 3.22 is the aim.
 set -eu
 cd "$(dirname "$0")/.."
-[ -x bin/formail ] || make -s build-formail > /dev/null
-ours=$PWD/bin/formail
+[ -n "${BIN:-}" ] || [ -x bin/formail ] || make -s build-formail > /dev/null
+ours=$(cd "${BIN:-bin}" && pwd)/formail
 other=$(command -v formail) || { echo "formail 3.22 isn't installed"; exit 1; }
 folder=$(mktemp -d)
 trap 'rm -rf "$folder"' EXIT

@@ -16,7 +16,7 @@ import tempfile
 TURNS = 7
 MIB = 1024 * 1024
 TOP = os.path.dirname(os.path.dirname(os.path.abspath(__file__)))
-OURS = os.path.join(TOP, "bin", "procmail")
+OURS = os.path.join(os.path.abspath(os.environ.get("BIN") or os.path.join(TOP, "bin")), "procmail")
 THEIRS = shutil.which("procmail")
 
 
@@ -91,7 +91,7 @@ def with_room(mail, times):
 
 def main():
     if not os.access(OURS, os.X_OK):
-        sys.exit("bin/procmail isn't built: make build")
+        sys.exit(f"{OURS} isn't there: make build")
     folder = tempfile.mkdtemp()
     try:
         os.chdir(folder)

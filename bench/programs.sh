@@ -3,8 +3,8 @@
 # the programs that it starts, and the time by the clock. It isn't part of the check.
 set -eu
 cd "$(dirname "$0")/.."
-[ -x bin/procmail ] || make -s build > /dev/null
-ours=$PWD/bin/procmail
+[ -n "${BIN:-}" ] || [ -x bin/procmail ] || make -s build > /dev/null
+ours=$(cd "${BIN:-bin}" && pwd)/procmail
 theirs=$(command -v procmail || true)
 folder=$(mktemp -d)
 trap 'rm -rf "$folder"' EXIT

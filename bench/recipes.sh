@@ -3,8 +3,8 @@
 # with their number. No proof says this, and the merge gate doesn't run it. It takes about a minute.
 set -eu
 cd "$(dirname "$0")/.."
-program=$PWD/bin/procmail
-[ -x "$program" ] || make -s build > /dev/null
+[ -n "${BIN:-}" ] || [ -x bin/procmail ] || make -s build > /dev/null
+program=$(cd "${BIN:-bin}" && pwd)/procmail
 command -v valgrind > /dev/null || { echo "valgrind isn't there"; exit 0; }
 folder=$(mktemp -d)
 trap 'rm -rf "$folder"' EXIT

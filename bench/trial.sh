@@ -3,8 +3,8 @@
 # seconds of a processor, for the user and for the system, and the most memory. It isn't part of the check.
 set -eu
 cd "$(dirname "$0")/.."
-[ -x bin/procmail ] || make -s build > /dev/null
-program=$PWD/bin/procmail
+[ -n "${BIN:-}" ] || [ -x bin/procmail ] || make -s build > /dev/null
+program=$(cd "${BIN:-bin}" && pwd)/procmail
 rc=$PWD/crates/procmail_cli/data/rc
 [ -x /usr/bin/time ] || { echo "time(1) isn't there"; exit 0; }
 folder=$(mktemp -d)
