@@ -7,13 +7,12 @@
 # what a byte costs with lists of words and with deep expressions, and what making the automata costs.
 set -u
 cd "$(dirname "$0")/.." || exit 1
-program=bin/run_cases
 small=65536
 large=1048576
 failed=0
 
-# The build proves nearly all libraries first if that is still to be done.
-bash .ci/build run_cases > /dev/null || exit 1
+[ -n "${BIN:-}" ] || [ -x bin/run_cases ] || make -s build-cases > /dev/null || exit 1
+program=$(cd "${BIN:-bin}" && pwd)/run_cases
 
 if command -v valgrind > /dev/null; then
     counts=yes
