@@ -29,16 +29,26 @@ fn status(rt: &HostRuntime, setup: &Setup<File>) -> u8 {
 }
 
 fn run(rt: &HostRuntime, setup: &Setup<File>, words: &[String]) -> Result<u8, Memory> {
-    let alloc = rt.alloc();
     let env = surroundings(rt, words)?;
+    run_in(rt, setup, words, &env)
+}
+
+// What can fail is made before the host, so that there is one place where the host is given up.
+fn run_in(
+    rt: &HostRuntime,
+    setup: &Setup<File>,
+    words: &[String],
+    env: &Environ,
+) -> Result<u8, Memory> {
+    let alloc = rt.alloc();
     let mut source = RealSource::stdin(rt, alloc)?;
-    let mut host = RealHost::new(rt, alloc, env.pid, setup)?;
     let mut out = RealSink::stdout(rt, alloc, setup)?;
     let mut err = RealSink::stderr(rt, alloc, setup)?;
+    let mut host = RealHost::new(rt, alloc, env.pid, setup)?;
     Ok(formail(
         alloc,
         words,
-        &env,
+        env,
         &mut source,
         &mut host,
         &mut out,

@@ -30,11 +30,21 @@ fn status(rt: &HostRuntime, setup: &Setup<File>) -> u8 {
 }
 
 fn run(rt: &HostRuntime, setup: &Setup<File>, words: &[String]) -> Result<u8, Memory> {
-    let alloc = rt.alloc();
     let env = surroundings(rt)?;
-    let mut host = RealHost::new(rt, alloc, env.pid, setup)?;
+    run_in(rt, setup, words, &env)
+}
+
+// What can fail is made before the host, so that there is one place where the host is given up.
+fn run_in(
+    rt: &HostRuntime,
+    setup: &Setup<File>,
+    words: &[String],
+    env: &Environ,
+) -> Result<u8, Memory> {
+    let alloc = rt.alloc();
     let mut err = RealSink::stderr(rt, alloc, setup)?;
-    Ok(lockfile(alloc, words, &env, &mut host, &mut err))
+    let mut host = RealHost::new(rt, alloc, env.pid, setup)?;
+    Ok(lockfile(alloc, words, env, &mut host, &mut err))
 }
 
 // The machine's name isn't asked for.

@@ -39,16 +39,27 @@ fn deliver(
     words: &[String],
     err: &mut RealSink<Stderr>,
 ) -> Result<u8, Memory> {
-    let alloc = rt.alloc();
     let env = surroundings(rt)?;
+    deliver_in(rt, setup, words, &env, err)
+}
+
+// What can fail is made before the host, so that there is one place where the host is given up.
+fn deliver_in(
+    rt: &HostRuntime,
+    setup: &Setup<File>,
+    words: &[String],
+    env: &Environ,
+    err: &mut RealSink<Stderr>,
+) -> Result<u8, Memory> {
+    let alloc = rt.alloc();
     let mut source = RealSource::stdin(rt, alloc)?;
-    let mut host = RealHost::new(rt, alloc, env.pid, setup)?;
     let mut out = RealSink::stdout(rt, alloc, setup)?;
+    let mut host = RealHost::new(rt, alloc, env.pid, setup)?;
     let mut journal = Journal::<LastReply>::empty(alloc);
     Ok(procmail_observed(
         alloc,
         words,
-        &env,
+        env,
         &mut source,
         &mut host,
         &mut out,
