@@ -10,7 +10,7 @@ use pm_bytes::{Blob, Memory};
 use pm_conds::{NoObserver, Observer};
 use pm_host::Host;
 use pm_journal::{Entry, Journal};
-use pm_overlay::{Given, Overlay, Void};
+use pm_overlay::{Base, Given, Overlay, Void};
 use pm_top::{MessageSource, procmail_observed};
 use std::alloc::Global;
 
@@ -150,9 +150,21 @@ impl Runs {
         script: Option<Script<'_>>,
         observer: &mut N,
     ) -> Result<(Journal, u8), Memory> {
+        let base = self.machine.base(asked.rt)?;
+        self.observe_from(asked, base, script, observer)
+    }
+
+    // Over files of any kind, since a proof that sees all parts of the real host takes three times as long.
+    fn observe_from<B: Base + Drop, N: Observer>(
+        &self,
+        asked: Asked<'_>,
+        base: B,
+        script: Option<Script<'_>>,
+        observer: &mut N,
+    ) -> Result<(Journal, u8), Memory> {
         let given = copies(asked.rt.alloc(), self.given.as_slice())?;
         let lines = lines_of(asked.rt.alloc(), self.given.as_slice())?;
-        let overlay = Overlay::new(asked.rt.alloc(), self.machine.base(asked.rt)?, given);
+        let overlay = Overlay::new(asked.rt.alloc(), base, given);
         let host = OwnCode::new(asked.rt.alloc(), overlay, lines)?;
         self.observe_by(asked, host, script, observer)
     }
@@ -184,13 +196,25 @@ impl Runs {
     ) -> Result<(Journal, u8), Memory>
         requires { (H.told below).child ≡ Child.NoChild }
     {
-        let mut host = Stepping::new(
-            asked.rt.alloc(),
-            below,
-            self.machine.host(asked.rt)?,
-            script,
-        );
-        self.observe_over(asked, &mut host, observer)
+        let real = self.machine.host(asked.rt)?;
+        self.observe_stepping(asked, below, real, script, observer)
+    }
+
+    fn observe_stepping<H: Host + Drop, R: Host + Drop, N: Observer>(
+        &self,
+        asked: Asked<'_>,
+        below: H,
+        real: R,
+        script: Script<'_>,
+        observer: &mut N,
+    ) -> Result<(Journal, u8), Memory>
+        requires below { (H.told below).child ≡ Child.NoChild }
+        requires real { (R.told real).child ≡ Child.NoChild }
+    {
+        let mut host = Stepping::new(asked.rt.alloc(), below, real, script);
+        let seen = self.observe_over(asked, &mut host, observer);
+        drop(host);
+        seen
     }
 
     fn observe_over<H: Host, N: Observer>(
