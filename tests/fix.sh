@@ -32,11 +32,14 @@ if ! { [ -n "$old_procmail" ] && "$old_procmail" -v 2>&1 < /dev/null | grep -q '
 
 # delivers PROGRAM PATH RCFILE DIRECTORY: one mail in a new home directory; its files are then listed in the file tree.
 delivers() {
-    local home=$folder/$4 file
+    local home=$folder/$4 file status
     rm -rf "$home" && mkdir "$home" && cp "$3" "$home/.procmailrc"
+    # 3.22 doesn't wait for a copy that it forwards; the pipe is at its end when all programs that have it have ended.
     (cd "$home" && exec env -i HOME="$home" PATH="$2" LOGNAME=joe timeout 60 "$1" HOME="$home" PATH="$2" LOGNAME=joe \
         SHELL=/bin/sh SENDMAIL=/bin/false DEFAULT="$home/inbox" ORGMAIL="$home/orgmail" LOGFILE=log LOCKSLEEP=1 \
-        "$home/.procmailrc" < "$folder/mail" > /dev/null 2>&1) || echo "status $?" >> "$home/status"
+        "$home/.procmailrc" < "$folder/mail" 2>&1) | cat > /dev/null
+    status=${PIPESTATUS[0]}
+    [ "$status" -eq 0 ] || echo "status $status" >> "$home/status"
     (cd "$home" && find . -type f ! -name .procmailrc ! -name log ! -name '*.cache' | sort | while IFS= read -r file; do
         echo "== $file"
         sed -e '/^From /d' "$file" | sed -e '${/^$/d}'
